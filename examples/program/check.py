@@ -123,6 +123,11 @@ def given(line):
     return text + b"\n" if line[0] == "|" else text
 
 
+def unfolded(text):
+    """The rows of a text, with a line of its own for each that ` / ` joins."""
+    return "\n".join(line.replace(" / ", "\n" + line[:2]) for line in text.split("\n"))
+
+
 def agrees(text, wanted):
     """Whether a text is the one that is wanted, where a line `..` stands for any lines."""
     return re.fullmatch(b"(?s:.*)".join(re.escape(it) for it in wanted.split(b"..\n")), text)
@@ -131,7 +136,7 @@ def agrees(text, wanted):
 def printed(room):
     """What is printed for the words and the input of each row."""
     with open(f"{ROOT}/crates/{room.program}/src/rows.rt", encoding="utf-8") as it:
-        text = re.search(r'(?s)r#"\n(.*)"#;', it.read())[1]
+        text = unfolded(re.search(r'(?s)r#"\n(.*)"#;', it.read())[1])
     if room.program == "capdiag":
         with open(f"{ROOT}/examples/program/wrong.rows", encoding="utf-8") as it:
             text += "\n\n" + it.read()

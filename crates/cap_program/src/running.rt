@@ -76,23 +76,11 @@ pub fn carry_out<C: Command, S: Source, K: Output, F: Sink>(
     ensures told { TellsFaultLine C.meaning.program F.took F.faults result faults.old faults.new }
     ensures handed_on { OnOk result (K.has_handed_on out.new ≡ true) }
 {
-    let done = follow(alloc, order, input, out);
+    let done = match order {
+        Some(order) => order.follow(alloc, input, out),
+        None => Err(Fault::BadWords),
+    };
     let done = hand_on(done, out);
     tell(C::program(), done, faults);
     done
-}
-
-// Pushes the text of an order, and answers the status that goes with it.
-fn follow<C: Command, S: Source, K: Sink>(
-    alloc: Global,
-    order: Option<C>,
-    input: &mut Option<S>,
-    out: &mut K,
-) -> Result<u8, Fault>
-    ensures followed { IsFollowed C.meaning order S.gave S.ended S.faults K.took K.faults input.old input.new out.old out.new result }
-{
-    match order {
-        Some(order) => order.follow(alloc, input, out),
-        None => Err(Fault::BadWords),
-    }
 }

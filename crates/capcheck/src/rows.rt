@@ -1,232 +1,102 @@
 //! What the program prints for its words and its input, worked by hand. The tests of `run` go over these rows, and
 //! `examples/program/check.py` runs the built program for them.
 //!
-//! Each row has the words of one or more runs, each after its exit status, with `''` for an empty word; the lines of
-//! the input after `|`; those on standard output after `=`, where `..` stands for any lines; and the line on standard
-//! error after `!`. The input is standard input, and the two files `log` and `file`. There is no file `gone`.
+//! Each row has the words of one or more runs after their exit status, with `''` for an empty word; the lines of the
+//! input after `|`; those on standard output after `=`, where `..` stands for any lines; and the line on standard error
+//! after `!`. A ` / ` joins runs of one status, or lines of one kind. The input is standard input, and the two files `log` and `file`.
+//! There is no file `gone`.
 
 pub const ROWS: &str = r#"
 # a base that is rounded down, and a top that is rounded up
 0 round 0000000000000001 0000000000001fff
-= base 0000000000000000
-= top 00000000000002000
-= ie 1
-= e 1
-= exact no
+= base 0000000000000000 / top 00000000000002000 / ie 1 / e 1 / exact no
 
 # the whole address space
-0 round 0000000000000001 fffffffffffffffe
-0 round 0000000000000001 ffffffffffffffff
-= base 0000000000000000
-= top 10000000000000000
-= ie 1
-= e 52
-= exact no
+0 round 0000000000000001 fffffffffffffffe / round 0000000000000001 ffffffffffffffff
+= base 0000000000000000 / top 10000000000000000 / ie 1 / e 52 / exact no
 
 # the greatest length that has no exponent
 0 round 0000000000001000 0000000000000fff
-= base 0000000000001000
-= top 00000000000001fff
-= ie 0
-= e 0
-= exact yes
+= base 0000000000001000 / top 00000000000001fff / ie 0 / e 0 / exact yes
 
 # the least exponent, and a top that is rounded up
 0 round 0000000000001000 0000000000001001
-= base 0000000000001000
-= top 00000000000002008
-= ie 1
-= e 0
-= exact no
+= base 0000000000001000 / top 00000000000002008 / ie 1 / e 0 / exact no
 
 # a request that ends above the address space
 2 round 0000000000000002 ffffffffffffffff
 ! capcheck: bad request
 
 # words that are no number of the right digits
-2 round 000000000000001 0000000000000001
-2 round 0000000000000001 000000000000000F
-2 round '' ffffffffffffffffff
-2 round 1 ''
-2 explain 00001ffffc018004000000000000000
-2 explain 00001ffffc01800400000000000000000
-2 explain 00001Ffffc0180040000000000000000
-2 explain ''
-2 explain 12
-2 explain --memory 12
-2 explain --tag 12
+2 round 000000000000001 0000000000000001 / round 0000000000000001 000000000000000F / round '' ffffffffffffffffff
+2 round 1 '' / explain 00001ffffc018004000000000000000 / explain 00001ffffc01800400000000000000000
+2 explain 00001Ffffc0180040000000000000000 / explain '' / explain 12 / explain --memory 12 / explain --tag 12
 2 explain --memory --tag 12
 ! capcheck: bad word
 
 # the word whose bytes in memory are all zero
-0 explain 00001ffffc0180040000000000000000
-0 explain --memory 00000000000000000000000000000000
-= word 00001ffffc0180040000000000000000
-= memory 00000000000000000000000000000000
-= tag 0
-= perms 00000000
-= otype 3ffff unsealed
-= flag 0
-= reserved 0
-= ie 1
-= e 52
-= b 0000
-= t 1000
-= address 0000000000000000
-= base 0000000000000000
-= top 10000000000000000
-= sound yes
+0 explain 00001ffffc0180040000000000000000 / explain --memory 00000000000000000000000000000000
+= word 00001ffffc0180040000000000000000 / memory 00000000000000000000000000000000 / tag 0 / perms 00000000
+= otype 3ffff unsealed / flag 0 / reserved 0 / ie 1 / e 52 / b 0000 / t 1000 / address 0000000000000000
+= base 0000000000000000 / top 10000000000000000 / sound yes
 
 # a capability by its word and by its bytes in memory
-0 explain --tag ffff1ffffbffd0000000000000001000
-0 explain --memory --tag 00100000000000000450fe070000ffff
-= word ffff1ffffbffd0000000000000001000
-= memory 00100000000000000450fe070000ffff
-= tag 1
-= perms 00078fff
-= otype 3ffff unsealed
-= flag 0
-= reserved 0
-= ie 0
-= e 0
-= b 1000
-= t 1fff
-= address 0000000000001000
-= base 0000000000001000
-= top 00000000000001fff
-= sound yes
+0 explain --tag ffff1ffffbffd0000000000000001000 / explain --memory --tag 00100000000000000450fe070000ffff
+= word ffff1ffffbffd0000000000000001000 / memory 00100000000000000450fe070000ffff / tag 1 / perms 00078fff
+= otype 3ffff unsealed / flag 0 / reserved 0 / ie 0 / e 0 / b 1000 / t 1fff / address 0000000000001000
+= base 0000000000001000 / top 00000000000001fff / sound yes
 
 # the same without its tag
-0 explain ffff1ffffbffd0000000000000001000
-0 explain --memory 00100000000000000450fe070000ffff
-= word ffff1ffffbffd0000000000000001000
-= memory 00100000000000000450fe070000ffff
-= tag 0
-= perms 00078fff
-= otype 3ffff unsealed
-= flag 0
-= reserved 0
-= ie 0
-= e 0
-= b 1000
-= t 1fff
-= address 0000000000001000
-= base 0000000000001000
-= top 00000000000001fff
-= sound yes
+0 explain ffff1ffffbffd0000000000000001000 / explain --memory 00100000000000000450fe070000ffff
+= word ffff1ffffbffd0000000000000001000 / memory 00100000000000000450fe070000ffff / tag 0 / perms 00078fff
+= otype 3ffff unsealed / flag 0 / reserved 0 / ie 0 / e 0 / b 1000 / t 1fff / address 0000000000001000
+= base 0000000000001000 / top 00000000000001fff / sound yes
 
 # bounds that end behind the address space
 0 explain ffff1ffffc01a0030000000000000000
-= ..
-= reserved 0
-= ie 1
-= e 51
-= b 2000
-= t 3000
-= address 0000000000000000
-= base 0000000000000000
-= top 18000000000000000
-= sound no
+= .. / reserved 0 / ie 1 / e 51 / b 2000 / t 3000 / address 0000000000000000 / base 0000000000000000
+= top 18000000000000000 / sound no
 
 # an exponent above the greatest
 0 explain ffff1ffffc0180050000000000000000
-= ..
-= ie 1
-= e 53
-= b 0000
-= t 1000
-= address 0000000000000000
-= base 0000000000000000
-= top 10000000000000000
+= .. / ie 1 / e 53 / b 0000 / t 1000 / address 0000000000000000 / base 0000000000000000 / top 10000000000000000
 = sound yes
 
 # the greatest object type that a seal gives
 0 explain ffff1fffdc0180040000000000000000
-= ..
-= otype 3fffb sealed
-= flag 0
-= reserved 0
-= ..
+= .. / otype 3fffb sealed / flag 0 / reserved 0 / ..
 
 # a reserved object type
 0 explain ffff1fffe40180040000000000000000
-= ..
-= otype 3fffc reserved
-= flag 0
-= reserved 0
-= ..
+= .. / otype 3fffc reserved / flag 0 / reserved 0 / ..
 
 # the flag and the reserved bits
 0 explain fffffffffc0180040000000000001000
-= ..
-= otype 3ffff unsealed
-= flag 1
-= reserved 3
-= ..
+= .. / otype 3ffff unsealed / flag 1 / reserved 3 / ..
 
 # words that have none of the forms
 2
-2 ''
-2 judges
-2 judge -
-2 judge a b
-2 judge log --origins
-2 judge --origins --origins
-2 judge --why
-2 judge --why log
-2 judge log --why
-2 judge --why -log
-2 judge --origins --why
-2 judge --origins --why log
-2 judge --why --origins
-2 why
-2 why log
-2 vectors
-2 vectors -file
-2 vectors file file
-2 vectors --origins log
-2 round
-2 round 1
-2 round 1 -2
-2 round -1 2
-2 round 1 2 3
-2 explain
-2 explain --tag
-2 explain --tag --memory 12
-2 explain --memory --memory 12
-2 explain 12 --tag
-2 explain -12
-2 explain --tag --memory 00100000000000000450fe070000ffff
-| capcheck 1
-| end 0
+2 '' / judges / judge - / judge a b / judge log --origins / judge --origins --origins / judge --why / judge --why log
+2 judge log --why / judge --why -log / judge --origins --why / judge --origins --why log / judge --why --origins / why
+2 why log / vectors / vectors -file / vectors file file / vectors --origins log / round / round 1 / round 1 -2
+2 round -1 2 / round 1 2 3 / explain / explain --tag / explain --tag --memory 12 / explain --memory --memory 12
+2 explain 12 --tag / explain -12 / explain --tag --memory 00100000000000000450fe070000ffff
+| capcheck 1 / end 0
 ! capcheck: bad words
 
 # no steps
-0 judge
-0 judge log
-0 judge --origins
-0 judge --origins log
-| capcheck 1
-| end 0
+0 judge / judge log / judge --origins / judge --origins log
+| capcheck 1 / end 0
 = yes 0 0
 
 # a wrong count
-1 judge
-1 judge log
-1 judge --origins
-1 judge --origins log
-| capcheck 1
-| end 1
+1 judge / judge log / judge --origins / judge --origins log
+| capcheck 1 / end 1
 = no 2 6 WrongCount
 
 # files that aren't there, though standard input has a log
-3 judge gone
-3 judge --origins gone
-3 judge ''
-3 vectors gone
-3 vectors ''
-| capcheck 1
-| end 0
+3 judge gone / judge --origins gone / judge '' / vectors gone / vectors ''
+| capcheck 1 / end 0
 ! capcheck: read fault
 
 # a vector that is so
@@ -235,8 +105,7 @@ pub const ROWS: &str = r#"
 = pass 1
 
 # no bytes
-1 judge
-1 judge log
+1 judge / judge log
 = no 1 5 Truncated
 
 # no vectors
@@ -316,98 +185,48 @@ pub const ROWS: &str = r#"
 = fail 1
 
 # a register that was cleared, and a granule
-0 judge --origins
-0 judge --origins log
-| capcheck 1
-| root c1 ffff1ffffc0180040000000000000000
-| move c2 c1 = 1 ffff1ffffc0180040000000000000000
-| sc c2 c1 16
-| cleartag c1 c1 = 0 ffff1ffffc0180040000000000000000
-| end 3
-= yes 3 1
-= origin c2 c1
-= origin @0000000000000010 c1
+0 judge --origins / judge --origins log
+| capcheck 1 / root c1 ffff1ffffc0180040000000000000000 / move c2 c1 = 1 ffff1ffffc0180040000000000000000
+| sc c2 c1 16 / cleartag c1 c1 = 0 ffff1ffffc0180040000000000000000 / end 3
+= yes 3 1 / origin c2 c1 / origin @0000000000000010 c1
 
 # the same without origins
-0 judge
-0 judge log
-| capcheck 1
-| root c1 ffff1ffffc0180040000000000000000
-| move c2 c1 = 1 ffff1ffffc0180040000000000000000
-| sc c2 c1 16
-| cleartag c1 c1 = 0 ffff1ffffc0180040000000000000000
-| end 3
+0 judge / judge log
+| capcheck 1 / root c1 ffff1ffffc0180040000000000000000 / move c2 c1 = 1 ffff1ffffc0180040000000000000000
+| sc c2 c1 16 / cleartag c1 c1 = 0 ffff1ffffc0180040000000000000000 / end 3
 = yes 3 1
 
 # a root in a granule
-0 judge --origins
-0 judge --origins log
-| capcheck 1
-| root c1 ffff1ffffc0180040000000000000000
-| root @0000000000000000 ffff1ffffbffd0000000000000001000
-| lc c2 c1 0 = 1 ffff1ffffbffd0000000000000001000
-| move c1 c2 = 1 ffff1ffffbffd0000000000000001000
-| end 2
-= yes 2 2
-= origin c1 @0000000000000000
-= origin c2 @0000000000000000
-= origin @0000000000000000 @0000000000000000
+0 judge --origins / judge --origins log
+| capcheck 1 / root c1 ffff1ffffc0180040000000000000000 / root @0000000000000000 ffff1ffffbffd0000000000000001000
+| lc c2 c1 0 = 1 ffff1ffffbffd0000000000000001000 / move c1 c2 = 1 ffff1ffffbffd0000000000000001000 / end 2
+= yes 2 2 / origin c1 @0000000000000000 / origin c2 @0000000000000000 / origin @0000000000000000 @0000000000000000
 
 # a tag in memory that is lost to a store of a byte
-0 judge --origins
-0 judge --origins log
-| capcheck 1
-| root c1 ffff1ffffc0180040000000000000000
-| sc c1 c1 0
-| store c1 0 1 aa
-| lc c3 c1 0 = 0 ffff1ffffc01800400000000000000aa
-| end 3
-= yes 3 1
-= origin c1 c1
+0 judge --origins / judge --origins log
+| capcheck 1 / root c1 ffff1ffffc0180040000000000000000 / sc c1 c1 0 / store c1 0 1 aa
+| lc c3 c1 0 = 0 ffff1ffffc01800400000000000000aa / end 3
+= yes 3 1 / origin c1 c1
 
 # the same with a tag that stayed
-1 judge
-1 judge log
-1 judge --origins
-1 judge --origins log
-| capcheck 1
-| root c1 ffff1ffffc0180040000000000000000
-| sc c1 c1 0
-| store c1 0 1 aa
-| lc c3 c1 0 = 1 ffff1ffffc01800400000000000000aa
-| end 3
+1 judge / judge log / judge --origins / judge --origins log
+| capcheck 1 / root c1 ffff1ffffc0180040000000000000000 / sc c1 c1 0 / store c1 0 1 aa
+| lc c3 c1 0 = 1 ffff1ffffc01800400000000000000aa / end 3
 = no 5 23 WrongResult
 
 # registers by number, and then granules by address
-0 judge --origins
-0 judge --origins log
-| capcheck 1
-| root c3 ffff1ffffc0180040000000000000000
-| root @0000000000000040 ffff1ffffbffd0000000000000001000
-| sc c3 c3 32
-| move c31 c3 = 1 ffff1ffffc0180040000000000000000
-| sc c0 c3 16
-| lc c2 c3 64 = 1 ffff1ffffbffd0000000000000001000
-| sc c2 c3 0
-| end 5
-= yes 5 2
-= origin c2 @0000000000000040
-= origin c3 c3
-= origin c31 c3
-= origin @0000000000000000 @0000000000000040
-= origin @0000000000000020 c3
-= origin @0000000000000040 @0000000000000040
+0 judge --origins / judge --origins log
+| capcheck 1 / root c3 ffff1ffffc0180040000000000000000 / root @0000000000000040 ffff1ffffbffd0000000000000001000
+| sc c3 c3 32 / move c31 c3 = 1 ffff1ffffc0180040000000000000000 / sc c0 c3 16
+| lc c2 c3 64 = 1 ffff1ffffbffd0000000000000001000 / sc c2 c3 0 / end 5
+= yes 5 2 / origin c2 @0000000000000040 / origin c3 c3 / origin c31 c3 / origin @0000000000000000 @0000000000000040
+= origin @0000000000000020 c3 / origin @0000000000000040 @0000000000000040
 
 # bounds outside their source's
-1 judge
-1 judge log
-1 judge --origins
-1 judge --origins log
-| capcheck 1
-| root c1 ffff1ffffc0180040000000000000000
+1 judge / judge log / judge --origins / judge --origins log
+| capcheck 1 / root c1 ffff1ffffc0180040000000000000000
 | setaddr c2 c1 0000000000001000 = 1 ffff1ffffc0180040000000000001000
 | setbounds c3 c2 0000000000000020 = 1 ffff1ffff80810000000000000001000
-| setbounds c4 c3 0000000000000021 = 1 ffff1ffff80850000000000000001000
-| end 3
+| setbounds c4 c3 0000000000000021 = 1 ffff1ffff80850000000000000001000 / end 3
 = no 5 11 BoundsEscape
 "#;

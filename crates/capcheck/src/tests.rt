@@ -71,17 +71,17 @@ fn lines_behind(alloc: Global, row: &str, mark: &str) -> Result<Vec<u8>, AllocEr
     let mut text = Vec::new(alloc);
     for line in row.split('\n') {
         if let Some(rest) = line.strip_prefix(mark) {
-            text.extend_from_slice(rest.as_bytes())?;
+            text.extend_from_slice(rest.replace(alloc, " / ", "\n")?.as_bytes())?;
             text.push(b'\n')?;
         }
     }
     Ok(text)
 }
 
-// The words of a line of a row, after the status.
-fn words_of<'a>(alloc: Global, line: &'a str) -> Result<Vec<&'a str>, AllocError> {
+// The words of a run.
+fn words_of<'a>(alloc: Global, run: &'a str) -> Result<Vec<&'a str>, AllocError> {
     let mut words = Vec::new(alloc);
-    for word in line.split(' ').skip(1) {
+    for word in run.split_whitespace() {
         words.push(if word == "''" { "" } else { word })?;
     }
     Ok(words)
@@ -183,27 +183,38 @@ fn inputs_fail(
     is_decided == (status == 1 && !input.is_empty())
 }
 
-// The first line of the rows whose run is another.
-fn first_other(alloc: Global) -> Result<Option<&'static str>, AllocError> {
-    for row in ROWS.split("\n\n") {
-        let input = lines_behind(alloc, row, "| ")?;
-        let out = lines_behind(alloc, row, "= ")?;
-        let err = lines_behind(alloc, row, "! ")?;
-        for line in row.split('\n') {
-            let Some(digit @ b'0'..=b'3') = line.as_bytes().first().copied() else {
-                continue;
-            };
-            let words = words_of(alloc, line)?;
+// The first run of a row that ends otherwise.
+fn other_run<'a>(alloc: Global, row: &'a str) -> Result<Option<&'a str>, AllocError> {
+    let input = lines_behind(alloc, row, "| ")?;
+    let out = lines_behind(alloc, row, "= ")?;
+    let err = lines_behind(alloc, row, "! ")?;
+    for line in row.split('\n') {
+        let (status, runs) = line.split_once(' ').unwrap_or((line, ""));
+        let Ok(status) = status.parse::<u8>() else {
+            continue;
+        };
+        for words in runs.split(" / ") {
             let worked = Worked {
-                order: read_words(words.as_slice()),
+                order: read_words(words_of(alloc, words)?.as_slice()),
                 input: input.as_slice(),
-                status: digit - b'0',
+                status,
                 out: out.as_slice(),
                 err: err.as_slice(),
             };
             if !holds(alloc, worked)? {
-                return Ok(Some(line));
+                return Ok(Some(words));
             }
+        }
+    }
+    Ok(None)
+}
+
+// The first run of the rows that ends otherwise.
+fn first_other(alloc: Global) -> Result<Option<&'static str>, AllocError> {
+    for row in ROWS.split("\n\n") {
+        let other = other_run(alloc, row)?;
+        if other.is_some() {
+            return Ok(other);
         }
     }
     Ok(None)

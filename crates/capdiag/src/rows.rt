@@ -1,42 +1,33 @@
 //! What the program prints for its words and its input, worked by hand. The tests of `run` go over these rows, and
 //! `examples/program/check.py` runs the built program for them.
 //!
-//! Each row has the words of one or more runs, each after its exit status, with `''` for an empty word; the lines of
-//! the input after `|`; those on standard output after `=`, where `..` stands for any lines; and the line on standard
-//! error after `!`. The input is standard input, and the file `log`. There is no file `gone`.
+//! Each row has the words of one or more runs after their exit status, with `''` for an empty word; the lines of the
+//! input after `|`; those on standard output after `=`, where `..` stands for any lines; and the line on standard error
+//! after `!`. A ` / ` joins runs of one status, or lines of one kind. The input is standard input, and the file `log`.
+//! There is no file `gone`.
 
 pub const ROWS: &str = r#"
 # words that have none of the forms
 2
-| capcheck 1
-| end 0
+| capcheck 1 / end 0
 ! capdiag: no command; see capdiag --help
 
-2 whys
-2 whys log
+2 whys / whys log
 ! capdiag: unknown command 'whys'; see capdiag --help
 
-2 --orgins
-2 why --orgins log
+2 --orgins / why --orgins log
 ! capdiag: unknown option '--orgins'; see capdiag --help
 
-2 why -
-2 heap -
+2 why - / heap -
 ! capdiag: unknown option '-'; see capdiag --help
 
 2 why log --origins
 ! capdiag: a word after the file: '--origins'; see capdiag --help
 
-2 why a b
-2 heap a b
+2 why a b / heap a b
 ! capdiag: a word after the file: 'b'; see capdiag --help
 
-2 why --origins --origins
-2 why --help log
-2 heap --report --report
-2 heap --why --report
-2 --help why
-2 --version log
+2 why --origins --origins / why --help log / heap --report --report / heap --why --report / --help why / --version log
 ! capdiag: an option is given twice, out of order, or beside --help; see capdiag --help
 
 # a word is cut after its first 64 bytes, and shown in ASCII
@@ -47,9 +38,7 @@ pub const ROWS: &str = r#"
 ! capdiag: unknown command 'h\xc3\xa4p'; see capdiag --help
 
 # how it is used
-0 --help
-0 why --help
-0 heap --help
+0 --help / why --help / heap --help
 = usage: capdiag why [--origins] [FILE]
 =        capdiag heap [--report] [--why] [FILE]
 =        capdiag --help | --version
@@ -68,196 +57,95 @@ pub const ROWS: &str = r#"
 = capdiag 1.2.0
 
 # no steps
-0 why
-0 why log
-0 why --origins
-0 why --origins log
-| capcheck 1
-| end 0
+0 why / why log / why --origins / why --origins log
+| capcheck 1 / end 0
 = yes 0 0
 
 # a wrong count
-1 why
-1 why log
-1 why --origins
-1 why --origins log
-| capcheck 1
-| end 1
-= no 2 6 WrongCount
-= line end 1
-= roots 0
-= steps 0
-= granules 0
-= expected end 0
+1 why / why log / why --origins / why --origins log
+| capcheck 1 / end 1
+= no 2 6 WrongCount / line end 1 / roots 0 / steps 0 / granules 0 / expected end 0
 
 # files that aren't there, though standard input has a log
-3 why gone
-3 why --origins gone
-| capcheck 1
-| end 0
+3 why gone / why --origins gone
+| capcheck 1 / end 0
 ! capdiag: cannot open 'gone': no such file
 
 3 why ''
-| capcheck 1
-| end 0
+| capcheck 1 / end 0
 ! capdiag: cannot open '': no such file
 
 # a register that was cleared, and a granule
-0 why --origins
-0 why --origins log
-| capcheck 1
-| root c1 ffff1ffffc0180040000000000000000
-| move c2 c1 = 1 ffff1ffffc0180040000000000000000
-| sc c2 c1 16
-| cleartag c1 c1 = 0 ffff1ffffc0180040000000000000000
-| end 3
-= yes 3 1
-= origin c2 c1
-= origin @0000000000000010 c1
+0 why --origins / why --origins log
+| capcheck 1 / root c1 ffff1ffffc0180040000000000000000 / move c2 c1 = 1 ffff1ffffc0180040000000000000000
+| sc c2 c1 16 / cleartag c1 c1 = 0 ffff1ffffc0180040000000000000000 / end 3
+= yes 3 1 / origin c2 c1 / origin @0000000000000010 c1
 
 # the same without origins
-0 why
-0 why log
-| capcheck 1
-| root c1 ffff1ffffc0180040000000000000000
-| move c2 c1 = 1 ffff1ffffc0180040000000000000000
-| sc c2 c1 16
-| cleartag c1 c1 = 0 ffff1ffffc0180040000000000000000
-| end 3
+0 why / why log
+| capcheck 1 / root c1 ffff1ffffc0180040000000000000000 / move c2 c1 = 1 ffff1ffffc0180040000000000000000
+| sc c2 c1 16 / cleartag c1 c1 = 0 ffff1ffffc0180040000000000000000 / end 3
 = yes 3 1
 
 # a root in a granule
-0 why --origins
-0 why --origins log
-| capcheck 1
-| root c1 ffff1ffffc0180040000000000000000
-| root @0000000000000000 ffff1ffffbffd0000000000000001000
-| lc c2 c1 0 = 1 ffff1ffffbffd0000000000000001000
-| move c1 c2 = 1 ffff1ffffbffd0000000000000001000
-| end 2
-= yes 2 2
-= origin c1 @0000000000000000
-= origin c2 @0000000000000000
-= origin @0000000000000000 @0000000000000000
+0 why --origins / why --origins log
+| capcheck 1 / root c1 ffff1ffffc0180040000000000000000 / root @0000000000000000 ffff1ffffbffd0000000000000001000
+| lc c2 c1 0 = 1 ffff1ffffbffd0000000000000001000 / move c1 c2 = 1 ffff1ffffbffd0000000000000001000 / end 2
+= yes 2 2 / origin c1 @0000000000000000 / origin c2 @0000000000000000 / origin @0000000000000000 @0000000000000000
 
 # a tag in memory that is lost to a store of a byte
-0 why --origins
-0 why --origins log
-| capcheck 1
-| root c1 ffff1ffffc0180040000000000000000
-| sc c1 c1 0
-| store c1 0 1 aa
-| lc c3 c1 0 = 0 ffff1ffffc01800400000000000000aa
-| end 3
-= yes 3 1
-= origin c1 c1
+0 why --origins / why --origins log
+| capcheck 1 / root c1 ffff1ffffc0180040000000000000000 / sc c1 c1 0 / store c1 0 1 aa
+| lc c3 c1 0 = 0 ffff1ffffc01800400000000000000aa / end 3
+= yes 3 1 / origin c1 c1
 
 # registers by number, and then granules by address
-0 why --origins
-0 why --origins log
-| capcheck 1
-| root c3 ffff1ffffc0180040000000000000000
-| root @0000000000000040 ffff1ffffbffd0000000000000001000
-| sc c3 c3 32
-| move c31 c3 = 1 ffff1ffffc0180040000000000000000
-| sc c0 c3 16
-| lc c2 c3 64 = 1 ffff1ffffbffd0000000000000001000
-| sc c2 c3 0
-| end 5
-= yes 5 2
-= origin c2 @0000000000000040
-= origin c3 c3
-= origin c31 c3
-= origin @0000000000000000 @0000000000000040
-= origin @0000000000000020 c3
-= origin @0000000000000040 @0000000000000040
+0 why --origins / why --origins log
+| capcheck 1 / root c3 ffff1ffffc0180040000000000000000 / root @0000000000000040 ffff1ffffbffd0000000000000001000
+| sc c3 c3 32 / move c31 c3 = 1 ffff1ffffc0180040000000000000000 / sc c0 c3 16
+| lc c2 c3 64 = 1 ffff1ffffbffd0000000000000001000 / sc c2 c3 0 / end 5
+= yes 5 2 / origin c2 @0000000000000040 / origin c3 c3 / origin c31 c3 / origin @0000000000000000 @0000000000000040
+= origin @0000000000000020 c3 / origin @0000000000000040 @0000000000000040
 
 # bounds outside their source's
-1 why
-1 why log
-1 why --origins
-1 why --origins log
-| capcheck 1
-| root c1 ffff1ffffc0180040000000000000000
+1 why / why log / why --origins / why --origins log
+| capcheck 1 / root c1 ffff1ffffc0180040000000000000000
 | setaddr c2 c1 0000000000001000 = 1 ffff1ffffc0180040000000000001000
 | setbounds c3 c2 0000000000000020 = 1 ffff1ffff80810000000000000001000
-| setbounds c4 c3 0000000000000021 = 1 ffff1ffff80850000000000000001000
-| end 3
-= no 5 11 BoundsEscape
-= line setbounds c4 c3 0000000000000021 = 1 ffff1ffff80850000000000000001000
-= source c3 1 ffff1ffff80810000000000000001000
-= source perms 00078fff
-= source otype 3ffff unsealed
-= source bounds 0000000000001000 00000000000001020
-= source origin c1
-= request 0000000000001000 00000000000001021
+| setbounds c4 c3 0000000000000021 = 1 ffff1ffff80850000000000000001000 / end 3
+= no 5 11 BoundsEscape / line setbounds c4 c3 0000000000000021 = 1 ffff1ffff80850000000000000001000
+= source c3 1 ffff1ffff80810000000000000001000 / source perms 00078fff / source otype 3ffff unsealed
+= source bounds 0000000000001000 00000000000001020 / source origin c1 / request 0000000000001000 00000000000001021
 = rounded 0000000000001000 00000000000001021
 
 # objects that lie apart
-0 heap
-0 heap log
-0 heap --why
-0 heap --why log
-| heap 1
-| root 0000000000000000 10000000000000000
-| malloc 0000000000001000 0000000000000010
-| malloc 0000000000001010 0000000000000010
-| free 0000000000001000
-| end 3
+0 heap / heap log / heap --why / heap --why log
+| heap 1 / root 0000000000000000 10000000000000000 / malloc 0000000000001000 0000000000000010
+| malloc 0000000000001010 0000000000000010 / free 0000000000001000 / end 3
 = yes 3 1
 
 # an object whose rounded bounds reach into its neighbour's
-1 heap
-1 heap --report
-| heap 1
-| root 0000000000000000 10000000000000000
-| malloc 0000000000010000 0000000000001001
-| malloc 0000000000011001 0000000000000001
-| end 2
+1 heap / heap --report
+| heap 1 / root 0000000000000000 10000000000000000 / malloc 0000000000010000 0000000000001001
+| malloc 0000000000011001 0000000000000001 / end 2
 = no 4 28 Overlaps
 
 # the same with what its tests saw
-1 heap --why
-1 heap --why log
-1 heap --report --why
-1 heap --report --why log
-| heap 1
-| root 0000000000000000 10000000000000000
-| malloc 0000000000010000 0000000000001001
-| malloc 0000000000011001 0000000000000001
-| end 2
-= no 4 28 Overlaps
-= line malloc 0000000000011001 0000000000000001
-= request 0000000000011001 00000000000011002
-= rounded 0000000000011001 00000000000011002
-= live request 0000000000010000 00000000000011001
-= live rounded 0000000000010000 00000000000011008
-= length 00000000000000001
-= alignment 00000000000000001
-= live length 00000000000001008
-= live alignment 00000000000000008
+1 heap --why / heap --why log / heap --report --why / heap --report --why log
+| heap 1 / root 0000000000000000 10000000000000000 / malloc 0000000000010000 0000000000001001
+| malloc 0000000000011001 0000000000000001 / end 2
+= no 4 28 Overlaps / line malloc 0000000000011001 0000000000000001 / request 0000000000011001 00000000000011002
+= rounded 0000000000011001 00000000000011002 / live request 0000000000010000 00000000000011001
+= live rounded 0000000000010000 00000000000011008 / length 00000000000000001 / alignment 00000000000000001
+= live length 00000000000001008 / live alignment 00000000000000008
 
 # objects that lie apart, with what their bounds cost
-0 heap --report
-0 heap --report log
-0 heap --report --why
-0 heap --report --why log
-| heap 1
-| root 0000000000000000 10000000000000000
-| malloc 0000000000010000 0000000000001001
-| end 1
-= yes 1 1
-= objects 1
-= most 1
-= inexact 1
-= excess 7
-= padding 7
-= gaps 0
+0 heap --report / heap --report log / heap --report --why / heap --report --why log
+| heap 1 / root 0000000000000000 10000000000000000 / malloc 0000000000010000 0000000000001001 / end 1
+= yes 1 1 / objects 1 / most 1 / inexact 1 / excess 7 / padding 7 / gaps 0
 
 # an allocator's log that isn't there
-3 heap gone
-3 heap --report gone
-3 heap --why gone
+3 heap gone / heap --report gone / heap --why gone
 | heap 1
 ! capdiag: cannot open 'gone': no such file
 

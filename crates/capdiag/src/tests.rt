@@ -11,17 +11,17 @@ fn lines_behind(alloc: Global, row: &str, mark: &str) -> Result<Vec<u8>, AllocEr
     for line in row.split('\n') {
         if let Some(rest) = line.strip_prefix(mark) {
             let rest = rest.strip_prefix(" ").unwrap_or(rest);
-            text.extend_from_slice(rest.as_bytes())?;
+            text.extend_from_slice(rest.replace(alloc, " / ", "\n")?.as_bytes())?;
             text.push(b'\n')?;
         }
     }
     Ok(text)
 }
 
-// The words of a line of a row, after the status.
-fn words_of<'a>(alloc: Global, line: &'a str) -> Result<Vec<&'a str>, AllocError> {
+// The words of a run.
+fn words_of<'a>(alloc: Global, run: &'a str) -> Result<Vec<&'a str>, AllocError> {
     let mut words = Vec::new(alloc);
-    for word in line.split(' ').skip(1) {
+    for word in run.split_whitespace() {
         words.push(if word == "''" { "" } else { word })?;
     }
     Ok(words)
@@ -48,29 +48,35 @@ fn outcome<'a>(
     }
 }
 
-// The first line of the rows whose run is another.
+// The first run of a row that ends otherwise.
+fn other_run<'a>(alloc: Global, row: &'a str) -> Result<Option<&'a str>, AllocError> {
+    let input = lines_behind(alloc, row, "|")?;
+    let out = lines_behind(alloc, row, "=")?;
+    let err = lines_behind(alloc, row, "!")?;
+    for line in row.split('\n') {
+        let (status, runs) = line.split_once(' ').unwrap_or((line, ""));
+        let Ok(status) = status.parse::<u8>() else {
+            continue;
+        };
+        for run in runs.split(" / ") {
+            let (mut text, mut told) = (Vec::new(alloc), Vec::new(alloc));
+            let words = words_of(alloc, run)?;
+            let ended = outcome(alloc, words.as_slice(), input.as_slice(), &mut text, &mut told);
+            let is_same = text.as_slice() == out.as_slice() && told.as_slice() == err.as_slice();
+            if ended != status || !is_same {
+                return Ok(Some(run));
+            }
+        }
+    }
+    Ok(None)
+}
+
+// The first run of the rows that ends otherwise.
 fn first_other(alloc: Global) -> Result<Option<&'static str>, AllocError> {
     for row in ROWS.split("\n\n") {
-        let input = lines_behind(alloc, row, "|")?;
-        let out = lines_behind(alloc, row, "=")?;
-        let err = lines_behind(alloc, row, "!")?;
-        for line in row.split('\n') {
-            let Some(digit @ b'0'..=b'3') = line.as_bytes().first().copied() else {
-                continue;
-            };
-            let words = words_of(alloc, line)?;
-            let (mut text, mut told) = (Vec::new(alloc), Vec::new(alloc));
-            let status = outcome(
-                alloc,
-                words.as_slice(),
-                input.as_slice(),
-                &mut text,
-                &mut told,
-            );
-            let is_same = text.as_slice() == out.as_slice() && told.as_slice() == err.as_slice();
-            if status != digit - b'0' || !is_same {
-                return Ok(Some(line));
-            }
+        let other = other_run(alloc, row)?;
+        if other.is_some() {
+            return Ok(other);
         }
     }
     Ok(None)
