@@ -7,7 +7,7 @@ ghost use Rattle.cap_judge.specs.{OriginLists.report_text, Reports.{Reported, Te
 ghost use Rattle.cap_judge.specs.Verdicts.{NamesEscapes};
 
 use crate::origins::push_origins;
-use crate::streams::{Judging, judge, judge_keeping};
+use crate::streams::{Judging, judge_in, judge_keeping};
 use crate::verdict::Verdict;
 use crate::verdict_lines::verdict_text;
 use cap_log::{JudgeToFault, PushFault, Sink, Source, push_all};
@@ -30,7 +30,7 @@ pub fn judge_to<S: Source, K: Sink>(
     ensures pulls_counted { CountsOnly (Err Pull) (S.faults source.old) (S.faults source.new) result }
     ensures pushes_counted { CountsOnly (Err Push) (K.faults sink.old) (K.faults sink.new) result }
 {
-    let verdict = judge(alloc, source)?;
+    let verdict = judge_in(source, PageStore::new(alloc))?;
     push_verdict(&verdict, sink)?;
     Ok(verdict)
 }

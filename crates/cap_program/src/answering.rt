@@ -30,18 +30,10 @@ pub fn tell<F: Sink>(program: &str, done: Result<u8, Fault>, faults: &mut F)
     ensures told { TellsFaultLine program.now F.took F.faults done faults.old faults.new }
 {
     if let Err(fault) = done {
-        push_line(program, fault, faults);
+        let mut line = [0u8; 32];
+        let length = put_line(program, fault, &mut line);
+        let _pushed = push_all(faults, &line[..length]);
     }
-}
-
-// Pushes the line of a fault.
-fn push_line<F: Sink>(program: &str, fault: Fault, faults: &mut F)
-    requires short { length program.now ≤ 16 }
-    ensures pushed { IsPushed F.took F.faults faults.old faults.new (fault_line program.now fault) }
-{
-    let mut line = [0u8; 32];
-    let length = put_line(program, fault, &mut line);
-    let _pushed = push_all(faults, &line[..length]);
 }
 
 /// The exit status that goes with what was done.

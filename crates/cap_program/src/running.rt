@@ -34,32 +34,8 @@ pub fn run<C: Command, R: Read + Drop, O: Write, F: Write>(
         (F.contents faults.old) (F.contents faults.new) result }
 {
     let mut input = opened(input);
-    exit_status(write_out(alloc, order, &mut input, out, faults))
-}
-
-// Carries out an order over two writers.
-fn write_out<C: Command, S: Source, O: Write, F: Write>(
-    alloc: Global,
-    order: Option<C>,
-    input: &mut Option<S>,
-    out: &mut O,
-    faults: &mut F,
-) -> Result<u8, Fault>
-    ensures done { (given : List ℕ) × gave_by S.gave input.old input.new given
-        × IsDone (C.meaning.shows order given (ended_by S.ended input.new)) (C.meaning.fails order given)
-        (Appends (O.contents out.old) (O.contents out.new)) result }
-    ensures missing { C.meaning.reads_input order → input.old ≡ None → result ≡ Err Fault.Read }
-    ensures silent { IfOk result (λ status. Appends (F.contents faults.old) (F.contents faults.new) []) }
-    ensures told { IfErr result (λ fault. (n : ℕ)
-        × Appends (F.contents faults.old) (F.contents faults.new) (take n (fault_line C.meaning.program fault))) }
-{
-    carry_out(
-        alloc,
-        order,
-        input,
-        &mut WriteSink::new(out),
-        &mut WriteSink::new(faults),
-    )
+    let (mut out, mut faults) = (WriteSink::new(out), WriteSink::new(faults));
+    exit_status(carry_out(alloc, order, &mut input, &mut out, &mut faults))
 }
 
 /// Does what an order says, over any source and any sinks: the status that goes with the text that was pushed, or the
