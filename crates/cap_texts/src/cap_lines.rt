@@ -3,7 +3,7 @@
 
 ghost use Rattle.std.specs.Prelude.{◌+◌, ◌≤◌, length};
 ghost use Rattle.cap_log.specs.Parts.{Writes};
-ghost use Rattle.cap_texts.specs.CapLines.{bounds_line, cap_lines, cap_line, descent_line, descent_lines};
+ghost use Rattle.cap_texts.specs.CapLines.{bounds_line, cap_lines, cap_line, descent_lines};
 ghost use Rattle.cap_texts.specs.{CapLines.{operand_lines, perms_line, type_line}, ExplainLines.type_name};
 
 use crate::explain_lines::type_name;
@@ -35,6 +35,7 @@ pub fn put_operand_lines(
 }
 
 // Writes the place of a root, where there is one.
+#[tactic(auto, unfolding(crate::specs::CapLines::descent_line))]
 fn put_descent_lines(buffer: &mut [u8], at: usize, name: &[u8], root: Option<Place>) -> usize
     requires name { length name.now ≤ 9 }
     requires room { at + 64 ≤ length buffer.old }
@@ -42,23 +43,14 @@ fn put_descent_lines(buffer: &mut [u8], at: usize, name: &[u8], root: Option<Pla
     ensures fits { result ≤ at + 64 }
 {
     match root {
-        Some(root) => put_descent_line(buffer, at, name, root),
+        Some(root) => {
+            let at = put(buffer, at, name);
+            let at = put(buffer, at, b" origin ");
+            let at = put_place(buffer, at, root);
+            put(buffer, at, b"\n")
+        }
         None => at,
     }
-}
-
-// Writes the place of a root.
-#[tactic(auto, unfolding(crate::specs::CapLines::descent_line))]
-fn put_descent_line(buffer: &mut [u8], at: usize, name: &[u8], root: Place) -> usize
-    requires name { length name.now ≤ 9 }
-    requires room { at + 64 ≤ length buffer.old }
-    ensures written { Writes at (descent_line name.now root) buffer.old buffer.new result }
-    ensures fits { result ≤ at + 64 }
-{
-    let at = put(buffer, at, name);
-    let at = put(buffer, at, b" origin ");
-    let at = put_place(buffer, at, root);
-    put(buffer, at, b"\n")
 }
 
 /// Writes the four lines of a capability that has this name in a report, and returns the index after
@@ -73,7 +65,7 @@ pub fn put_cap_lines(buffer: &mut [u8], at: usize, name: &[u8], place: Place, ca
     let at = put_cap_line(buffer, at, name, place, cap);
     let at = put_perms_line(buffer, at, name, perm_view(cap.word));
     let at = put_type_line(buffer, at, name, split(cap.word).otype);
-    put_bounds_line(buffer, at, name, b" bounds ", u128::from(base), top)
+    put_bounds_line(buffer, at, name, b" bounds ", base, top)
 }
 
 // Writes the place, the tag and the word.
@@ -132,7 +124,7 @@ pub fn put_bounds_line(
     at: usize,
     name: &[u8],
     word: &[u8],
-    base: u128,
+    base: u64,
     top: u128,
 ) -> usize
     requires names { length name.now + length word.now ≤ 17 }
@@ -142,7 +134,7 @@ pub fn put_bounds_line(
 {
     let at = put(buffer, at, name);
     let at = put(buffer, at, word);
-    let at = put_hex(buffer, at, 16, base);
+    let at = put_hex(buffer, at, 16, u128::from(base));
     let at = put(buffer, at, b" ");
     let at = put_hex(buffer, at, 17, top);
     put(buffer, at, b"\n")

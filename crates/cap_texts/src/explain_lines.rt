@@ -107,7 +107,7 @@ pub(crate) fn type_name(otype: u32) -> &'static str
     }
 }
 
-// The bytes of a word in memory, in order of address: two digits for each.
+/// The bytes of a word in memory, in order of address: two digits for each.
 pub fn memory_text(word: Word) -> [u8; 32]
     ensures text { result ≡ bytes_text (memory_of word.0) }
 {

@@ -7,5 +7,5 @@ unfolding cap_lines
 returns-clause-written c =
     let perms = rw c.perm_view.ensures.value at c.put_perms_line-at.ensures.written in
     let type = rw c.split.ensures.otype at c.put_type_line-at.ensures.written in
-    let bounds = rw (c.from.ensures, c.bounds-base.ensures.base, c.bounds-base.ensures.top) at c.put_bounds_line.ensures.written in
+    let bounds = rw (c.bounds-base.ensures.base, c.bounds-base.ensures.top) at c.put_bounds_line.ensures.written in
     c.put_cap_line-at.ensures.written ⨾ perms ⨾ type ⨾ bounds
