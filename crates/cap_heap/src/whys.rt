@@ -19,6 +19,7 @@ use crate::stage::Stage;
 use cap_bounds::{Interval, round, round_length};
 use cap_texts::cap_lines::put_bounds_line;
 use cap_texts::text_lines::{put_decimal_line, put_hex_line, put_line};
+use cap_texts::wrong_lines::{SHORT_LINE, WHOLE_LOG};
 
 /// Writes what is told of a line that was refused at an index of the buffer, and returns the index after it. The
 /// progress is as it was before the line.
@@ -38,12 +39,7 @@ pub(crate) fn put_details(
 {
     match refusal {
         HeapRefusal::BadHeader => put_bad_header(buffer, at, text),
-        HeapRefusal::LineTooLong => put_line(
-            buffer,
-            at,
-            b"expected",
-            b"a line feed after at most 95 bytes",
-        ),
+        HeapRefusal::LineTooLong => put_line(buffer, at, b"expected", SHORT_LINE),
         HeapRefusal::BadLine => put_bad_line(buffer, at, text),
         HeapRefusal::Misplaced
         | HeapRefusal::Truncated
@@ -91,12 +87,7 @@ fn put_due_line(
 {
     match refusal {
         HeapRefusal::Misplaced => put_line(buffer, at, b"expected", progress.due_text()),
-        HeapRefusal::Truncated => put_line(
-            buffer,
-            at,
-            b"expected",
-            b"an end line, and a line feed after each line",
-        ),
+        HeapRefusal::Truncated => put_line(buffer, at, b"expected", WHOLE_LOG),
         HeapRefusal::WrongCount => put_decimal_line(buffer, at, b"expected end", u64::from(count)),
         _ => at,
     }
@@ -153,7 +144,7 @@ fn put_malloc_lines(
     match refusal {
         HeapRefusal::OutsideHeap => {
             let Interval { base, top } = heap.bounds();
-            let at = put_bounds_line(buffer, at, b"root", b" ", u128::from(base), top);
+            let at = put_bounds_line(buffer, at, b"root", b" ", base, top);
             put_right_lines(buffer, at, size)
         }
         _ => {
@@ -174,16 +165,9 @@ fn put_request_lines(buffer: &mut [u8], at: usize, name: &[u8], address: u64, si
     ensures fits { result ≤ at + 104 }
 {
     let end = u128::from(address) + u128::from(size);
-    let at = put_bounds_line(buffer, at, name, b"request ", u128::from(address), end);
+    let at = put_bounds_line(buffer, at, name, b"request ", address, end);
     let rounded = round(address, size);
-    put_bounds_line(
-        buffer,
-        at,
-        name,
-        b"rounded ",
-        u128::from(rounded.base),
-        rounded.top,
-    )
+    put_bounds_line(buffer, at, name, b"rounded ", rounded.base, rounded.top)
 }
 
 // Writes those of a live object, where there is one.

@@ -1,8 +1,8 @@
 -- The report of a first fault: it is that of the place where the judge stopped.
 use Rattle.std.proofs.Common.{◌≡◌, ℕ, Bool, true, false, List, [], ◌++◌, refl, sym, ap, subst, Ok, Err, Result, OnOk}
-use Rattle.std.proofs.Common.{OnErr, Some, if◌then◌else◌}
+use Rattle.std.proofs.Common.{IfOk, OnErr, Some, if◌then◌else◌}
 use Rattle.cap_ops.specs.declared.refusal.Refusal.{Refusal}
-use Rattle.cap_log.specs.{FaultLines.bytes_of, Front.IsCut}
+use Rattle.cap_log.specs.{declared.judge_faults.JudgeFault.JudgeFault, FaultLines.bytes_of, Front.IsCut}
 use Rattle.cap_machine.specs.{Accounts.Account, Helds.{Held, account_of}}
 use Rattle.cap_judge.specs.declared.{faults.Fault.Fault, judges.Stage.Stage, verdict.Verdict.Verdict}
 use Rattle.cap_judge.specs.declared.verdict.Verdict.TheVariants.{Yes, No}
@@ -29,7 +29,7 @@ reported given ended held line refusal text report verdict stops told more end =
     }
 
 -- the text of a judge that explains, by where it stopped
-pub told : (origins : Bool) (given : List ℕ) (ended : Bool) (held : Held) (text : List ℕ) (verdict : Verdict) (said : List ℕ) → IsHeld held
+told : (origins : Bool) (given : List ℕ) (ended : Bool) (held : Held) (text : List ℕ) (verdict : Verdict) (said : List ℕ) → IsHeld held
     → IsAnswerOf given ended (Ok verdict) → LeadsAfter given held verdict → StopsIn given ended held text verdict
     → IsWhyText origins held text verdict said → Explains origins given ended verdict said
 told true given ended held text (Yes steps roots) said is answer to stops why =
@@ -37,6 +37,16 @@ told true given ended held text (Yes steps roots) said is answer to stops why =
 told false given ended held text (Yes steps roots) said is answer to stops why = why
 told origins given ended held text (No line refusal) said is answer to stops why =
     (why.0, reported given ended held line refusal text why.0 answer.verdict stops why.1, why.2)
+
+-- the same, by what the judge answered
+pub told_of : (origins : Bool) (given : List ℕ) (ended : Bool) (held : Held) (text : List ℕ) (answer : Result Verdict JudgeFault)
+    (verdict : Verdict) (said : List ℕ) → answer ≡ Ok verdict → IsHeld held → IsAnswerOf given ended answer
+    → IfOk answer (LeadsAfter given held) → IfOk answer (StopsIn given ended held text) → IsWhyText origins held text verdict said
+    → IsAnswerOf given ended (Ok verdict) × Explains origins given ended verdict said
+told_of origins given ended held text answer verdict said was is answers leads stops why =
+    let all = subst (λ r. IsAnswerOf given ended r × IfOk r (LeadsAfter given held) × IfOk r (StopsIn given ended held text)) was
+    (answers, leads, stops) in
+    (all.0, told origins given ended held text verdict said is all.0 all.1 all.2 why)
 
 -- what follows at an `Ok`, and at an `Err`
 pub on_ok : {T E P X : Type 0} (r : Result T E) → (P → X) → OnOk r P → OnOk r X

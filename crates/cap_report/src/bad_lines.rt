@@ -6,6 +6,10 @@ ghost use Rattle.cap_report.specs.BadLines.{AreBadLines, AreFirstLines, HasNoWro
 
 use cap_log::buffers::put;
 use cap_log::{Head, Part};
+use cap_texts::fields::Field::{
+    Count, Equals, LogName, LogVersion, Mode, Number, Offset, Place, Register, Size, Tag, Target,
+    Value, Word,
+};
 use cap_texts::fields::{Field, Wrong, first_wrong};
 use cap_texts::text_lines::put_line;
 use cap_texts::wrong_lines::{put_header_lines, put_hint_line, put_wrong_lines};
@@ -61,7 +65,7 @@ fn wrong_word(line: &[u8]) -> Option<Wrong<'_>>
     match Head::take(line, b' ') {
         Some((head, operands)) => first_wrong(fields_of(head), 0, operands),
         None => Some(Wrong {
-            field: Field::LogName,
+            field: LogName,
             end: b' ',
             rest: line,
         }),
@@ -73,49 +77,18 @@ fn fields_of(head: Head) -> &'static [Field]
     ensures { result.now ≡ fields_of head }
 {
     match head {
-        Head::Version => &[Field::LogVersion],
-        Head::Mode => &[Field::Mode],
-        Head::Root => &[Field::Place, Field::Word],
-        Head::Move | Head::ClearTag => &[
-            Field::Target,
-            Field::Register,
-            Field::Equals,
-            Field::Tag,
-            Field::Word,
-        ],
-        Head::SetBounds | Head::SetBoundsExact | Head::SetAddr | Head::AndPerm => &[
-            Field::Target,
-            Field::Register,
-            Field::Number,
-            Field::Equals,
-            Field::Tag,
-            Field::Word,
-        ],
-        Head::Seal | Head::Unseal => &[
-            Field::Target,
-            Field::Register,
-            Field::Register,
-            Field::Equals,
-            Field::Tag,
-            Field::Word,
-        ],
-        Head::LoadCap => &[
-            Field::Target,
-            Field::Register,
-            Field::Offset,
-            Field::Equals,
-            Field::Tag,
-            Field::Word,
-        ],
-        Head::StoreCap => &[Field::Register, Field::Register, Field::Offset],
-        Head::Load => &[
-            Field::Register,
-            Field::Offset,
-            Field::Size,
-            Field::Equals,
-            Field::Value,
-        ],
-        Head::Store => &[Field::Register, Field::Offset, Field::Size, Field::Value],
-        Head::End => &[Field::Count],
+        Head::Version => &[LogVersion],
+        Head::Mode => &[Mode],
+        Head::Root => &[Place, Word],
+        Head::Move | Head::ClearTag => &[Target, Register, Equals, Tag, Word],
+        Head::SetBounds | Head::SetBoundsExact | Head::SetAddr | Head::AndPerm => {
+            &[Target, Register, Number, Equals, Tag, Word]
+        }
+        Head::Seal | Head::Unseal => &[Target, Register, Register, Equals, Tag, Word],
+        Head::LoadCap => &[Target, Register, Offset, Equals, Tag, Word],
+        Head::StoreCap => &[Register, Register, Offset],
+        Head::Load => &[Register, Offset, Size, Equals, Value],
+        Head::Store => &[Register, Offset, Size, Value],
+        Head::End => &[Count],
     }
 }

@@ -1,11 +1,14 @@
 //! The judge that explains a `no`: what the machine held before the line that was refused.
 
-ghost use Rattle.std.specs.Prelude.{◌≡◌, ◌≢◌, ◌≤◌, ℕ, List, ◌++◌, length, take, true, Err, Option, IfOk, OnOk, OnErr};
+ghost use Rattle.std.specs.Prelude.{◌≡◌, ◌≢◌, ◌↔◌, ◌≤◌, ℕ, Bool, List, ◌++◌, length, take, true, Err, Option, IfOk, OnOk};
+ghost use Rattle.std.specs.Prelude.{OnErr};
 ghost use Rattle.std.specs.FinMap as map;
 ghost use Rattle.cap_log.specs.{declared.judge_faults.JudgeToFault.TheVariants.{Pull, Push}, FaultLines.bytes_of};
+ghost use Rattle.cap_log.specs.declared.judge_faults.JudgeFault.TheVariants as judge_faults;
 ghost use Rattle.cap_log.specs.{Front.IsCut, Streams.{CountsFault, CountsOnly}};
 ghost use Rattle.cap_machine.specs.Helds.{account_of};
 ghost use Rattle.cap_judge.specs.{declared.verdict.Verdict.{Verdict, TheVariants.No}, Readings.HasRead};
+ghost use Rattle.cap_judge.specs.Judgings.{IsAnswerOf, LeadsAfter, StopsIn};
 ghost use Rattle.cap_judge.specs.{Reports.{IsPushedFor, Reported}, VerdictLines.verdict_line, Verdicts.NamesEscapes};
 ghost use Rattle.cap_report.specs.{FaultReports.IsLineReport, Whys.{Explains, ExplainsEnd, ExplainsSoFar, IsWhyText}};
 
@@ -38,15 +41,7 @@ pub fn judge_why<S: Source, K: Sink>(
     ensures pulls_counted { CountsOnly (Err Pull) (S.faults source.old) (S.faults source.new) result }
     ensures pushes_counted { CountsOnly (Err Push) (K.faults sink.old) (K.faults sink.new) result }
 {
-    let Judging {
-        answer,
-        machine,
-        fault,
-    } = judge_keeping(source, PageStore::new(alloc));
-    machine.kept();
-    let verdict = answer?;
-    push_why(&verdict, origins, &machine, &fault, sink)?;
-    Ok(verdict)
+    push_judging(&judge_keeping(source, PageStore::new(alloc)), origins, sink)
 }
 
 /// Judges the bytes of a log as [`judge_why`] does those of a source, with the granules in a store that is empty. They
@@ -63,19 +58,7 @@ pub fn judge_why_bytes<M: TaggedStore, K: Sink>(
     ensures escape { IfOk result NamesEscapes }
     ensures pushes_counted { CountsOnly (Err Push) (K.faults sink.old) (K.faults sink.new) result }
 {
-    let Judging {
-        answer,
-        machine,
-        fault,
-    } = judge_bytes_keeping(bytes, memory);
-    machine.kept();
-    match answer {
-        Ok(verdict) => match push_why(&verdict, origins, &machine, &fault, sink) {
-            Ok(()) => Ok(verdict),
-            Err(PushFault) => Err(JudgeToFault::Push),
-        },
-        Err(_) => Err(JudgeToFault::NoMemory),
-    }
+    push_judging(&judge_bytes_keeping(bytes, memory), origins, sink)
 }
 
 /// Pushes the answer for the lines handed to a judge so far: nothing while none is faulty; otherwise the line of
@@ -138,6 +121,25 @@ fn push_fault<M: TaggedStore, K: Sink>(
     let at = put(&mut text, 0, &line[..length]);
     let end = put_report(machine, &fault.text, fault.refusal, &mut text, at);
     push_all(sink, &text[..end])
+}
+
+// Pushes the text of what a judge leaves, if it has a verdict.
+fn push_judging<M: TaggedStore, K: Sink>(
+    judging: &Judging<M>,
+    origins: bool,
+    sink: &mut K,
+) -> Result<Verdict, JudgeToFault>
+    ensures explained { (bytes : List ℕ) (ended : Bool)
+        → IsAnswerOf bytes ended judging.now.answer → IfOk judging.now.answer (LeadsAfter bytes judging.now.machine)
+        → IfOk judging.now.answer (StopsIn bytes ended judging.now.machine (bytes_of judging.now.fault))
+        → IsPushedFor (Explains origins bytes ended) bytes ended (K.took sink.old sink.new) result }
+    ensures pulls { (result ≡ Err Pull) ↔ (judging.now.answer ≡ Err judge_faults.Pull) }
+    ensures pushes_counted { CountsOnly (Err Push) (K.faults sink.old) (K.faults sink.new) result }
+{
+    judging.machine.kept();
+    let verdict = judging.answer?;
+    push_why(&verdict, origins, &judging.machine, &judging.fault, sink)?;
+    Ok(verdict)
 }
 
 // Pushes the text of a verdict: after a `yes` with the origins where they are asked for, and after a `no` with

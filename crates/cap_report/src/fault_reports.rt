@@ -14,7 +14,7 @@ use cap_machine::{Machine, Refusal};
 use cap_texts::cap_lines::{put_cap_lines, put_operand_lines};
 use cap_texts::shown_bytes::put_shown_line;
 use cap_texts::text_lines::{put_decimal_line, put_hex_line, put_line};
-use cap_texts::wrong_lines::put_header_lines;
+use cap_texts::wrong_lines::{SHORT_LINE, WHOLE_LOG, put_header_lines};
 use cap_word::{Cap, Word};
 use tagmem::TaggedStore;
 
@@ -55,12 +55,7 @@ fn put_details<M: TaggedStore>(
 {
     match refusal {
         Refusal::BadHeader => put_bad_header(buffer, at, text),
-        Refusal::LineTooLong => put_line(
-            buffer,
-            at,
-            b"expected",
-            b"a line feed after at most 95 bytes",
-        ),
+        Refusal::LineTooLong => put_line(buffer, at, b"expected", SHORT_LINE),
         Refusal::BadLine => put_bad_line(buffer, at, text),
         Refusal::BadMode => put_header_lines(buffer, at, text, b"mode strict or mode clear"),
         Refusal::Misplaced | Refusal::Truncated | Refusal::WrongCount | Refusal::LimitPassed => {
@@ -114,12 +109,7 @@ fn put_due_line<M: TaggedStore>(
             b"expected",
             b"roots before steps, one end line, and nothing after it",
         ),
-        Refusal::Truncated => put_line(
-            buffer,
-            at,
-            b"expected",
-            b"an end line, and a line feed after each line",
-        ),
+        Refusal::Truncated => put_line(buffer, at, b"expected", WHOLE_LOG),
         Refusal::WrongCount => {
             put_decimal_line(buffer, at, b"expected end", u64::from(machine.steps()))
         }

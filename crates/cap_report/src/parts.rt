@@ -68,21 +68,13 @@ fn put_part(buffer: &mut [u8], at: usize, part: &Part) -> usize
         Part::Authority(place, cap, root) => {
             put_operand_lines(buffer, at, b"authority", place, cap, root)
         }
-        Part::Request(base, top) => {
-            put_bounds_line(buffer, at, b"request", b" ", u128::from(base), top)
-        }
-        Part::Rounded(base, top) => {
-            put_bounds_line(buffer, at, b"rounded", b" ", u128::from(base), top)
-        }
-        Part::Moved(base, top) => {
-            put_bounds_line(buffer, at, b"moved", b" ", u128::from(base), top)
-        }
+        Part::Request(base, top) => put_bounds_line(buffer, at, b"request", b" ", base, top),
+        Part::Rounded(base, top) => put_bounds_line(buffer, at, b"rounded", b" ", base, top),
+        Part::Moved(base, top) => put_bounds_line(buffer, at, b"moved", b" ", base, top),
         Part::Representable(start, end) => {
-            put_bounds_line(buffer, at, b"representable", b" ", u128::from(start), end)
+            put_bounds_line(buffer, at, b"representable", b" ", start, end)
         }
-        Part::Access(start, end) => {
-            put_bounds_line(buffer, at, b"access", b" ", u128::from(start), end)
-        }
+        Part::Access(start, end) => put_bounds_line(buffer, at, b"access", b" ", start, end),
         Part::Needs(view) => put_hex_line(buffer, at, b"needs", 8, u128::from(view)),
         Part::Gives(place, cap) => put_cap_lines(buffer, at, b"gives", place, cap),
         Part::Cleared(fault) => put_cleared_line(buffer, at, fault),

@@ -94,7 +94,8 @@ fn put_request<M: TaggedStore>(
     match request {
         Request::Length(length) => put_bounds(held.address(), length, buffer, at),
         Request::Address(address) => {
-            put_parts(buffer, at, &[moved_to(held, address), range_of(held)])
+            let Interval { base, top } = bounds(Word(held.0 >> 64 << 64 | u128::from(address)));
+            put_parts(buffer, at, &[Part::Moved(base, top), range_of(held)])
         }
         Request::Authority(register, needs) => {
             let authority = authority_in(machine, register);
@@ -121,14 +122,6 @@ fn put_bounds(base: u64, span: u64, buffer: &mut [u8], at: usize) -> usize
     )
 }
 
-// The bounds that a word has at another address.
-fn moved_to(word: Word, address: u64) -> Part
-    ensures { result ≡ parts.Moved (base_of (with_address word.0 address)) (top_of (with_address word.0 address)) }
-{
-    let Interval { base, top } = bounds(Word(word.0 >> 64 << 64 | u128::from(address)));
-    Part::Moved(base, top)
-}
-
 // The representable range of a word: the address space where each address keeps its bounds.
 fn range_of(word: Word) -> Part
     ensures { result ≡ range_part word.0 }
@@ -153,18 +146,12 @@ fn put_access<M: TaggedStore>(
     match access {
         Some(access) => {
             let authority = authority_in(machine, access.authority);
-            let bytes = access_to(access.address, access.size);
+            let end = u128::from(access.address) + u128::from(access.size);
+            let bytes = Part::Access(access.address, end);
             put_parts(buffer, at, &[authority, bytes, Part::Needs(access.needs)])
         }
         None => at,
     }
-}
-
-// The bytes of an access.
-fn access_to(address: u64, size: u8) -> Part
-    ensures { result ≡ parts.Access address (address + size) }
-{
-    Part::Access(address, u128::from(address) + u128::from(size))
 }
 
 // Writes what the rules give for a step and what its line records.

@@ -13,6 +13,12 @@ use cap_log::buffers::put;
 /// The hint for a line that ends with a carriage return.
 const CARRIAGE_RETURN: &[u8] = b"a carriage return ends the line: end lines with a line feed alone";
 
+/// What is expected of a line that is too long.
+pub const SHORT_LINE: &[u8] = b"a line feed after at most 95 bytes";
+
+/// What is expected of a log that is cut.
+pub const WHOLE_LOG: &[u8] = b"an end line, and a line feed after each line";
+
 /// Writes which word of a line is wrong at an index of the buffer, and returns the index after it: the column at
 /// which the word begins, from 1 on, the line from there on, what is expected there, and a hint where the line ends
 /// too early, has a space too many or ends with a carriage return. The length is that of the line with its line feed.
