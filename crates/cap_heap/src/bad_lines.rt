@@ -34,7 +34,8 @@ pub(crate) fn put_bad_header(buffer: &mut [u8], at: usize, text: &[u8]) -> usize
     ensures fits { result ≤ at + 256 }
 {
     if is_machine_header(text) {
-        put_machine_lines(buffer, at)
+        let at = put_line(buffer, at, b"expected", b"heap 1");
+        put_hint_line(buffer, at, b"the log of a machine: capdiag why judges it")
     } else {
         put_header_lines(buffer, at, text, b"heap 1")
     }
@@ -46,17 +47,6 @@ fn is_machine_header(text: &[u8]) -> bool
     ensures no { result ≡ false → IsMachineHeader text.now → ⊥ }
 {
     text == b"capcheck 1".as_slice() || text == b"capcheck 2".as_slice()
-}
-
-// Writes that a log is a machine's.
-fn put_machine_lines(buffer: &mut [u8], at: usize) -> usize
-    requires room { at + 256 ≤ length buffer.old }
-    ensures written { Writes at (text_line (codes "expected") (codes "heap 1")
-        ++ hint_line (codes "the log of a machine: capdiag why judges it")) buffer.old buffer.new result }
-    ensures fits { result ≤ at + 256 }
-{
-    let at = put_line(buffer, at, b"expected", b"heap 1");
-    put_hint_line(buffer, at, b"the log of a machine: capdiag why judges it")
 }
 
 /// Writes which word of a line is wrong, and what is expected there.

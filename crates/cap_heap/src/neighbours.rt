@@ -47,14 +47,10 @@ pub(crate) fn reaching_up(below: Option<(u64, u64)>, base: u64) -> Option<(u64, 
         (λ entry. (below ≡ Some entry) × (base < rounded_top entry.0 entry.1)) }
 {
     match below {
-        Some((address, length)) => {
-            if u128::from(base) < round(address, length).top {
-                Some((address, length))
-            } else {
-                None
-            }
+        Some((address, length)) if u128::from(base) < round(address, length).top => {
+            Some((address, length))
         }
-        None => None,
+        _ => None,
     }
 }
 
@@ -64,13 +60,9 @@ pub(crate) fn reaching_down(above: Option<(u64, u64)>, top: u128) -> Option<(u64
         (λ entry. (above ≡ Some entry) × (rounded_base entry.0 entry.1 < top)) }
 {
     match above {
-        Some((address, length)) => {
-            if u128::from(round(address, length).base) < top {
-                Some((address, length))
-            } else {
-                None
-            }
+        Some((address, length)) if u128::from(round(address, length).base) < top => {
+            Some((address, length))
         }
-        None => None,
+        _ => None,
     }
 }

@@ -20,10 +20,7 @@ pub fn read_heap_line(text: &[u8]) -> Option<HeapLine>
     ensures some { IfSome result (SpellsHeapLine text.now) }
     ensures none { IfNone result ((line : HeapLine) → SpellsHeapLine text.now line → ⊥) }
 {
-    if let Some(event) = read_malloc(text) {
-        return Some(HeapLine::Happens(event));
-    }
-    if let Some(event) = read_free(text) {
+    if let Some(event) = read_event(text) {
         return Some(HeapLine::Happens(event));
     }
     if let Some(bounds) = read_root(text) {

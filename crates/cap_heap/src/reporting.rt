@@ -1,20 +1,18 @@
 //! The judge that writes its verdict into a sink.
 
-ghost use Rattle.std.specs.Prelude.{ℕ, List, take, ◌++◌, Err, OnOk, OnErr};
+ghost use Rattle.std.specs.Prelude.{◌≤◌, take, Err};
 ghost use Rattle.cap_log.specs.{declared.judge_faults.JudgeToFault.TheVariants.{Pull, Push}, FaultLines.bytes_of};
-ghost use Rattle.cap_log.specs.Streams.{CountsFault, CountsOnly};
-ghost use Rattle.cap_heap.specs.{HeapReports.report_lines, Texts.{IsLineReport, IsText}};
-ghost use Rattle.cap_heap.specs.VerdictLines.{Told, heap_line};
+ghost use Rattle.cap_log.specs.Streams.{CountsOnly};
+ghost use Rattle.cap_heap.specs.{Texts.IsText, VerdictLines.Told};
 
 use crate::judging::judge_lines;
 use crate::progress::Progress;
-use crate::refusal::HeapRefusal;
-use crate::report::{HeapReport, put_report};
+use crate::report::put_report;
 use crate::verdict::HeapVerdict;
 use crate::verdict_lines::heap_text;
 use crate::whys::put_details;
 use cap_log::buffers::put;
-use cap_log::{FaultLine, JudgeToFault, PushFault, Sink, Source, push_all};
+use cap_log::{FaultLine, JudgeToFault, Sink, Source, push_all};
 use cap_texts::shown_bytes::put_shown_line;
 use std::alloc::Global;
 
@@ -38,91 +36,42 @@ pub fn judge_heap_to<S: Source, K: Sink>(
     let mut progress = Progress::new(alloc);
     let (answer, line) = judge_lines(&mut progress, source);
     let verdict = answer?;
-    push_text(report, why, &verdict, &progress, &line, sink)?;
+    let mut text = [0u8; 1280];
+    let end = put_text(report, why, &verdict, &progress, &line, &mut text);
+    push_all(sink, &text[..end])?;
     Ok(verdict)
 }
 
-// Pushes the text of a verdict.
-fn push_text<K: Sink>(
+// Writes the text of a verdict at the front of a buffer, and answers its length.
+fn put_text(
     report: bool,
     why: bool,
     verdict: &HeapVerdict,
     progress: &Progress,
     line: &FaultLine,
-    sink: &mut K,
-) -> Result<(), PushFault>
-    ensures ok { OnOk result ((text : List ℕ) × IsText report why progress.now (bytes_of line.now) verdict.now text
-        × K.took sink.old sink.new text) }
-    ensures err { OnErr result ((text : List ℕ) × IsText report why progress.now (bytes_of line.now) verdict.now text
-        × (n : ℕ) × K.took sink.old sink.new (take n text)) }
-    ensures counted { CountsFault (K.faults sink.old) (K.faults sink.new) result }
+    buffer: &mut [u8; 1280],
+) -> usize
+    ensures text { IsText report why progress.now (bytes_of line.now) verdict.now (take result buffer.new) }
+    ensures fits { result ≤ 1280 }
 {
+    let mut front = [0u8; 64];
+    let length = heap_text(verdict, &mut front);
+    let at = put(buffer, 0, &front[..length]);
     match *verdict {
         HeapVerdict::Yes { .. } => {
             if report {
-                push_yes(verdict, &progress.report, sink)
+                put_report(&progress.report, buffer, at)
             } else {
-                push_line(verdict, sink)
+                at
             }
         }
         HeapVerdict::No { refusal, .. } => {
             if why {
-                push_no(verdict, progress, line, refusal, sink)
+                let at = put_shown_line(buffer, at, line.as_slice());
+                put_details(progress, line.as_slice(), refusal, buffer, at)
             } else {
-                push_line(verdict, sink)
+                at
             }
         }
     }
-}
-
-// Pushes the line of a verdict and the report of the line that was refused.
-fn push_no<K: Sink>(
-    verdict: &HeapVerdict,
-    progress: &Progress,
-    line: &FaultLine,
-    refusal: HeapRefusal,
-    sink: &mut K,
-) -> Result<(), PushFault>
-    ensures ok { OnOk result ((report : List ℕ) × IsLineReport progress.now (bytes_of line.now) refusal report
-        × K.took sink.old sink.new (heap_line verdict.now ++ report)) }
-    ensures err { OnErr result ((report : List ℕ) × IsLineReport progress.now (bytes_of line.now) refusal report
-        × (n : ℕ) × K.took sink.old sink.new (take n (heap_line verdict.now ++ report))) }
-    ensures counted { CountsFault (K.faults sink.old) (K.faults sink.new) result }
-{
-    let mut text = [0u8; 1280];
-    let mut front = [0u8; 64];
-    let length = heap_text(verdict, &mut front);
-    let at = put(&mut text, 0, &front[..length]);
-    let at = put_shown_line(&mut text, at, line.as_slice());
-    let end = put_details(progress, line.as_slice(), refusal, &mut text, at);
-    push_all(sink, &text[..end])
-}
-
-// Pushes the line of a verdict and a report.
-fn push_yes<K: Sink>(
-    verdict: &HeapVerdict,
-    report: &HeapReport,
-    sink: &mut K,
-) -> Result<(), PushFault>
-    ensures ok { OnOk result (K.took sink.old sink.new (heap_line verdict.now ++ report_lines report.now)) }
-    ensures err { OnErr result ((n : ℕ) × K.took sink.old sink.new (take n (heap_line verdict.now ++ report_lines report.now))) }
-    ensures counted { CountsFault (K.faults sink.old) (K.faults sink.new) result }
-{
-    let mut line = [0u8; 64];
-    let length = heap_text(verdict, &mut line);
-    let mut text = [0u8; 256];
-    let at = put(&mut text, 0, &line[..length]);
-    let end = put_report(report, &mut text, at);
-    push_all(sink, &text[..end])
-}
-
-// Pushes the line of a verdict.
-fn push_line<K: Sink>(verdict: &HeapVerdict, sink: &mut K) -> Result<(), PushFault>
-    ensures ok { OnOk result (K.took sink.old sink.new (heap_line verdict.now)) }
-    ensures err { OnErr result ((n : ℕ) × K.took sink.old sink.new (take n (heap_line verdict.now))) }
-    ensures counted { CountsFault (K.faults sink.old) (K.faults sink.new) result }
-{
-    let mut text = [0u8; 64];
-    let length = heap_text(verdict, &mut text);
-    push_all(sink, &text[..length])
 }

@@ -4,7 +4,7 @@ ghost use Rattle.std.specs.Prelude.{◌≡◌, ℕ, List, ◌+◌, ◌≤◌, le
 ghost use Rattle.cap_log.specs.Parts.{Writes};
 ghost use Rattle.cap_heap.specs.declared.events.Event.TheVariants.{Malloc};
 ghost use Rattle.cap_heap.specs.Beginnings.{AreDetailsBehind, Beginning, due_of, lines_of};
-ghost use Rattle.cap_heap.specs.HeapWhys.{AreEventDetails, apart_lines, count_in, count_line, counted_lines, due_line};
+ghost use Rattle.cap_heap.specs.HeapWhys.{AreEventDetails, apart_lines, count_in, counted_lines, due_line};
 ghost use Rattle.cap_heap.specs.HeapWhys.{live_lines, live_right_lines, request_lines, right_lines, share_bytes};
 ghost use Rattle.cap_heap.specs.{Heaps.objects_in, Progresses.{AreEventDetailsIn, StandsFor}};
 
@@ -53,6 +53,7 @@ pub(crate) fn put_details(
 }
 
 // Writes how many events there were, and what has to come.
+#[tactic(auto, unfolding(crate::specs::HeapWhys::count_line))]
 fn put_counted_lines(
     progress: &Progress,
     refusal: HeapRefusal,
@@ -67,7 +68,7 @@ fn put_counted_lines(
     ensures fits { result ≤ at + 256 }
 {
     let count = progress.count();
-    let at = put_count_line(count, buffer, at);
+    let at = put_decimal_line(buffer, at, b"events", u64::from(count));
     put_due_line(progress, refusal, count, buffer, at)
 }
 
@@ -91,16 +92,6 @@ fn put_due_line(
         HeapRefusal::WrongCount => put_decimal_line(buffer, at, b"expected end", u64::from(count)),
         _ => at,
     }
-}
-
-// Writes how many events there were.
-#[tactic(auto, unfolding(crate::specs::HeapWhys::count_line))]
-fn put_count_line(count: u32, buffer: &mut [u8], at: usize) -> usize
-    requires room { at + 28 ≤ length buffer.old }
-    ensures written { Writes at (count_line count) buffer.old buffer.new result }
-    ensures fits { result ≤ at + 28 }
-{
-    put_decimal_line(buffer, at, b"events", u64::from(count))
 }
 
 // Writes what is told of an event that was refused, where the text is one's line.

@@ -12,7 +12,7 @@ returns-in-OutsideHeap-clause-written c =
     let bounds = c.args.heap.now.bounds in
     let details = request_lines [] c.args.address c.args.size ++ bounds_line (codes "root") (codes " ") bounds.base bounds.top
     ++ right_lines c.args.size in
-    let root = rw (c.from.ensures, c.bounds-base.ensures.value) at c.put_bounds_line-at.ensures.written in (
+    let root = rw c.bounds-base.ensures.value at c.put_bounds_line-at.ensures.written in (
       details,
       subst (λ (r : HeapRefusal). AreEventDetails bounds (objects_in c.args.heap.now) (Malloc c.args.address c.args.size) r details)
           (sym c.in-OutsideHeap.is) refl,
