@@ -69,23 +69,6 @@ fn put_counted_lines(
 {
     let count = progress.count();
     let at = put_decimal_line(buffer, at, b"events", u64::from(count));
-    put_due_line(progress, refusal, count, buffer, at)
-}
-
-// Writes what has to come, after so many events.
-fn put_due_line(
-    progress: &Progress,
-    refusal: HeapRefusal,
-    count: u32,
-    buffer: &mut [u8],
-    at: usize,
-) -> usize
-    requires room { at + 128 ≤ length buffer.old }
-    ensures written { (line : List ℕ)
-        × ((beginning : Beginning) → StandsFor progress.now beginning → line ≡ due_line (due_of beginning) refusal count)
-        × Writes at line buffer.old buffer.new result }
-    ensures fits { result ≤ at + 128 }
-{
     match refusal {
         HeapRefusal::Misplaced => put_line(buffer, at, b"expected", progress.due_text()),
         HeapRefusal::Truncated => put_line(buffer, at, b"expected", WHOLE_LOG),

@@ -1,7 +1,6 @@
 //! Checking an input as a vector file, and pushing the line of the verdict.
 
-ghost use Rattle.std.specs.Prelude.{◌≡◌, ◌≢◌, ℕ, List, Err};
-ghost use Rattle.cap_vectors.specs.VectorFiles.{vector_line};
+ghost use Rattle.std.specs.Prelude.{◌≡◌, ℕ, List};
 ghost use Rattle.cap_program.specs.Doings.{IsCounted, IsDone};
 ghost use Rattle.capcheck.specs.{Answers.vector_status, Doings.{ShowsCheckOf, StopsChecking}};
 
@@ -17,23 +16,15 @@ pub fn check_source<S: Source, K: Sink>(source: &mut S, sink: &mut K) -> Result<
     ensures written { IsCounted Fault.Write result (K.faults sink.old) (K.faults sink.new) }
 {
     match vectors(source) {
-        Ok(verdict) => push_check(&verdict, sink),
+        Ok(verdict) => {
+            let mut text = [0u8; 64];
+            let length = vector_text(&verdict, &mut text);
+            match push_all(sink, &text[..length]) {
+                Ok(()) => Ok(vector_status(&verdict)),
+                Err(PushFault) => Err(Fault::Write),
+            }
+        }
         Err(PullFault) => Err(Fault::Read),
-    }
-}
-
-// Pushes the line of a verdict on a vector file.
-fn push_check<K: Sink>(verdict: &VectorVerdict, sink: &mut K) -> Result<u8, Fault>
-    ensures done { IsDone (λ text status. (text ≡ vector_line verdict.now) × (status ≡ vector_status verdict.now)) (λ fault. ⊥)
-        (K.took sink.old sink.new) result }
-    ensures unread { result ≢ Err Fault.Read }
-    ensures written { IsCounted Fault.Write result (K.faults sink.old) (K.faults sink.new) }
-{
-    let mut text = [0u8; 64];
-    let length = vector_text(verdict, &mut text);
-    match push_all(sink, &text[..length]) {
-        Ok(()) => Ok(vector_status(verdict)),
-        Err(PushFault) => Err(Fault::Write),
     }
 }
 

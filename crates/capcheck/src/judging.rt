@@ -1,9 +1,7 @@
 //! Judging an input, and pushing the text of the verdict.
 
-ghost use Rattle.std.specs.Prelude.{◌≡◌, ℕ, List, Err, true};
-ghost use Rattle.cap_log.specs.Streams.{CountsOnly};
-ghost use Rattle.cap_log.specs.declared.judge_faults.JudgeToFault.TheVariants as judging;
-ghost use Rattle.cap_judge.specs.{Judgings.IsAnswerOf, Reports.{Reported, Tells}, VerdictLines.verdict_status};
+ghost use Rattle.std.specs.Prelude.{◌≡◌, ℕ, List, true};
+ghost use Rattle.cap_judge.specs.{Judgings.IsAnswerOf, Reports.Tells, VerdictLines.verdict_status};
 ghost use Rattle.cap_program.specs.{Doings.{IsCounted, IsDone}, Judging.{ShowsVerdict, StopsJudging, judged}};
 
 use cap_judge::{JudgeToFault, Verdict, judge_origins, judge_to, verdict_status};
@@ -25,24 +23,10 @@ pub fn judge_input<S: Source, K: Sink>(
     ensures read { IsCounted Fault.Read result (S.faults source.old) (S.faults source.new) }
     ensures written { IsCounted Fault.Write result (K.faults sink.old) (K.faults sink.new) }
 {
-    judged(report(alloc, origins, source, sink))
-}
-
-// Judges a source, and pushes the verdict, and the origins where these are asked for.
-fn report<S: Source, K: Sink>(
-    alloc: Global,
-    origins: bool,
-    source: &mut S,
-    sink: &mut K,
-) -> Result<Verdict, JudgeToFault>
-    ensures reported { Reported (λ bytes _. Tells origins bytes) S.gave S.ended K.took source.old source.new sink.old sink.new result }
-    ensures pulls_counted { CountsOnly (Err judging.Pull) (S.faults source.old) (S.faults source.new) result }
-    ensures pushes_counted { CountsOnly (Err judging.Push) (K.faults sink.old) (K.faults sink.new) result }
-{
     if origins {
-        judge_origins(alloc, source, sink)
+        judged(judge_origins(alloc, source, sink))
     } else {
-        judge_to(alloc, source, sink)
+        judged(judge_to(alloc, source, sink))
     }
 }
 

@@ -41,22 +41,16 @@ fn main(rt: HostRuntime) -> ExitCode {
     })
 }
 
-// Collects the words, and answers the order that they spell.
+// Runs the order that the words spell, on its input.
 fn answer(rt: &HostRuntime) -> Result<u8, AllocError> {
-    let Some(texts) = collect_words(rt)? else {
-        return Ok(answer_order(rt, None));
-    };
+    let texts = collect_words(rt)?.unwrap_or(Vec::new(rt.alloc()));
     let mut words = Vec::new(rt.alloc());
     for text in &texts {
         words.push(text.as_str())?;
     }
-    Ok(answer_order(rt, read_words(words.as_slice())))
-}
-
-// Opens the input of an order, and runs it.
-fn answer_order(rt: &HostRuntime, order: Option<Order<'_>>) -> u8 {
+    let order = read_words(words.as_slice());
     let (out, errors) = (&mut rt.stdout(), &mut rt.stderr());
-    match order {
+    Ok(match order {
         Some(
             Order::Judge {
                 file: Some(path),
@@ -72,5 +66,5 @@ fn answer_order(rt: &HostRuntime, order: Option<Order<'_>>) -> u8 {
             errors,
         ),
         _ => run(rt.alloc(), order, None::<File>, out, errors),
-    }
+    })
 }

@@ -30,17 +30,7 @@ fn read_explain<'a>(operands: &[&'a str]) -> Option<Order<'a>>
     let (memory, operands) = take_option("--memory", operands);
     let (tag, operands) = take_option("--tag", operands);
     match operands {
-        [hex] => {
-            if is_operand(hex) {
-                Some(Order::Explain {
-                    memory,
-                    tag,
-                    hex: *hex,
-                })
-            } else {
-                None
-            }
-        }
+        [hex] if is_operand(hex) => Some(Order::Explain { memory, tag, hex }),
         _ => None,
     }
 }
@@ -51,15 +41,8 @@ fn read_round<'a>(operands: &[&'a str]) -> Option<Order<'a>>
     ensures none { IfNone result ((order : Order) → Asks (codes "round" ∷ map (λ word. word.now) operands.now) order → ⊥) }
 {
     match operands {
-        [base, length] => {
-            if is_operand(base) && is_operand(length) {
-                Some(Order::Round {
-                    base: *base,
-                    length: *length,
-                })
-            } else {
-                None
-            }
+        [base, length] if is_operand(base) && is_operand(length) => {
+            Some(Order::Round { base, length })
         }
         _ => None,
     }
@@ -85,7 +68,7 @@ fn read_vectors<'a>(operands: &[&'a str]) -> Option<Order<'a>>
     ensures none { IfNone result ((order : Order) → Asks (codes "vectors" ∷ map (λ word. word.now) operands.now) order → ⊥) }
 {
     match operands {
-        [file] if is_operand(file) => Some(Order::Vectors { file: *file }),
+        [file] if is_operand(file) => Some(Order::Vectors { file }),
         _ => None,
     }
 }
