@@ -43,13 +43,6 @@ pub fn tell_words<F: Sink>(words: &[&str], faults: &mut F)
         × IsPushed F.took F.faults faults.old faults.new line }
 {
     let (complaint, word) = complaint_of(words);
-    push_complaint(complaint, word, faults);
-}
-
-// Pushes the line of a complaint.
-fn push_complaint<F: Sink>(complaint: Complaint, word: &str, faults: &mut F)
-    ensures pushed { IsPushed F.took F.faults faults.old faults.new (complaint_line complaint word.now) }
-{
     let mut line = [0u8; 512];
     let length = put_complaint(complaint, word, &mut line);
     let _pushed = push_all(faults, &line[..length]);
@@ -130,19 +123,13 @@ fn complaint_of<'a>(words: &[&'a str]) -> (Complaint, &'a str)
     let Some((command, operands)) = words.split_first() else {
         return (Complaint::NoCommand, "");
     };
-    if *command == "why" {
-        return operand_complaint(false, false, operands);
+    match *command {
+        "why" => operand_complaint(false, false, operands),
+        "heap" => operand_complaint(true, false, operands),
+        "--help" | "--version" => (Complaint::Together, ""),
+        command if is_operand(command) => (Complaint::Command, command),
+        command => (Complaint::Option, command),
     }
-    if *command == "heap" {
-        return operand_complaint(true, false, operands);
-    }
-    if *command == "--help" || *command == "--version" {
-        return (Complaint::Together, "");
-    }
-    if is_operand(command) {
-        return (Complaint::Command, command);
-    }
-    (Complaint::Option, command)
 }
 
 // What is wrong with the words after a command, before or after the file was seen.

@@ -3,8 +3,7 @@
 #![tactic(auto)]
 
 mod complaints;
-mod explaining;
-mod heaps;
+mod judging;
 #[cfg(test)]
 mod rows;
 mod running;
@@ -50,13 +49,8 @@ fn answer(rt: &HostRuntime) -> Result<u8, AllocError> {
         tell_words(words.as_slice(), &mut WriteSink::new(&mut rt.stderr()));
         return Ok(Fault::BadWords.status());
     };
-    Ok(answer_order(rt, order))
-}
-
-// Opens the input of an order, and runs it.
-fn answer_order(rt: &HostRuntime, order: Order<'_>) -> u8 {
     let (out, errors) = (&mut rt.stdout(), &mut rt.stderr());
-    match file_of(order) {
+    Ok(match file_of(order) {
         Some(path) => match File::open(rt, path) {
             Ok(file) => run(rt.alloc(), Some(order), Some(file), out, errors),
             Err(error) => {
@@ -65,14 +59,13 @@ fn answer_order(rt: &HostRuntime, order: Order<'_>) -> u8 {
             }
         },
         None => run(rt.alloc(), Some(order), Some(rt.stdin()), out, errors),
-    }
+    })
 }
 
 // The file that an order names.
 pub(crate) fn file_of<'a>(order: Order<'a>) -> Option<&'a str> {
     match order {
-        Order::Why { file, .. } => file,
-        Order::Heap { file, .. } => file,
+        Order::Why { file, .. } | Order::Heap { file, .. } => file,
         Order::Help | Order::Version => None,
     }
 }

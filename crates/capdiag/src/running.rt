@@ -4,8 +4,7 @@ ghost use Rattle.std.specs.Prelude.{◌≡◌, ◌≤◌, None, length};
 ghost use Rattle.cap_program.specs.{Doings.known_bytes, Runs.IsRan};
 ghost use Rattle.capdiag.specs.Answers.{order_meaning};
 
-use crate::explaining::explain_source;
-use crate::heaps::judge_heap_source;
+use crate::judging::{explain_source, judge_heap_source};
 use crate::showing::{show_help, show_version};
 use crate::words::Order;
 use cap_log::{Sink, Source};

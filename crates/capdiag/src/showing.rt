@@ -3,18 +3,21 @@
 ghost use Rattle.std.specs.Prelude.{◌≡◌, ◌≢◌, [], Err, Some, false};
 ghost use Rattle.cap_program.specs.Doings.{IsCounted, IsDone};
 ghost use Rattle.capdiag.specs.{declared.words.Order.TheVariants.{Help, Version}, Answers.{Fails, Shows}};
-ghost use Rattle.capdiag.specs.Showings.{help_text, version_line};
 
 use cap_log::Sink;
 use cap_program::{Fault, show};
 
 /// Pushes how the program is used.
+#[tactic(auto, unfolding(crate::specs::Showings::help_text))]
 pub fn show_help<K: Sink>(out: &mut K) -> Result<u8, Fault>
     ensures done { IsDone (Shows (Some Help) [] false) (Fails (Some Help) []) (K.took out.old out.new) result }
     ensures unread { result ≢ Err Fault.Read }
     ensures written { IsCounted Fault.Write result (K.faults out.old) (K.faults out.new) }
 {
-    show(help_text(), out)
+    show(
+        b"usage: capdiag why [--origins] [FILE]\n       capdiag heap [--report] [--why] [FILE]\n       capdiag --help | --version\n\nJudge a log, from FILE or standard input, and say why it is rejected.\n\n  why        the log of a machine: the verdict, and after a no the diagnosis\n  --origins  after a yes, the root of each tagged capability at the end\n  heap       the log of an allocator: the verdict\n  --report   after a yes, what exact bounds would cost\n  --why      after a no, the diagnosis\n\nExit status: 0 yes, 1 no, 2 wrong arguments, 3 failed input, output or memory.\n",
+        out,
+    )
 }
 
 /// Pushes its version.
@@ -23,20 +26,5 @@ pub fn show_version<K: Sink>(out: &mut K) -> Result<u8, Fault>
     ensures unread { result ≢ Err Fault.Read }
     ensures written { IsCounted Fault.Write result (K.faults out.old) (K.faults out.new) }
 {
-    show(version_line(), out)
-}
-
-// How it is used.
-#[tactic(auto, unfolding(crate::specs::Showings::help_text))]
-fn help_text() -> &'static [u8]
-    ensures text { result.now ≡ help_text }
-{
-    b"usage: capdiag why [--origins] [FILE]\n       capdiag heap [--report] [--why] [FILE]\n       capdiag --help | --version\n\nJudge a log, from FILE or standard input, and say why it is rejected.\n\n  why        the log of a machine: the verdict, and after a no the diagnosis\n  --origins  after a yes, the root of each tagged capability at the end\n  heap       the log of an allocator: the verdict\n  --report   after a yes, what exact bounds would cost\n  --why      after a no, the diagnosis\n\nExit status: 0 yes, 1 no, 2 wrong arguments, 3 failed input, output or memory.\n"
-}
-
-// Its version, as a line.
-fn version_line() -> &'static [u8]
-    ensures text { result.now ≡ version_line }
-{
-    b"capdiag 1.2.0\n"
+    show(b"capdiag 1.2.0\n", out)
 }

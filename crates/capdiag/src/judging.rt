@@ -1,10 +1,13 @@
-//! Judging an input, and pushing the verdict with the diagnosis.
+//! Judging an input, and pushing the verdict with what is asked for.
 
 ghost use Rattle.std.specs.Prelude.{◌≡◌, ℕ, List, true};
+ghost use Rattle.cap_heap.specs.{HeapVerdicts.IsHeapAnswerOf, VerdictLines.heap_status};
 ghost use Rattle.cap_judge.specs.{Judgings.IsAnswerOf, VerdictLines.verdict_status};
 ghost use Rattle.cap_report.specs.Whys.{Explains};
 ghost use Rattle.cap_program.specs.{Doings.{IsCounted, IsDone}, Judging.{ShowsVerdict, StopsJudging, judged}};
+ghost use Rattle.capdiag.specs.Answers.{ShowsHeap};
 
+use cap_heap::{HeapVerdict, heap_status, judge_heap_to};
 use cap_judge::{JudgeToFault, Verdict, verdict_status};
 use cap_log::{Sink, Source};
 use cap_program::{Fault, fault_of};
@@ -34,6 +37,34 @@ fn judged(answer: Result<Verdict, JudgeToFault>) -> Result<u8, Fault>
 {
     match answer {
         Ok(verdict) => Ok(verdict_status(&verdict)),
+        Err(fault) => Err(fault_of(fault)),
+    }
+}
+
+/// Judges what a source gives as an allocator's log, pushes the line of the verdict and, where they are asked for,
+/// after a `yes` the report of the log and after a `no` that of the line that was refused, and answers the status
+/// that goes with the verdict.
+pub fn judge_heap_source<S: Source, K: Sink>(
+    alloc: Global,
+    report: bool,
+    why: bool,
+    source: &mut S,
+    sink: &mut K,
+) -> Result<u8, Fault>
+    ensures done { (given : List ℕ) × S.gave source.old source.new given
+        × IsDone (ShowsHeap report why given (S.ended source.new)) (StopsJudging (IsHeapAnswerOf given true)) (K.took sink.old sink.new) result }
+    ensures read { IsCounted Fault.Read result (S.faults source.old) (S.faults source.new) }
+    ensures written { IsCounted Fault.Write result (K.faults sink.old) (K.faults sink.new) }
+{
+    heap_judged(judge_heap_to(alloc, report, why, source, sink))
+}
+
+// The status that goes with a verdict, or the fault that came instead.
+fn heap_judged(answer: Result<HeapVerdict, JudgeToFault>) -> Result<u8, Fault>
+    ensures value { result ≡ judged heap_status answer }
+{
+    match answer {
+        Ok(verdict) => Ok(heap_status(&verdict)),
         Err(fault) => Err(fault_of(fault)),
     }
 }
