@@ -17,7 +17,6 @@ use Rattle.cap_heap.specs.{HeapLines.{IsHeapLineInRange, heap_spelling}, HeapLog
 use Rattle.cap_heap.specs.{HeapVerdicts.{IsHeapVerdictOf, Lasts, MayLackHeapMemory, ReportsAfter}, Heaps.live_in}
 use Rattle.cap_heap.specs.Judgings.{JudgedBy, StopsAfter, answer_at, finished_in, refused_in}
 use Rattle.cap_heap.specs.Progresses.{StandsFor, Stays, TakesText, EndsText, IsAt, IsStopped, LacksMemory}
-use Rattle.cap_heap.specs.declared.stage.Stage.TheVariants as stages
 use Rattle.cap_heap.proofs.{BeginningLemmas.{begins, fault_of, is_log}, Optimal.optimal}
 
 pub accepted : (progress : Progress) (beginning : Beginning) → StandsFor progress beginning → IsAccepted beginning

@@ -159,12 +159,11 @@ fn operand_complaint<'a>(
 fn is_known(is_heap: bool, word: &str) -> bool
     ensures known { IsTrue result ↔ IsKnown is_heap word.now }
 {
-    if word == "--help" {
-        true
-    } else if is_heap {
-        word == "--report" || word == "--why"
-    } else {
-        word == "--origins"
+    match word {
+        "--help" => true,
+        "--report" | "--why" => is_heap,
+        "--origins" => !is_heap,
+        _ => false,
     }
 }
 

@@ -61,7 +61,13 @@ fn other_run<'a>(alloc: Global, row: &'a str) -> Result<Option<&'a str>, AllocEr
         for run in runs.split(" / ") {
             let (mut text, mut told) = (Vec::new(alloc), Vec::new(alloc));
             let words = words_of(alloc, run)?;
-            let ended = outcome(alloc, words.as_slice(), input.as_slice(), &mut text, &mut told);
+            let ended = outcome(
+                alloc,
+                words.as_slice(),
+                input.as_slice(),
+                &mut text,
+                &mut told,
+            );
             let is_same = text.as_slice() == out.as_slice() && told.as_slice() == err.as_slice();
             if ended != status || !is_same {
                 return Ok(Some(run));

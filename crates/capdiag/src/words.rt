@@ -1,8 +1,7 @@
 //! The words after the program's name.
 
-ghost use Rattle.std.specs.Prelude.{◌≡◌, [], ◌∷◌, ℕ, Bool, List, Option, IfSome, IfNone, codes, false, map, true};
-ghost use Rattle.std.proofs.Common.{Bor};
-ghost use Rattle.capdiag.specs.{declared.words.Order.TheVariants.{Heap, Why}, Orders.Asks};
+ghost use Rattle.std.specs.Prelude.{◌≡◌, [], ◌∷◌, IfSome, IfNone, codes, false, map, true};
+ghost use Rattle.capdiag.specs.Orders.{Asks};
 
 use cap_program::{is_operand, take_option};
 
@@ -65,23 +64,13 @@ fn read_why<'a>(operands: &[&'a str]) -> Option<Order<'a>>
     if is_help(operands) {
         return Some(Order::Help);
     }
-    let (origins, file) = read_why_options(operands)?;
-    Some(Order::Why { origins, file })
-}
-
-// Reads the options of `why` and its file.
-fn read_why_options<'a>(operands: &[&'a str]) -> Option<(bool, Option<&'a str>)>
-    ensures some { IfSome result (λ p. Asks (codes "why" ∷ map (λ word. word.now) operands.now) (Why p.0 p.1)) }
-    ensures none { IfNone result ((origins : Bool) (file : Option (Bor (List ℕ)))
-        → Asks (codes "why" ∷ map (λ word. word.now) operands.now) (Why origins file) → ⊥) }
-{
     let (origins, operands) = take_option("--origins", operands);
     let file = match operands {
         [] => None,
         [file] if is_operand(file) => Some(*file),
         _ => return None,
     };
-    Some((origins, file))
+    Some(Order::Why { origins, file })
 }
 
 // Reads the words after `heap`.
@@ -92,16 +81,6 @@ fn read_heap<'a>(operands: &[&'a str]) -> Option<Order<'a>>
     if is_help(operands) {
         return Some(Order::Help);
     }
-    let (report, why, file) = read_heap_options(operands)?;
-    Some(Order::Heap { report, why, file })
-}
-
-// Reads the options of `heap` and its file.
-fn read_heap_options<'a>(operands: &[&'a str]) -> Option<(bool, bool, Option<&'a str>)>
-    ensures some { IfSome result (λ p. Asks (codes "heap" ∷ map (λ word. word.now) operands.now) (Heap p.0 p.1 p.2)) }
-    ensures none { IfNone result ((report why : Bool) (file : Option (Bor (List ℕ)))
-        → Asks (codes "heap" ∷ map (λ word. word.now) operands.now) (Heap report why file) → ⊥) }
-{
     let (report, operands) = take_option("--report", operands);
     let (why, operands) = take_option("--why", operands);
     let file = match operands {
@@ -109,5 +88,5 @@ fn read_heap_options<'a>(operands: &[&'a str]) -> Option<(bool, bool, Option<&'a
         [file] if is_operand(file) => Some(*file),
         _ => return None,
     };
-    Some((report, why, file))
+    Some(Order::Heap { report, why, file })
 }
