@@ -5,7 +5,7 @@ use Rattle.std.proofs.{Common.{Err, inl, inr, refl, sym, subst, ◌∙◌, appen
 use Rattle.std.proofs.lemmas.Option.{none-some}
 use Rattle.cap_log.specs.Streams.{next_count}
 use Rattle.cap_program.specs.declared.faults.Fault.{Fault}
-use Rattle.cap_program.specs.declared.faults.Fault.TheVariants.{BadWords, BadWord, BadRequest, Read, Write, NoMemory}
+use Rattle.cap_program.specs.declared.faults.Fault.TheVariants.{Read, Write}
 use Rattle.cap_program.specs.{Commands.Meaning, Doings.{IsFollowed, gave_by, ended_by, known_bytes, IsDone, IsCounted}}
 use Rattle.cap_program.specs.Doings.{IsInputCounted, IsHandedOn, IsPushed}
 
@@ -24,11 +24,7 @@ pub done_map : (shows : List ℕ → ℕ → Type 0) (fails : Fault → Type 0) 
     → ((xs : List ℕ) → took xs → told xs) → IsDone shows fails took done → IsDone shows fails told done
 done_map shows fails took told (Ok status) f d = (d.0, d.1, f d.0 d.2)
 done_map shows fails took told (Err Write) f d = (d.0, d.1, d.2, d.3, f (take d.3 d.0) d.4)
-done_map shows fails took told (Err BadWords) f d = (d.0, f [] d.1)
-done_map shows fails took told (Err BadWord) f d = (d.0, f [] d.1)
-done_map shows fails took told (Err BadRequest) f d = (d.0, f [] d.1)
-done_map shows fails took told (Err Read) f d = (d.0, f [] d.1)
-done_map shows fails took told (Err NoMemory) f d = (d.0, f [] d.1)
+done_map shows fails took told (Err fault) f d = (d.0, f [] d.1)
 
 -- what was taken stays taken where nothing follows
 pub then_nothing : {K : Type 0} (took : K → K → List ℕ → Type 0)

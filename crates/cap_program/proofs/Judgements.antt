@@ -29,10 +29,7 @@ pub stopped_unfaulty : {V : Type 0} (answers : Result V JudgeFault → Type 0) (
     → (status_of fault ≡ 2) ↔ ⊥
 stopped_unfaulty answers Fault.Read stops = (λ two. absurd (cc), λ faulty. absurd faulty)
 stopped_unfaulty answers Fault.NoMemory stops = (λ two. absurd (cc), λ faulty. absurd faulty)
-stopped_unfaulty answers Fault.BadWords stops = absurd stops
-stopped_unfaulty answers Fault.BadWord stops = absurd stops
-stopped_unfaulty answers Fault.BadRequest stops = absurd stops
-stopped_unfaulty answers Fault.Write stops = absurd stops
+stopped_unfaulty answers fault stops = absurd stops
 
 -- the bytes of an input that gave these: all that are known of it, or those given
 pub record Known (left : Option (List ℕ)) (given : List ℕ) (ended : Bool) : Type 0 where

@@ -68,11 +68,7 @@ module _ (shows : List ℕ → ℕ → Type 0) (fails : List ℕ → Fault → T
     stopped = λ three. (take d.3 d.0, inr (d.0, d.1, known d.0 d.1 d.2, d.3, refl), d.4);
     failed = ((d.0, d.1, known d.0 d.1 d.2), refl, λ other. absurd (other refl));
   }
-  ran_by (Err BadWords) d = failed BadWords d.0 d.1 (given, rest, gives, d.0)
-  ran_by (Err BadWord) d = failed BadWord d.0 d.1 (given, rest, gives, d.0)
-  ran_by (Err BadRequest) d = failed BadRequest d.0 d.1 (given, rest, gives, d.0)
-  ran_by (Err Read) d = failed Read d.0 d.1 (given, rest, gives, d.0)
-  ran_by (Err NoMemory) d = failed NoMemory d.0 d.1 (given, rest, gives, d.0)
+  ran_by (Err fault) d = failed fault d.0 d.1 (given, rest, gives, d.0)
 
 -- the same where the status is told apart
 pub ran_at : (prints : List ℕ → ℕ → Type 0) (belongs : Fault → Type 0) (faulty : Type 0) (before after : Option (List ℕ))

@@ -7,8 +7,8 @@ use Rattle.hex.proofs.HexLemmas.{decode_sized-encode_lower}
 use Rattle.cap_word.specs.Digits.{hex_digits}
 use Rattle.cap_word.proofs.{DigitLemmas.{hex_of_bytes, IsBytes-bytes_high_first}, TextLemmas.length-bytes}
 use Rattle.cap_texts.proofs.MemoryTexts.{spelled_memory}
-use Rattle.cap_program.specs.declared.faults.Fault.{Fault, TheVariants.{BadWords, BadWord, BadRequest, Read, Write}}
-use Rattle.cap_program.specs.{declared.faults.Fault.TheVariants.NoMemory, Faults.status_of}
+use Rattle.cap_program.specs.declared.faults.Fault.{Fault, TheVariants.{BadWord, BadRequest}}
+use Rattle.cap_program.specs.{Faults.status_of}
 use Rattle.capcheck.specs.Operands.{SpellsRequest, RefusesRequest, SpellsWord}
 
 -- the digits of a number, decoded
@@ -28,10 +28,7 @@ one_number text m n m_fits n_fits is_m is_n =
 pub refused_status : (base_word length_word : List ℕ) (fault : Fault) → RefusesRequest base_word length_word fault → status_of fault ≡ 2
 refused_status base_word length_word BadWord none = refl
 refused_status base_word length_word BadRequest above = refl
-refused_status base_word length_word BadWords impossible = absurd impossible
-refused_status base_word length_word Read impossible = absurd impossible
-refused_status base_word length_word Write impossible = absurd impossible
-refused_status base_word length_word NoMemory impossible = absurd impossible
+refused_status base_word length_word fault impossible = absurd impossible
 
 -- where two words are refused as a request, the status is that of an order that cannot be followed
 pub refused_request : (base_word length_word : List ℕ) (fault : Fault) → RefusesRequest base_word length_word fault
@@ -45,10 +42,7 @@ refused_request base_word length_word BadRequest (base, length, spelled, above) 
       omega arith,
   λ faulty. refl,
 )
-refused_request base_word length_word BadWords impossible = absurd impossible
-refused_request base_word length_word Read impossible = absurd impossible
-refused_request base_word length_word Write impossible = absurd impossible
-refused_request base_word length_word NoMemory impossible = absurd impossible
+refused_request base_word length_word fault impossible = absurd impossible
 
 -- a text that isn't the digits of a number of 128 bits spells no word, in neither way
 pub no_word : (memory : Bool) (text : List ℕ) → ((n : ℕ) → n < 2 ^ 128 → text ≡ hex_digits 32 n → ⊥) → (w : ℕ) → w < 2 ^ 128

@@ -9,8 +9,8 @@ use Rattle.cap_vectors.specs.VectorFiles.{FailsFirst, IsVectorVerdict, IsVectorV
 use Rattle.cap_judge.specs.{declared.verdict.Verdict.Verdict, Judgings.IsAnswerOf, Reports.{IsPushedFor, Tells}}
 use Rattle.cap_judge.specs.{VerdictLines.verdict_status, Verdicts.IsVerdict}
 use Rattle.cap_judge.proofs.{ReportLemmas.{tells_known, unanswered, verdict_few}, SourceLemmas.of_all}
-use Rattle.cap_program.specs.declared.faults.Fault.{Fault, TheVariants.{BadWords, BadWord, BadRequest, Read, Write}}
-use Rattle.cap_program.specs.{declared.faults.Fault.TheVariants.NoMemory, Commands.IsMeant, Doings.IsDone}
+use Rattle.cap_program.specs.declared.faults.Fault.{Fault, TheVariants.{BadWords, BadWord, Read}}
+use Rattle.cap_program.specs.{Commands.IsMeant, Doings.IsDone}
 use Rattle.cap_program.specs.{Faults.status_of, Judging.{ShowsVerdict, StopsJudging, judged}}
 use Rattle.cap_program.proofs.Judgements.{known_of, stopped_unfaulty}
 use Rattle.capcheck.specs.declared.words.Order.{Order, TheVariants.{Explain, Round, Judge, Vectors}}
@@ -85,26 +85,14 @@ unfaulty (Some (Vectors file)) given ended text status shows faulty = faulty
 -- a fault has status 2 just where the order cannot be followed
 asked_fault : (order : Option Order) (given : List ℕ) (fault : Fault) → Fails order given fault → (status_of fault ≡ 2) ↔ IsFaulty order
 asked_fault None given BadWords fails = (λ two. tt, λ faulty. refl)
-asked_fault None given BadWord fails = absurd fails
-asked_fault None given BadRequest fails = absurd fails
-asked_fault None given Read fails = absurd fails
-asked_fault None given Write fails = absurd fails
-asked_fault None given NoMemory fails = absurd fails
+asked_fault None given fault fails = absurd fails
 asked_fault (Some (Explain memory tag hex)) given BadWord fails = (λ two. fails, λ faulty. refl)
-asked_fault (Some (Explain memory tag hex)) given BadWords fails = absurd fails
-asked_fault (Some (Explain memory tag hex)) given BadRequest fails = absurd fails
-asked_fault (Some (Explain memory tag hex)) given Read fails = absurd fails
-asked_fault (Some (Explain memory tag hex)) given Write fails = absurd fails
-asked_fault (Some (Explain memory tag hex)) given NoMemory fails = absurd fails
+asked_fault (Some (Explain memory tag hex)) given fault fails = absurd fails
 asked_fault (Some (Round base length)) given fault fails =
     (λ two. (refused_request base.now length.now fault fails).0 two, λ faulty. refused_status base.now length.now fault fails)
 asked_fault (Some (Judge origins file)) given fault fails = stopped_unfaulty (IsAnswerOf given true) fault fails
 asked_fault (Some (Vectors file)) given Read fails = (λ two. absurd (cc), λ faulty. absurd faulty)
-asked_fault (Some (Vectors file)) given BadWords fails = absurd fails
-asked_fault (Some (Vectors file)) given BadWord fails = absurd fails
-asked_fault (Some (Vectors file)) given BadRequest fails = absurd fails
-asked_fault (Some (Vectors file)) given Write fails = absurd fails
-asked_fault (Some (Vectors file)) given NoMemory fails = absurd fails
+asked_fault (Some (Vectors file)) given fault fails = absurd fails
 
 -- the meaning of an order, its faults and its status agree
 pub orders_meant : IsMeant order_meaning

@@ -9,8 +9,8 @@ use Rattle.cap_judge.specs.{declared.verdict.Verdict.{Verdict, TheVariants.{Yes,
 use Rattle.cap_judge.specs.{Judgings.IsVerdictOf, Reports.IsPushedFor, VerdictLines.verdict_status, Verdicts.IsVerdict}
 use Rattle.cap_judge.proofs.{ReportLemmas.{tells_known, unanswered, verdict_few}, SourceLemmas.of_all}
 use Rattle.cap_report.specs.{FaultReports.IsReport, Whys.Explains}
-use Rattle.cap_program.specs.declared.faults.Fault.{Fault, TheVariants.{BadWords, BadWord, BadRequest, Read, Write}}
-use Rattle.cap_program.specs.{declared.faults.Fault.TheVariants.NoMemory, Commands.IsMeant, Doings.IsDone}
+use Rattle.cap_program.specs.declared.faults.Fault.{Fault, TheVariants.{BadWords}}
+use Rattle.cap_program.specs.{Commands.IsMeant, Doings.IsDone}
 use Rattle.cap_program.specs.{Faults.status_of, Judging.{ShowsVerdict, StopsJudging, judged}}
 use Rattle.cap_program.proofs.Judgements.{known_of, stopped_unfaulty}
 use Rattle.capdiag.specs.declared.words.Order.{Order, TheVariants.{Help, Version, Why, Heap}}
@@ -83,11 +83,7 @@ unfaulty (Some order) given ended text status shows faulty = faulty
 asked_fault : (order : Option Order) (given : List ℕ) (fault : Fault) → Fails order given fault
     → (status_of fault ≡ 2) ↔ IsFaulty order
 asked_fault None given BadWords fails = (λ two. tt, λ faulty. refl)
-asked_fault None given BadWord fails = absurd fails
-asked_fault None given BadRequest fails = absurd fails
-asked_fault None given Read fails = absurd fails
-asked_fault None given Write fails = absurd fails
-asked_fault None given NoMemory fails = absurd fails
+asked_fault None given fault fails = absurd fails
 asked_fault (Some Help) given fault fails = absurd fails
 asked_fault (Some Version) given fault fails = absurd fails
 asked_fault (Some (Why origins file)) given fault fails = stopped_unfaulty (IsAnswerOf given true) fault fails
