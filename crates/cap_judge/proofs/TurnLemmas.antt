@@ -1,7 +1,7 @@
 -- What lines lead to, and where a judge stops.
 use Rattle.std.proofs.Common.{◌≡◌, ◌≢◌, ℕ, ◌+◌, ◌-◌, inl, inr, true, false, List, [], ◌∷◌, ◌++◌, length, take, drop}
 use Rattle.std.proofs.Common.{refl, sym, ap, subst, ◌∙◌, arith, append-nil, append_assoc, not, None, Some, Option}
-use Rattle.std.proofs.Common.{Result, Ok, Err, Bool, ◌⊎◌, ◌↔◌, ◌<◌, IfSome, IfErr, OnOk, MatchResult, nat_lt}
+use Rattle.std.proofs.Common.{Result, Ok, Err, Bool, ◌⊎◌, ◌↔◌, ◌<◌, IfSome, IfErr, MatchResult, nat_lt}
 use Rattle.std.proofs.{Common.{length-append, length-drop, take_at}, lemmas.Bool.{not-false, false≢true}}
 use Rattle.std.proofs.lemmas.{Grind.flat_map-append, List.{take-append-le, Prefix.end_rest}, Option.none-some}
 use Rattle.cap_word.specs.declared.word.Word.{Word}
@@ -20,9 +20,9 @@ use Rattle.cap_machine.proofs.AccountLemmas.{first_of-none}
 use Rattle.cap_judge.specs.declared.{faults.Fault.Fault, judges.Stop.Stop, verdict.TakeFault.TakeFault}
 use Rattle.cap_judge.specs.declared.verdict.{TakeFault.TheVariants.{NoLine, NoMemory}, Verdict.Verdict}
 use Rattle.cap_judge.specs.{declared.verdict.Verdict.TheVariants.{Yes, No}, Judgings.IsLastFront}
-use Rattle.cap_judge.specs.{Logs.{has_form, line_checks, text_of}, Readings.{EndsAs, EndsText, EndsAt, EndsFor, EndsIn}}
-use Rattle.cap_judge.specs.Readings.{Follows, Goes, GoesOrStops, IsAtFault, IsNoLine, Lacks, RefusesNext, StopsAt}
-use Rattle.cap_judge.specs.Readings.{Takes, TakesAll, TakesStep, at, due_of, due_at_end, lines_read, refused_at, Faults}
+use Rattle.cap_judge.specs.{Logs.{has_form, line_checks, text_of}, Readings.{AnswersLine, EndsAs, EndsText, EndsAt, EndsFor}}
+use Rattle.cap_judge.specs.Readings.{EndsIn, Follows, Goes, GoesOrStops, IsAtFault, IsNoLine, Known, Lacks, RefusesNext}
+use Rattle.cap_judge.specs.Readings.{StopsAt, Takes, TakesAll, TakesStep, at, due_of, due_at_end, lines_read, refused_at, Faults}
 use Rattle.cap_judge.specs.Turns.{Body, Ended, Reads, Stage, behind, refusal_at, Due, Refused}
 use Rattle.cap_judge.specs.declared.judges.Stage as code
 use Rattle.cap_judge.specs.declared.judges.Stage.TheVariants as stages
@@ -156,11 +156,16 @@ step_answered old new bytes step (Ok done) begins makes = (step, begins, makes_t
 step_answered old new bytes step (Err end) begins ends =
     let stop = step_ends old new step end ends in ((step, begins, stop.0), stop.1)
 
+-- what is known at a stage
+abbrev pub knowing : code.Stage → Held → Known
+knowing stage held = record { held = held; stage = stage }
+
 pub step_outcome : (stage : code.Stage) (old new : Held) (line : Line) (step : Step) (result : Result (Unit {0}) StepEnd)
     → stage ≡ stages.Body → line ≡ Line.Step step → AnswersStep old step result new
-    → OnOk result (Takes (at stage old) line (at stage new)) × IfErr result (EndsFor (at stage old) line)
-step_outcome stage old new line step (Ok done) is same makes = rw (is, same) (makes_takes old new step makes, tt)
-step_outcome stage old new line step (Err end) is same ended = rw (is, same) (tt, (step_ends old new step end ended).0)
+    → AnswersLine (knowing stage old) line result (knowing stage new)
+step_outcome stage old new line step (Ok done) is same makes = rw (is, same) (makes_takes old new step makes)
+step_outcome stage old new line step (Err end) is same ended =
+    let stop = step_ends old new step end ended in rw (is, same) (stop.0, ap (knowing stages.Body) stop.1)
 
 -- a root before all steps
 root_checked : (held : Held) (place : Place) (word : Word) → held.steps ≡ 0
@@ -172,13 +177,13 @@ root_checked held place word none =
 pub root_outcome : (stage : code.Stage) (old new : Held) (place : Place) (word : Word) (result : Result (Unit {0}) StepEnd)
     → stage ≡ stages.Body → old.steps ≡ 0
     → MatchResult result (λ _. TakesRoot old place word new) (λ end. EndsRoot old place word end new)
-    → OnOk result (Takes (at stage old) (Line.Root place word) (at stage new))
-    × IfErr result (EndsFor (at stage old) (Line.Root place word))
+    → AnswersLine (knowing stage old) (Line.Root place word) result (knowing stage new)
 root_outcome stage old new place word (Ok done) is none takes =
-    rw is ((root_checked old place word none ∙ takes.checks, ap body takes.account), tt)
-root_outcome stage old new place word (Err (StepEnd.Refused refusal)) is none ended = rw is (tt, root_checked old place word none ∙ ended.0)
+    rw is (root_checked old place word none ∙ takes.checks, ap body takes.account)
+root_outcome stage old new place word (Err (StepEnd.Refused refusal)) is none ended =
+    rw is (root_checked old place word none ∙ ended.0, ap (knowing stages.Body) ended.1)
 root_outcome stage old new place word (Err StepEnd.NoMemory) is none ended =
-    rw is (tt, (refl, root_checked old place word none ∙ ended.0, ended.1))
+    rw is ((refl, root_checked old place word none ∙ ended.0, ended.1), ap (knowing stages.Body) ended.2)
 
 -- Fronts
 

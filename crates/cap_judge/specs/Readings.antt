@@ -100,6 +100,12 @@ EndsAt stage bytes ends.NoMemory = (more : List ℕ) × Lacks stage bytes more
 abbrev pub Takes : Stage → Line → Stage → Type 0
 Takes old line new = Allows old line × (new ≡ behind old line)
 
+-- a judge's answer to a line: it leads to what the judge knows then; or it isn't taken, for this reason, and nothing has
+-- changed
+abbrev pub AnswersLine : Known → Line → Result (Unit {0}) StepEnd → Known → Type 0
+AnswersLine old line (Ok done) new = Takes (at old.stage old.held) line (at new.stage new.held)
+AnswersLine old line (Err end) new = EndsFor (at old.stage old.held) line end × (new ≡ old)
+
 -- the bytes are lines that lead from a stage to a stage
 pub record Goes (old : Stage) (bytes : List ℕ) (new : Stage) : Type 0 where
   pub lines : List Line

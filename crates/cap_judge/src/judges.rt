@@ -4,18 +4,17 @@
 ghost use Rattle.std.specs.Prelude.{◌≡◌, ◌≤◌, ◌<◌, ◌^◌, ◌↔◌, ◌⊎◌, ℕ, List, [], ◌++◌, length, take, drop, true, false};
 ghost use Rattle.std.specs.Prelude.{Err, None, IfSome, OnOk, IfErr, ◌≢◌, ◌∷◌, ◌+◌, IfOk, Some};
 ghost use Rattle.std.specs.FinMap as map;
-ghost use Rattle.cap_ops.specs.declared.refusal.Refusal.TheVariants.{BadLine, Misplaced};
 ghost use Rattle.cap_log.specs.{declared.lines.Line.Line, FaultLines.bytes_of};
 ghost use Rattle.cap_log.specs.Front.{IsCut, IsFront, IsFrontText, IsLine, IsTooLong};
 ghost use Rattle.cap_log.specs.{Lines.{IsStepInRange, Spells, spelling, IsInRange, IsPlace}, Parts.Begins};
 ghost use Rattle.cap_log.specs.declared.lines.Line.TheVariants as lines;
 ghost use Rattle.cap_machine.specs.States.{granule_key, key_of};
 ghost use Rattle.cap_judge.specs.declared.{faults.Fault.Fault as FaultIn, judges.Stage.TheVariants.Body};
-ghost use Rattle.cap_judge.specs.declared.judges.Stage.TheVariants.{Refused as RefusedIn, Mode as ModeStage, Version};
+ghost use Rattle.cap_judge.specs.declared.judges.Stage.TheVariants.{Refused as RefusedIn};
 ghost use Rattle.cap_judge.specs.{declared.verdict.TakeFault.TheVariants.{NoLine, NoMemory}, Expectations.ExpectsAt};
-ghost use Rattle.cap_judge.specs.{Logs.{has_form, header_lines}, Readings.{EndsAs, EndsAt, EndsFor, EndsIn, EndsLine}};
-ghost use Rattle.cap_judge.specs.Readings.{EndsText, Faults, Follows, Goes, GoesOrStops, IsAtFault, IsUnmade};
-ghost use Rattle.cap_judge.specs.Readings.{IsFaultOf, IsNoLine, Lacks, RefusesNext, StopsAt, Takes, known_of};
+ghost use Rattle.cap_judge.specs.{Logs.{has_form, header_lines}, Readings.{AnswersLine, EndsAs, EndsAt, EndsIn, EndsLine}};
+ghost use Rattle.cap_judge.specs.Readings.{EndsText, Follows, Goes, GoesOrStops, IsAtFault, IsUnmade};
+ghost use Rattle.cap_judge.specs.Readings.{IsFaultOf, IsNoLine, Lacks, StopsAt, Takes, known_of};
 ghost use Rattle.cap_judge.specs.Readings.{lines_read, long_refusal, stage_of, verdict_so_far};
 ghost use Rattle.cap_judge.specs.{Turns.{refusal_at, rules_of, unread}, Verdicts.NamesEscapes};
 ghost use Rattle.cap_judge.specs.declared.judges.Stop.TheVariants as stops;
@@ -26,7 +25,7 @@ use crate::steps::{take_alone, take_steps};
 use crate::verdict::{Expected, TakeFault, Verdict};
 use cap_log::{FaultLine, Front, Line, Mode, Operands, Place, Step, front, read_line, write_line};
 use cap_machine::{Instruction, Machine, Refusal, Rules, StepEnd};
-use cap_word::{Cap, Word};
+use cap_word::Cap;
 use std::alloc::Global;
 use tagmem::{PageStore, TaggedStore};
 
@@ -126,7 +125,11 @@ impl<M: TaggedStore> Judge<M> {
         ensures no_memory { result ≡ Err NoMemory → Lacks (stage_of self.old) line.now [] }
     {
         if let Stage::Body = self.stage {
-            return self.take_body(line);
+            return match take_alone(&mut self.machine, line) {
+                Some(Ok(())) => Ok(()),
+                Some(Err(end)) => self.take_end(end, line),
+                None => self.take_whole(line),
+            };
         }
         self.take_whole(line)
     }
@@ -192,22 +195,6 @@ impl<M: TaggedStore> Judge<M> {
         ensures in_range { IfSome result IsPlace }
     {
         self.machine.origin(place)
-    }
-
-    // Takes the line of a step after the header, or bytes of any kind.
-    #[inline(always)]
-    fn take_body(&mut self, line: &[u8]) -> Result<(), TakeFault>
-        requires body { self.old.stage ≡ Body }
-        ensures taken { OnOk result (Follows (stage_of self.old) line.now (stage_of self.new)) }
-        ensures unchanged { IfErr result (λ _. known_of self.new ≡ known_of self.old) }
-        ensures no_line { (result ≡ Err NoLine) ↔ IsNoLine line.now }
-        ensures no_memory { result ≡ Err NoMemory → Lacks (stage_of self.old) line.now [] }
-    {
-        match take_alone(&mut self.machine, line) {
-            Some(Ok(())) => Ok(()),
-            Some(Err(end)) => self.take_end(end, line),
-            None => self.take_whole(line),
-        }
     }
 
     // Takes bytes of any kind as one line.
@@ -295,38 +282,36 @@ impl<M: TaggedStore> Judge<M> {
         ensures no_memory { result ≡ Err NoMemory
             → Lacks (stage_of self.old) (spelling (lines.Step (I.step step)) ++ 10 ∷ []) [] }
     {
+        match self.make_step(step) {
+            Ok(()) => Ok(()),
+            Err(end) => self.take_unmade(step.into_step(), end),
+        }
+    }
+
+    /// Makes a step by its numbers, if a step may come next. If it isn't made, nothing has changed:
+    /// [`Judge::take_unmade`] takes it, with the reason at which it ended, if it was tried.
+    #[inline(always)]
+    pub fn make_step<I: Instruction>(&mut self, step: I) -> Result<(), Option<StepEnd>>
+        ensures taken { OnOk result (Follows (stage_of self.old) (spelling (lines.Step (I.step step)) ++ 10 ∷ [])
+            (stage_of self.new)) }
+        ensures goes_on { OnOk result (verdict_so_far (stage_of self.new).due ≡ None) }
+        ensures same { IfErr result (λ _. self.new ≡ self.old) }
+        ensures unmade { IfErr result (λ end. IfSome end (IsUnmade self.old (I.step step))) }
+    {
         if let Stage::Body = self.stage {
             return match step.perform(&mut self.machine) {
                 Ok(()) => Ok(()),
-                Err(end) => self.take_unmade(step, Some(end)),
+                Err(end) => Err(Some(end)),
             };
         }
-        self.take_unmade(step, None)
+        Err(None)
     }
 
-    // Takes a step that was not made, for the reason at which it ended, if it was tried. The call gets a value of its
-    // own: so a step needn't stand in memory where it is made.
-    #[inline(always)]
-    fn take_unmade<I: Instruction>(
-        &mut self,
-        step: I,
-        end: Option<StepEnd>,
-    ) -> Result<(), TakeFault>
-        requires ends { IfSome end (IsUnmade self.old (I.step step)) }
-        ensures taken { OnOk result (Follows (stage_of self.old) (spelling (lines.Step (I.step step)) ++ 10 ∷ [])
-            (stage_of self.new)) }
-        ensures unchanged { IfErr result (λ _. known_of self.new ≡ known_of self.old) }
-        ensures line { result ≢ Err NoLine }
-        ensures no_memory { result ≡ Err NoMemory
-            → Lacks (stage_of self.old) (spelling (lines.Step (I.step step)) ++ 10 ∷ []) [] }
-    {
-        step.in_range();
-        self.take_written(step.into_step(), end)
-    }
-
-    // Takes a step by its line, which is written. A step that ended isn't tried again.
+    /// Takes a step that wasn't made, as [`Judge::take_line`] takes the line that spells it. That line is written; a
+    /// step that ended isn't tried again.
+    #[cold]
     #[inline(never)]
-    fn take_written(&mut self, step: Step, end: Option<StepEnd>) -> Result<(), TakeFault>
+    pub fn take_unmade(&mut self, step: Step, end: Option<StepEnd>) -> Result<(), TakeFault>
         requires range { IsStepInRange step }
         requires ends { IfSome end (IsUnmade self.old step) }
         ensures taken { OnOk result (Follows (stage_of self.old) (spelling (lines.Step step) ++ 10 ∷ [])
@@ -381,10 +366,8 @@ impl<M: TaggedStore> Judge<M> {
             × Takes (stage_of self.old) line (stage_of self.new)) }
         ensures err { IfErr result (λ stop. StopsAt (stage_of self.old) [] bytes.now stop (stage_of self.new)) }
     {
-        match self.take_found(front(bytes), bytes) {
-            Ok(count) => Ok(&bytes[count..]),
-            Err(stop) => Err(stop),
-        }
+        let count = self.take_found(front(bytes), bytes)?;
+        Ok(&bytes[count..])
     }
 
     // Takes the line that was found at the front of some bytes: how many bytes it has, with its line feed.
@@ -396,7 +379,7 @@ impl<M: TaggedStore> Judge<M> {
         ensures err { IfErr result (λ stop. StopsAt (stage_of self.old) [] bytes.now stop (stage_of self.new)) }
         ensures same { IfErr result (λ stop. stop ≢ stops.Fault → known_of self.new ≡ known_of self.old) }
     {
-        if self.is_at_fault() {
+        if let Stage::Refused(_) = self.stage {
             return Err(Stop::Fault);
         }
         match found {
@@ -427,18 +410,9 @@ impl<M: TaggedStore> Judge<M> {
         }
     }
 
-    // Whether a line was faulty.
-    fn is_at_fault(&self) -> bool
-        ensures at { result ≡ true → IsAtFault (stage_of self.now).due }
-        ensures none { result ≡ false → IsAtFault (stage_of self.now).due → ⊥ }
-    {
-        match self.stage {
-            Stage::Refused(_) => true,
-            Stage::Version | Stage::Mode | Stage::Body | Stage::Ended => false,
-        }
-    }
-
     /// Stops at a line that is not taken.
+    #[cold]
+    #[inline(never)]
     fn stop(&mut self, end: StepEnd, found: Front, bytes: &[u8]) -> Stop
         requires found { IsFront bytes.now found }
         requires clear { IsAtFault (stage_of self.old).due → ⊥ }
@@ -450,21 +424,10 @@ impl<M: TaggedStore> Judge<M> {
         match end {
             StepEnd::NoMemory => Stop::NoMemory,
             StepEnd::Refused(refusal) => {
-                self.refuse(refusal, found, bytes);
+                self.stage = Stage::Refused(self.fault(refusal, found, bytes));
                 Stop::Fault
             }
         }
-    }
-
-    // Takes the faulty line.
-    #[inline(never)]
-    fn refuse(&mut self, refusal: Refusal, found: Front, bytes: &[u8])
-        requires found { IsFront bytes.now found }
-        requires clear { IsAtFault (stage_of self.old).due → ⊥ }
-        requires refused { RefusesNext (stage_of self.old) bytes.now refusal }
-        ensures { Faults (stage_of self.old) bytes.now (stage_of self.new) }
-    {
-        self.stage = Stage::Refused(self.fault(refusal, found, bytes));
     }
 
     /// The next line, which these bytes begin with, as the faulty line.
@@ -520,55 +483,30 @@ impl<M: TaggedStore> Judge<M> {
     // Goes on by a line.
     fn follow(&mut self, line: &Line) -> Result<(), StepEnd>
         requires in_range { IsInRange line.now }
-        ensures ok { OnOk result (Takes (stage_of self.old) line.now (stage_of self.new)) }
-        ensures err { IfErr result (EndsFor (stage_of self.old) line.now) }
-        ensures same { IfErr result (λ _. known_of self.new ≡ known_of self.old) }
+        ensures { AnswersLine (known_of self.old) line.now result (known_of self.new) }
     {
         match self.stage {
-            Stage::Version => self.follow_version(line),
-            Stage::Mode => self.follow_mode(line),
-            Stage::Body => self.follow_body(line),
-            Stage::Ended | Stage::Refused(_) => Err(StepEnd::Refused(Refusal::Misplaced)),
-        }
-    }
-
-    // Goes on by the version line.
-    fn follow_version(&mut self, line: &Line) -> Result<(), StepEnd>
-        requires version { self.old.stage ≡ Version }
-        requires in_range { IsInRange line.now }
-        ensures ok { OnOk result (Takes (stage_of self.old) line.now (stage_of self.new)) }
-        ensures err { IfErr result (EndsFor (stage_of self.old) line.now) }
-        ensures same { IfErr result (λ _. known_of self.new ≡ known_of self.old) }
-    {
-        match *line {
-            Line::Version(version) => {
-                if version == 1 {
+            Stage::Version => match *line {
+                Line::Version(1) => {
                     self.stage = Stage::Body;
                     Ok(())
-                } else {
+                }
+                Line::Version(_) => {
                     self.stage = Stage::Mode;
                     Ok(())
                 }
-            }
-            _ => Err(StepEnd::Refused(Refusal::BadHeader)),
-        }
-    }
-
-    // Goes on by the mode line.
-    fn follow_mode(&mut self, line: &Line) -> Result<(), StepEnd>
-        requires mode { self.old.stage ≡ ModeStage }
-        requires in_range { IsInRange line.now }
-        ensures ok { OnOk result (Takes (stage_of self.old) line.now (stage_of self.new)) }
-        ensures err { IfErr result (EndsFor (stage_of self.old) line.now) }
-        ensures same { IfErr result (λ _. known_of self.new ≡ known_of self.old) }
-    {
-        match *line {
-            Line::Mode(mode) => {
-                self.machine.follow(rules_of(mode));
-                self.stage = Stage::Body;
-                Ok(())
-            }
-            _ => Err(StepEnd::Refused(Refusal::BadMode)),
+                _ => Err(StepEnd::Refused(Refusal::BadHeader)),
+            },
+            Stage::Mode => match *line {
+                Line::Mode(mode) => {
+                    self.machine.follow(rules_of(mode));
+                    self.stage = Stage::Body;
+                    Ok(())
+                }
+                _ => Err(StepEnd::Refused(Refusal::BadMode)),
+            },
+            Stage::Body => self.follow_body(line),
+            Stage::Ended | Stage::Refused(_) => Err(StepEnd::Refused(Refusal::Misplaced)),
         }
     }
 
@@ -576,55 +514,31 @@ impl<M: TaggedStore> Judge<M> {
     fn follow_body(&mut self, line: &Line) -> Result<(), StepEnd>
         requires body { self.old.stage ≡ Body }
         requires in_range { IsInRange line.now }
-        ensures ok { OnOk result (Takes (stage_of self.old) line.now (stage_of self.new)) }
-        ensures err { IfErr result (EndsFor (stage_of self.old) line.now) }
-        ensures same { IfErr result (λ _. known_of self.new ≡ known_of self.old) }
+        ensures { AnswersLine (known_of self.old) line.now result (known_of self.new) }
     {
         match *line {
-            Line::Version(_) | Line::Mode(_) => Err(StepEnd::Refused(self.refusal_of_header(line))),
-            Line::Root(place, word) => self.follow_root(place, word),
+            Line::Version(_) | Line::Mode(_) => {
+                let refusal = if has_form(self.machine.rules(), line) {
+                    Refusal::Misplaced
+                } else {
+                    Refusal::BadLine
+                };
+                Err(StepEnd::Refused(refusal))
+            }
+            Line::Root(place, word) => {
+                if self.machine.steps() > 0 {
+                    return Err(StepEnd::Refused(Refusal::Misplaced));
+                }
+                self.machine.declare(place, word)
+            }
             Line::Step(step) => self.machine.step(&step),
-            Line::End(count) => self.follow_end(count),
-        }
-    }
-
-    // Goes on by a root.
-    fn follow_root(&mut self, place: Place, word: Word) -> Result<(), StepEnd>
-        requires body { self.old.stage ≡ Body }
-        requires in_range { IsPlace place }
-        ensures ok { OnOk result (Takes (stage_of self.old) (lines.Root place word) (stage_of self.new)) }
-        ensures err { IfErr result (EndsFor (stage_of self.old) (lines.Root place word)) }
-        ensures same { IfErr result (λ _. known_of self.new ≡ known_of self.old) }
-    {
-        if self.machine.steps() > 0 {
-            return Err(StepEnd::Refused(Refusal::Misplaced));
-        }
-        self.machine.declare(place, word)
-    }
-
-    // Goes on by the end line.
-    fn follow_end(&mut self, count: u32) -> Result<(), StepEnd>
-        requires body { self.old.stage ≡ Body }
-        ensures ok { OnOk result (Takes (stage_of self.old) (lines.End count) (stage_of self.new)) }
-        ensures err { IfErr result (EndsFor (stage_of self.old) (lines.End count)) }
-        ensures same { IfErr result (λ _. known_of self.new ≡ known_of self.old) }
-    {
-        if count != self.machine.steps() {
-            return Err(StepEnd::Refused(Refusal::WrongCount));
-        }
-        self.stage = Stage::Ended;
-        Ok(())
-    }
-
-    // Why a header's line is refused after the header.
-    fn refusal_of_header(&self, line: &Line) -> Refusal
-        ensures formed { (let held = self.now.machine in has_form held.rules line.now ≡ true) → result ≡ Misplaced }
-        ensures formless { (let held = self.now.machine in has_form held.rules line.now ≡ false) → result ≡ BadLine }
-    {
-        if has_form(self.machine.rules(), line) {
-            Refusal::Misplaced
-        } else {
-            Refusal::BadLine
+            Line::End(count) => {
+                if count != self.machine.steps() {
+                    return Err(StepEnd::Refused(Refusal::WrongCount));
+                }
+                self.stage = Stage::Ended;
+                Ok(())
+            }
         }
     }
 }

@@ -9,9 +9,7 @@
 mod expecting;
 mod faults;
 mod judges;
-mod keeping;
 mod laws;
-mod origin_lines;
 mod origins;
 mod reporting;
 mod steps;
@@ -21,14 +19,15 @@ mod verdict_lines;
 
 pub use crate::faults::Fault;
 pub use crate::judges::{Judge, Stop, Taken};
-pub use crate::keeping::judge_bytes_keeping;
 pub use crate::laws::{
     accepted_in_turn, escapes_are_named_exactly, logs_are_guarded, logs_clear_exactly, one_verdict,
     other_bytes_are_of_version_one, some_verdict, stages_are_of_logs,
 };
-pub use crate::origin_lines::origin_text;
+pub use crate::origins::origin_text;
 pub use crate::reporting::{judge_origins, judge_to, push_report, push_verdict};
-pub use crate::streams::{Judging, judge, judge_bytes, judge_in, judge_keeping};
+pub use crate::streams::{
+    Judging, judge, judge_bytes, judge_bytes_keeping, judge_in, judge_keeping,
+};
 pub use crate::verdict::{Expected, TakeFault, Verdict};
 pub use crate::verdict_lines::{verdict_status, verdict_text};
 pub use cap_log::{FaultLine, JudgeFault, JudgeToFault};

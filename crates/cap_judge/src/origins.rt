@@ -1,11 +1,11 @@
-//! Pushing the lines of the origins of what a machine holds.
+//! The lines of the origins of what a machine holds.
 
-ghost use Rattle.std.specs.Prelude.{ℕ, ◌+◌, ◌^◌, take, OnOk, OnErr};
+ghost use Rattle.std.specs.Prelude.{◌≡◌, ◌≤◌, ℕ, ◌+◌, ◌^◌, drop, length, take, OnOk, OnErr};
 ghost use Rattle.cap_log.specs.{Lines.IsPlace, Streams.CountsFault};
 ghost use Rattle.cap_machine.specs.States.{key_of};
-ghost use Rattle.cap_judge.specs.OriginLists.{held_lines};
+ghost use Rattle.cap_judge.specs.{OriginLines.origin_line, OriginLists.held_lines};
 
-use crate::origin_lines::origin_text;
+use cap_log::buffers::{put, put_place};
 use cap_log::{Place, PushFault, Sink, push_all};
 use cap_machine::Machine;
 use tagmem::TaggedStore;
@@ -82,4 +82,21 @@ fn push_place<M: TaggedStore, K: Sink>(
         }
         None => Ok(()),
     }
+}
+
+/// Writes the line of an origin, `origin PLACE ROOT` with its line feed and both places as a log spells
+/// them, at the front of the buffer, and answers its length. The rest of the buffer stays as it was.
+pub fn origin_text(place: Place, root: Place, buffer: &mut [u8; 64]) -> usize
+    requires place { IsPlace place }
+    requires root { IsPlace root }
+    ensures line { take result buffer.new ≡ origin_line place root }
+    ensures length { result ≡ length (origin_line place root) }
+    ensures fits { result ≤ 64 }
+    ensures rest { drop result buffer.new ≡ drop result buffer.old }
+{
+    let at = put(buffer, 0, b"origin ");
+    let at = put_place(buffer, at, place);
+    let at = put(buffer, at, b" ");
+    let at = put_place(buffer, at, root);
+    put(buffer, at, b"\n")
 }

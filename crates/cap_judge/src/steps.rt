@@ -1,6 +1,6 @@
 //! Taking the steps at the front of some bytes, each by the type of its kind.
 
-ghost use Rattle.std.specs.Prelude.{◌≡◌, ℕ, List, [], ◌++◌, false, IfSome};
+ghost use Rattle.std.specs.Prelude.{◌≡◌, ℕ, List, ◌++◌, IfSome};
 ghost use Rattle.cap_machine.specs.Helds.{AnswersStep};
 ghost use Rattle.cap_judge.specs.declared.judges.Stage.TheVariants.{Body};
 ghost use Rattle.cap_judge.specs.Readings.{EndsAt, Goes, TakesAll, TakesOne, at};
@@ -14,14 +14,6 @@ const MOST_BYTES: usize = 96;
 
 // The most bytes that a head has, with the space after it.
 const MOST_HEAD_BYTES: usize = 15;
-
-// Whether more bytes follow a line.
-#[inline(always)]
-fn goes_on(rest: &[u8]) -> bool
-    ensures { result ≡ false → rest.now ≡ [] }
-{
-    !rest.is_empty()
-}
 
 /// Takes the steps at the front of some bytes, as long as a line of any length has room: what follows them,
 /// and how the step ends there that was not made. By that one nothing has changed.
@@ -137,10 +129,8 @@ impl<'a, M: TaggedStore> ByKind<'a, Machine<M>> for Alone {
         machine: &mut Machine<M>,
         operands: &'a [u8],
     ) -> Option<Result<(), StepEnd>> {
-        let Some((instruction, rest)) = I::take(operands) else {
-            return None;
-        };
-        if goes_on(rest) {
+        let (instruction, rest) = I::take(operands)?;
+        if !rest.is_empty() {
             return None;
         }
         Some(perform_by(machine, instruction))

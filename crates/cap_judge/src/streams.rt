@@ -4,7 +4,7 @@ ghost use Rattle.std.specs.Prelude.{◌≡◌, ℕ, List, [], ◌++◌, Err, IsO
 ghost use Rattle.std.specs.FinMap as map;
 ghost use Rattle.cap_log.specs.{declared.judge_faults.JudgeFault.TheVariants.Pull, FaultLines.bytes_of, Pulled.items};
 ghost use Rattle.cap_log.specs.Streams.{CountsOnly};
-ghost use Rattle.cap_judge.specs.{Judgings.{Judged, JudgedBy}, Logs.NamesNoGranules};
+ghost use Rattle.cap_judge.specs.{Judgings.{Judged, JudgedAll, JudgedBy}, Logs.NamesNoGranules};
 ghost use Rattle.cap_judge.specs.{Readings.{IsAnswered, StopsAt, stage_of}, Turns.unread};
 ghost use Rattle.cap_judge.specs.Verdicts.{EscapesExactly, NoVerdictIn, IsGuarded, IsVerdict, NamesEscapes};
 
@@ -94,6 +94,38 @@ pub fn judge_keeping<S: Source, M: TaggedStore>(source: &mut S, memory: M) -> Ju
     }
 }
 
+/// Judges the bytes of a log as [`judge_bytes`] does, with the granules in a store that is empty,
+/// and gives the machine with the answer, as [`judge_keeping`] does.
+pub fn judge_bytes_keeping<M: TaggedStore>(bytes: &[u8], memory: M) -> Judging<M>
+    requires { map.len (M.contents memory) ≡ 0 }
+    ensures judged { JudgedAll bytes.now result.answer result.machine (bytes_of result.fault) }
+{
+    let mut judge = Judge::new(memory);
+    let (answer, fault) = judge_all(&mut judge, bytes);
+    let Judge { machine, .. } = judge;
+    Judging {
+        answer,
+        machine,
+        fault,
+    }
+}
+
+// Hands over all the bytes of a log: the answer, and after a `no` the faulty line.
+fn judge_all<M: TaggedStore>(
+    judge: &mut Judge<M>,
+    bytes: &[u8],
+) -> (Result<Verdict, JudgeFault>, FaultLine)
+    requires begun { stage_of judge.old ≡ unread }
+    ensures judged { JudgedAll bytes.now result.0 judge.new.machine (bytes_of result.1) }
+{
+    let taken = judge.take(bytes);
+    match taken.stop {
+        Stop::Cut => answered(judge.ending(&bytes[taken.count..])),
+        Stop::Fault => answered(judge.ending(&[])),
+        Stop::NoMemory => (Err(JudgeFault::NoMemory), FaultLine::new()),
+    }
+}
+
 // Hands over the bytes that a source gives: the answer, and after a `no` the faulty line.
 fn judge_source<S: Source, M: TaggedStore>(
     judge: &mut Judge<M>,
@@ -129,7 +161,7 @@ fn take_pulled<M: TaggedStore>(judge: &mut Judge<M>, pulled: &mut Pulled) -> Sto
 }
 
 // A `yes`, or a `no` and its line.
-pub(crate) fn answered(end: Result<Verdict, Fault>) -> (Result<Verdict, JudgeFault>, FaultLine)
+fn answered(end: Result<Verdict, Fault>) -> (Result<Verdict, JudgeFault>, FaultLine)
     ensures { IsAnswered end result.0 (bytes_of result.1) }
 {
     match end {

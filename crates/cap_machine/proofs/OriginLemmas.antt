@@ -1,6 +1,5 @@
 -- What origins are, carried forward, is what descent is, followed back: so the account's are the places of roots.
 use Rattle.std.specs.List.{AllByRecursion, IsDistinct}
-use Rattle.std.specs.FinMap as fin
 use Rattle.std.proofs.Common.{◌≡◌, ℕ, zero, suc, ◌==◌, nat_eq, false, inl, inr, List, [], ◌∷◌, length, map, take, Some}
 use Rattle.std.proofs.Common.{Contains, refl, sym, ap, subst, ◌∙◌, arith, eq-eqb, ne_eqb, take_all, option_and_then}
 use Rattle.std.proofs.{Math.Path.fun_ext, lemmas.Bool.{cond-true, cond-false, eqb-false, Decides.eqb_tells}}

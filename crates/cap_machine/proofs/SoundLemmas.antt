@@ -1,6 +1,6 @@
 -- A state whose tagged capabilities are sound stays such a state.
 use Rattle.std.specs.FinMap as map
-use Rattle.std.proofs.Common.{[], ◌≡◌, ℕ, ◌<◌, ◌^◌, ◌==◌, ◌-◌, Bool, true, false, not, ◌&&◌, eqb, refl, arith, List}
+use Rattle.std.proofs.Common.{[], ◌≡◌, ℕ, ◌<◌, ◌^◌, ◌==◌, Bool, true, false, not, ◌&&◌, eqb, refl, arith, List}
 use Rattle.std.proofs.Common.{length, sym, ap, subst, ◌∙◌, if◌then◌else◌, set, length-set, get_or-set_other, eqb-true}
 use Rattle.std.proofs.{Math.Bool.beq, lemmas.Bool.{false≢true, and_parts, not-false}}
 use Rattle.cap_word.specs.{declared.word.{Cap.Cap, Word.Word}, Memory.memory_of}

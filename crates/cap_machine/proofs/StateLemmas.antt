@@ -62,20 +62,15 @@ register_key registers default value granules target key sized low =
           ∙ sym (cond-false (target == key) value _ unlike.0)
     ]
 
--- a register of which something else is told
-register_put : {A : Type 0} (registers : List A) (default value : A) (granules : ℕ → A) (target : ℕ) → length registers ≡ 32 → target ≤ 31
-    → at_places (set registers target value) default granules ≡ put (at_places registers default granules) target value
-register_put registers default value granules target sized low =
-    fun_ext (λ key. register_key registers default value granules target key sized low)
-
 -- a register that holds another capability, and that has another code
 pub state-register : (registers : List Cap) (memory : Granules) (target : ℕ) (value : Cap) → length registers ≡ 32 → target ≤ 31
     → places_of (set registers target value) memory ≡ put (places_of registers memory) target value
-state-register registers memory target value sized low = register_put registers untagged_null value (granule_cap memory) target sized low
+state-register registers memory target value sized low =
+    fun_ext (λ key. register_key registers untagged_null value (granule_cap memory) target key sized low)
 
 pub codes-register : (codes : List ℕ) (memory : Granules) (target code : ℕ) → length codes ≡ 32 → target ≤ 31
     → codes_of (set codes target code) memory ≡ put (codes_of codes memory) target code
-codes-register codes memory target code sized low = register_put codes 0 code (code_at memory) target sized low
+codes-register codes memory target code sized low = fun_ext (λ key. register_key codes 0 code (code_at memory) target key sized low)
 
 -- what an entry tells of each granule
 abbrev telling : {A : Type 0} → (Entry → A) → Granules → ℕ → A
@@ -115,20 +110,14 @@ granule_key_put registers default told memory granule entry key =
           ∙ ap (λ c. if granule_key granule == key then told entry else c) (sym (cond-false (nat_lt key 32) _ _ past))
     ]
 
--- a granule of which something else is told
-granule_put : {A : Type 0} (registers : List A) (default : A) (told : Entry → A) (memory : Granules) (granule : ℕ) (entry : Entry)
-    → at_places registers default (telling told (map.insert memory granule entry))
-    ≡ put (at_places registers default (telling told memory)) (granule_key granule) (told entry)
-granule_put registers default told memory granule entry = fun_ext (λ key. granule_key_put registers default told memory granule entry key)
-
 -- a granule that holds another entry
 pub state-granule : (registers : List Cap) (memory : Granules) (granule : ℕ) (entry : Entry)
     → places_of registers (map.insert memory granule entry) ≡ put (places_of registers memory) (granule_key granule) (cap_of entry)
-state-granule registers memory granule entry = granule_put registers untagged_null cap_of memory granule entry
+state-granule registers memory granule entry = fun_ext (λ key. granule_key_put registers untagged_null cap_of memory granule entry key)
 
 pub codes-granule : (codes : List ℕ) (memory : Granules) (granule : ℕ) (entry : Entry)
     → codes_of codes (map.insert memory granule entry) ≡ put (codes_of codes memory) (granule_key granule) entry.2
-codes-granule codes memory granule entry = granule_put codes 0 (λ (e : Entry). e.2) memory granule entry
+codes-granule codes memory granule entry = fun_ext (λ key. granule_key_put codes 0 (λ (e : Entry). e.2) memory granule entry key)
 
 some_or : {A : Type 0} (x : A) (b : Bool) (o : Option A) → is_some (if b then Some x else o) ≡ (b || is_some o)
 some_or x true o = refl

@@ -8,13 +8,13 @@ ghost use Rattle.cap_word.specs.Memory.{low_bytes, memory_of};
 ghost use Rattle.cap_bounds.specs.Bounds.{IsSound};
 ghost use Rattle.cap_ops.specs.{Checks.first_of, Sizes.size_fits};
 ghost use Rattle.cap_log.specs.Lines.{IsPlace, IsStepInRange};
-ghost use Rattle.tagmem.specs.Granules.{AreStored, HasRoom, IsCodeFor, IsNextPut, bytes_at, code_at, with_bytes};
+ghost use Rattle.tagmem.specs.Granules.{AreStored, HasRoom, IsCodeFor, IsNextPut, bytes_at, with_bytes};
 ghost use Rattle.tagmem.specs.Granules.{with_cap};
 ghost use Rattle.cap_machine.specs.Accounts.{granule_of, is_new, no_account, passes_granule_limit, root_checks};
 ghost use Rattle.cap_machine.specs.Changes.{AnswersPut, Derives, IsAccess, IsParentsCode, Placed, WritesRegister};
 ghost use Rattle.cap_machine.specs.Changes.{address_in, is_past_limits, number_at, with_cap_put, with_value_put};
 ghost use Rattle.cap_machine.specs.{Escapes.{ClearsBeyond, Escapes}, Helds.{AnswersStep, EndsRoot, EndsStep, IsKept}};
-ghost use Rattle.cap_machine.specs.Helds.{TakesRoot, account_of, code_in, granule_cap, state_of};
+ghost use Rattle.cap_machine.specs.Helds.{TakesRoot, account_of, code_in, state_of};
 ghost use Rattle.cap_machine.specs.{Parents.{IsSoundCap, StaysWithinParents}, Places.{IsCoded, place_at}};
 ghost use Rattle.cap_machine.specs.{Shown.{IsShown, shown_of}, States.{granule_key, key_of, untagged_null, value_at}};
 ghost use Rattle.cap_machine.specs.Steps.{address_through, row_of};
@@ -247,21 +247,12 @@ impl<M: TaggedStore> Machine<M> {
             Some(Refusal::PlaceTaken)
         } else if !sound(word) {
             Some(Refusal::UnsoundRoot)
-        } else if self.roots >= MOST_ROOTS || self.root_passes_granule_limit(place) {
+        } else if self.roots >= MOST_ROOTS
+            || matches!(place, Place::Granule(granule) if self.granule_passes_limit(granule))
+        {
             Some(Refusal::LimitPassed)
         } else {
             None
-        }
-    }
-
-    // Whether a root's place names a granule beyond the limit.
-    fn root_passes_granule_limit(&self, place: Place) -> bool
-        requires { IsPlace place }
-        ensures { result ≡ passes_granule_limit (account_of self.now) (granule_of place) }
-    {
-        match place {
-            Place::Register(_) => false,
-            Place::Granule(granule) => self.granule_passes_limit(granule),
         }
     }
 
@@ -442,14 +433,29 @@ impl<M: TaggedStore> Machine<M> {
         }
     }
 
-    // What a granule holds, and the code of its origin.
+    // What a granule holds, and the code of its origin: NULL without a tag, and 0, where it was never put.
     #[inline(always)]
     pub(crate) fn granule_with_code(&self, granule: u64) -> (Cap, u64)
         requires { granule < 2 ^ 60 }
         ensures holds { result.0 ≡ state_of self.now (granule_key granule) }
         ensures code { result.1 ≡ code_in self.now (granule_key granule) }
     {
-        capability_with_code(&self.memory, granule)
+        match self.memory.entry(granule) {
+            Some(entry) => {
+                let cap = Cap {
+                    tag: entry.0,
+                    word: from_memory(&entry.1),
+                };
+                (cap, entry.2)
+            }
+            None => {
+                let cap = Cap {
+                    tag: false,
+                    word: null(),
+                };
+                (cap, 0)
+            }
+        }
     }
 
     // Whether one step more that names a granule passes a limit.
@@ -524,31 +530,6 @@ fn place_at(code: u64) -> Option<Place>
         Some(Place::Register(code as u8))
     } else {
         Some(Place::Granule(code - 32))
-    }
-}
-
-// The capability that a granule holds, and the code of its origin: NULL without a tag, and 0, where it was never put.
-#[inline(always)]
-fn capability_with_code<M: TaggedStore>(memory: &M, granule: u64) -> (Cap, u64)
-    requires { granule < 2 ^ 60 }
-    ensures cap { result.0 ≡ granule_cap (M.contents memory.now) granule }
-    ensures code { result.1 ≡ code_at (M.contents memory.now) granule }
-{
-    match memory.entry(granule) {
-        Some(entry) => {
-            let cap = Cap {
-                tag: entry.0,
-                word: from_memory(&entry.1),
-            };
-            (cap, entry.2)
-        }
-        None => {
-            let cap = Cap {
-                tag: false,
-                word: null(),
-            };
-            (cap, 0)
-        }
     }
 }
 

@@ -97,26 +97,6 @@ fn permitted_soundly(source: Cap, length: u64, exact: bool) -> Result<Rounded, O
     }
 }
 
-/// Calls [`permitted_soundly`] if `SOUND`, otherwise [`permitted`].
-#[inline(always)]
-fn permitted_by<const SOUND: bool>(
-    source: Cap,
-    length: u64,
-    exact: bool,
-) -> Result<Rounded, OpFault>
-    requires tagged { SOUND ≡ true → IsTrue source.tag }
-    requires sound { SOUND ≡ true → IsSound source.word.0 }
-    requires some { SOUND ≡ true → 0 < length }
-    ensures { Ends result (set_bounds_checks source length exact)
-        (λ rounded. HasRounding rounded.ie rounded.e rounded.b rounded.t (address_of source.word.0) length) }
-{
-    if SOUND {
-        permitted_soundly(source, length, exact)
-    } else {
-        permitted(source, length, exact)
-    }
-}
-
 /// Narrows the source's bounds to the length from its address on, rounded (CSetBounds; with `exact`,
 /// CSetBoundsExact).
 ///
@@ -130,7 +110,7 @@ pub fn set_bounds(source: Cap, length: u64, exact: bool) -> Result<Cap, OpFault>
     ensures escape { IsTrue source.tag → IsFalse (is_sealed source.word.0) → IsSound source.word.0
         → (result ≡ Err OpFault.BoundsEscape) ↔ (¬ HasRoomFor source length) }
 {
-    narrowed_by::<false>(source, length, exact)
+    narrowed_to(permitted(source, length, exact), source, length, exact)
 }
 
 /// As [`set_bounds`], for a source that is sound if it is tagged, as every capability of a machine is. For a tagged
@@ -144,7 +124,8 @@ pub fn set_bounds_soundly(source: Cap, length: u64, exact: bool) -> Result<Cap, 
         → (result ≡ Err OpFault.BoundsEscape) ↔ (¬ HasRoomFor source length) }
 {
     if source.tag && length > 0 {
-        narrowed_by::<true>(source, length, exact)
+        let permitted = permitted_soundly(source, length, exact);
+        narrowed_to(permitted, source, length, exact)
     } else {
         set_bounds_apart(source, length, exact)
     }
@@ -159,11 +140,8 @@ fn set_bounds_apart(source: Cap, length: u64, exact: bool) -> Result<Cap, OpFaul
     ensures escape { IsTrue source.tag → IsFalse (is_sealed source.word.0) → IsSound source.word.0
         → (result ≡ Err OpFault.BoundsEscape) ↔ (¬ HasRoomFor source length) }
 {
-    let called = Cap {
-        tag: source.tag,
-        word: source.word,
-    };
-    set_bounds_called(called, length, exact)
+    let Cap { tag, word } = source;
+    set_bounds_called(Cap { tag, word }, length, exact)
 }
 
 /// [`set_bounds`], in a function of its own.
@@ -177,18 +155,22 @@ fn set_bounds_called(source: Cap, length: u64, exact: bool) -> Result<Cap, OpFau
     set_bounds(source, length, exact)
 }
 
-/// The answer to both, for a tagged source that is known to be sound and a length that is not 0, or for any.
+/// The source with the rounded bounds of the length from its address on, if they are permitted.
 #[inline(always)]
-fn narrowed_by<const SOUND: bool>(source: Cap, length: u64, exact: bool) -> Result<Cap, OpFault>
-    requires tagged { SOUND ≡ true → IsTrue source.tag }
-    requires sound { SOUND ≡ true → IsSound source.word.0 }
-    requires some { SOUND ≡ true → 0 < length }
+fn narrowed_to(
+    permitted: Result<Rounded, OpFault>,
+    source: Cap,
+    length: u64,
+    exact: bool,
+) -> Result<Cap, OpFault>
+    requires { Ends permitted (set_bounds_checks source length exact)
+        (λ rounded. HasRounding rounded.ie rounded.e rounded.b rounded.t (address_of source.word.0) length) }
     ensures outcome { Ends result (set_bounds_checks source length exact) (λ cap. cap ≡ set_bounds_result source length) }
     ensures stays_within { IfOk result (λ cap. StaysWithin cap source) }
     ensures escape { IsTrue source.tag → IsFalse (is_sealed source.word.0) → IsSound source.word.0
         → (result ≡ Err OpFault.BoundsEscape) ↔ (¬ HasRoomFor source length) }
 {
-    match permitted_by::<SOUND>(source, length, exact) {
+    match permitted {
         Err(fault) => Err(fault),
         Ok(rounded) => Ok(Cap {
             tag: source.tag,

@@ -10,7 +10,6 @@ ghost use Rattle.cap_log.specs.declared.lines.Place.TheVariants as place;
 ghost use Rattle.cap_halves.specs.Passed.{is_set, whole_of};
 ghost use Rattle.capcheck_c.specs.LinesWritten.{AnswersLine, mode_of};
 
-use crate::ranges::{step_count_of, version_of};
 use cap_halves::halves::word_of;
 use cap_halves::values::Halves;
 use cap_log::{Line, Mode, Place, Target, write_line};
@@ -20,10 +19,10 @@ use cap_log::{Line, Mode, Place, Target, write_line};
 pub extern "C" fn capcheck_line_version(buffer: &mut [u8; 96], version: u64) -> usize
     ensures line { AnswersLine (line.Version version) buffer.old buffer.new result }
 {
-    let Some(version) = version_of(version) else {
+    if version != 1 && version != 2 {
         return 0;
-    };
-    write_line(&Line::Version(version), buffer)
+    }
+    write_line(&Line::Version(version as u8), buffer)
 }
 
 /// Writes the mode line of a log of version 2 into the buffer: clear mode, or else strict mode.
@@ -71,8 +70,8 @@ pub extern "C" fn capcheck_line_root_at(buffer: &mut [u8; 96], address: u64, wor
 pub extern "C" fn capcheck_line_end(buffer: &mut [u8; 96], steps: u64) -> usize
     ensures line { AnswersLine (line.End steps) buffer.old buffer.new result }
 {
-    let Some(steps) = step_count_of(steps) else {
+    if steps > 0xffff_ffff {
         return 0;
-    };
-    write_line(&Line::End(steps), buffer)
+    }
+    write_line(&Line::End(steps as u32), buffer)
 }

@@ -13,7 +13,6 @@ mod explaining;
 mod header_lines;
 mod names;
 mod operations;
-mod ranges;
 mod read_lines;
 mod refusals;
 mod requests;

@@ -34,8 +34,7 @@ fn made_from(outcome: Result<Cap, OpFault>) -> Made
     }
 }
 
-/// Narrows the source's bounds to the length from its address on, rounded; with `exact` only where nothing
-/// is rounded.
+/// Narrows the source's bounds to the length from its address on, rounded; with `exact` only where nothing is rounded.
 ///
 /// A tagged source is refused where it is sealed (10), then where the rounded bounds do not lie inside its
 /// own (11), then where they are to be exact and are not (12).
@@ -53,8 +52,7 @@ pub extern "C" fn capcheck_set_bounds(source: Capability, length: u64, exact: u8
 
 /// Gives the source another address.
 ///
-/// A tagged source is refused where it is sealed (10), and then where the address does not keep its bounds
-/// (13).
+/// A tagged source is refused where it is sealed (10), and then where the address does not keep its bounds (13).
 #[unsafe(no_mangle)]
 pub extern "C" fn capcheck_set_addr(source: Capability, address: u64) -> Made
     ensures outcome { Answers (ops.set_addr_checks (cap_of source) address) (ops.set_addr_result (cap_of source) address) result }
@@ -70,8 +68,7 @@ pub extern "C" fn capcheck_set_addr(source: Capability, address: u64) -> Made
     made_from(set_addr(taken(source), address))
 }
 
-/// Takes permissions away: those of the view that the mask lacks. A tagged source that is sealed is
-/// refused (10).
+/// Takes permissions away: those of the view that the mask lacks. A tagged source that is sealed is refused (10).
 #[unsafe(no_mangle)]
 pub extern "C" fn capcheck_and_perm(source: Capability, mask: u64) -> Made
     ensures outcome { Answers (ops.and_perm_checks (cap_of source)) (ops.and_perm_result (cap_of source) mask) result }
@@ -102,9 +99,8 @@ pub extern "C" fn capcheck_seal(source: Capability, authority: Capability) -> Ma
 
 /// Unseals the source, which is sealed with the authority's address.
 ///
-/// It is refused, in this order, where the authority is untagged (14), is sealed (15), lacks Unseal (16),
-/// or does not hold its own address (17), and where the source is untagged (9) or has another object type
-/// or a reserved one (19).
+/// It is refused, in this order, where the authority is untagged (14), is sealed (15), lacks Unseal (16), or does not
+/// hold its own address (17), and where the source is untagged (9) or has another object type or a reserved one (19).
 #[unsafe(no_mangle)]
 pub extern "C" fn capcheck_unseal(source: Capability, authority: Capability) -> Made
     ensures outcome { Answers (ops.unseal_checks (cap_of source) (cap_of authority)) (ops.unseal_result (cap_of source) (cap_of authority)) result }

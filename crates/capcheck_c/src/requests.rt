@@ -72,9 +72,8 @@ pub extern "C" fn capcheck_round_length(length: u64) -> Halves
     halves_of(round_length(length))
 }
 
-/// 2^64 less the alignment of a length, which is a power of two. Where the rounded length is below 2^64,
-/// it is exact at just the bases that are multiples of the alignment; where it is 2^64, the alignment is
-/// 2^55.
+/// 2^64 less the alignment of a length, which is a power of two. Where the rounded length is below 2^64, it is exact at
+/// just the bases that are multiples of the alignment; where it is 2^64, the alignment is 2^55.
 #[unsafe(no_mangle)]
 pub extern "C" fn capcheck_align_mask(length: u64) -> u64
     ensures value { result + alignment_of length ≡ 2 ^ 64 }
@@ -147,9 +146,8 @@ pub extern "C" fn capcheck_keeps_bounds(word: Halves, address: u64) -> bool
     keeps_bounds(word_of(word), address)
 }
 
-/// A word with the rounded bounds of a request, and the request's base as its address. Its other fields
-/// stay as they are. Where the request ends at or below 2^64, the word has exactly the rounded bounds,
-/// and is sound.
+/// A word with the rounded bounds of a request, and the request's base as its address. Its other fields stay as they
+/// are. Where the request ends at or below 2^64, the word has exactly the rounded bounds, and is sound.
 #[unsafe(no_mangle)]
 pub extern "C" fn capcheck_with_bounds(word: Halves, base: u64, length: u64) -> Halves
     ensures word { whole_of result ≡ rounded_word (whole_of word) base length }

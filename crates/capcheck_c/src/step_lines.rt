@@ -179,8 +179,7 @@ pub extern "C" fn capcheck_line_sc(
     put_step::<StoreCap>((source, authority, offset), buffer)
 }
 
-/// Writes the line of a step `load` into the buffer: `size` is 1, 2, 4 or 8, and `value` is below
-/// 256^size.
+/// Writes the line of a step `load` into the buffer: `size` is 1, 2, 4 or 8, and `value` is below 256^size.
 #[unsafe(no_mangle)]
 pub extern "C" fn capcheck_line_load(
     buffer: &mut [u8; 96],
@@ -194,8 +193,7 @@ pub extern "C" fn capcheck_line_load(
     put_step::<Load>((authority, offset, size, value), buffer)
 }
 
-/// Writes the line of a step `store` into the buffer: `size` is 1, 2, 4 or 8, and `value` is below
-/// 256^size.
+/// Writes the line of a step `store` into the buffer: `size` is 1, 2, 4 or 8, and `value` is below 256^size.
 #[unsafe(no_mangle)]
 pub extern "C" fn capcheck_line_store(
     buffer: &mut [u8; 96],

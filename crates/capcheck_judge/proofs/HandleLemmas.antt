@@ -1,17 +1,17 @@
 -- What a handle holds, by the judge that was taken out of it.
-use Rattle.std.proofs.Common.{◌≡◌, ◌≢◌, refl, ◌<◌, ◌⊎◌, ◌∙◌, inl, inr, ℕ, List, [], ◌∷◌, ◌++◌, ap, arith, sym, subst}
+use Rattle.std.proofs.Common.{◌≡◌, refl, ◌<◌, ◌⊎◌, ◌∙◌, inl, inr, ℕ, List, [], ◌∷◌, ◌++◌, ap, arith, sym, subst}
 use Rattle.std.proofs.{Common.{None, Option, is_some, Some}, lemmas.Bool.{false≢true}}
 use denote.RattleType.{RattleType}
 use Rattle.cap_word.specs.declared.word.Cap.{Cap}
 use Rattle.cap_log.specs.{declared.lines.{Line.Line, Place.Place}, Lines.{IsInRange, spelling}}
 use Rattle.tagmem.specs.contracts.page_store.{PageStore.the_row as store_row, PageStoreTaggedStore.TheImpl.ghosts}
 use Rattle.cap_judge.specs.{declared.verdict.Verdict.Verdict, Logs.MayLackMemory, Readings.{BeginsWhole, Follows}}
-use Rattle.cap_judge.specs.Readings.{HasRead, Known, Lacks, Stands, at, known_of, stage_of, verdict_so_far}
+use Rattle.cap_judge.specs.Readings.{HasRead, Known, Stands, at, stage_of, verdict_so_far}
 use Rattle.cap_judge.specs.{Turns.unread, contracts.judges.Judge.the_row as judge_row}
 use Rattle.cap_judge.proofs.{TurnLaws.{lacks_memory, none_so_far, reached, stands_so_far}, TurnLemmas.follows_on}
 use Rattle.cap_report.specs.declared.answers.Answer.{Answer}
 use Rattle.capcheck_judge.specs.Handles.{AnswersSoFar, Standing, HandsOver, Held, Holds, known_in, origin_behind}
-use Rattle.capcheck_judge.specs.Handles.{state_behind}
+use Rattle.capcheck_judge.specs.{Handles.state_behind, Takings.TakesLine}
 
 -- a judge over pages
 abbrev pub J : Type 0
@@ -69,25 +69,23 @@ pub record HandsLine (text : List ℕ) (old new : Held) (state : ℕ) : Type 0 w
   pub no_memory : state ≡ 3 → (bytes : List ℕ) → Holds old bytes → MayLackMemory (bytes ++ text) []
 
 pub line_handed : (text : List ℕ) (held after : Held) (old new : J) (state : ℕ) → held ≡ Some old → after ≡ Some new
-    → (state < 3 → Follows (stage_of old) text (stage_of new)) → (state ≡ 0 → verdict_so_far (stage_of new).due ≡ None)
-    → (state ≡ 2 → verdict_so_far (stage_of new).due ≢ None) → (2 < state → known_of new ≡ known_of old)
-    → (state ≡ 3 → Lacks (stage_of old) text []) → HandsLine text held after state
-line_handed text held after old new state is now takes goes_on at_fault unchanged lacks =
+    → TakesLine old text state new → HandsLine text held after state
+line_handed text held after old new state is now takes =
     let read : state < 3 → (bytes : List ℕ) → Holds held bytes → HasRead new (bytes ++ text) = λ below bytes holds.
-    follows_on unread (stage_of old) (stage_of new) bytes text (held_taken held bytes holds old is) (takes below) in
+    follows_on unread (stage_of old) (stage_of new) bytes text (held_taken held bytes holds old is) (takes.taken below) in
     record {
       taken = λ below bytes holds. record { judge = new; held_is = now; taken = read below bytes holds };
       goes_on = λ zero bytes holds.
-          (held_stands new (bytes ++ text) None (read (omega (arith, zero)) bytes holds) (sym (goes_on zero))).0;
+          (held_stands new (bytes ++ text) None (read (omega (arith, zero)) bytes holds) (sym (takes.goes_on zero))).0;
       at_fault = λ two bytes holds whole.
-          at_fault two ((held_stands new (bytes ++ text) _ (read (omega (arith, two)) bytes holds) refl).1 whole);
-      unchanged = λ large. ap known_in now ∙ ap Some (unchanged large) ∙ sym (ap known_in is);
+          takes.at_fault two ((held_stands new (bytes ++ text) _ (read (omega (arith, two)) bytes holds) refl).1 whole);
+      unchanged = λ large. ap known_in now ∙ ap Some (takes.unchanged large) ∙ sym (ap known_in is);
       still_holds = λ large bytes holds. record {
         judge = new;
         held_is = now;
-        taken = subst (λ (k : Known). Follows unread bytes (at k.stage k.held)) (sym (unchanged large)) (held_taken held bytes holds old is);
+        taken = subst (λ (k : Known). Follows unread bytes (at k.stage k.held)) (sym (takes.unchanged large)) (held_taken held bytes holds old is);
       };
-      no_memory = λ three bytes holds. lacks_memory bytes text [] (stage_of old) (held_taken held bytes holds old is) (lacks three);
+      no_memory = λ three bytes holds. lacks_memory bytes text [] (stage_of old) (held_taken held bytes holds old is) (takes.no_memory three);
     }
 
 -- its answer is small, no yes, and neither that there is no judge nor that there is no line

@@ -2,10 +2,10 @@
 
 ghost use Rattle.std.specs.Prelude.{◌≡◌, ◌≢◌, ◌↔◌, ◌⊎◌, ◌<◌, ℕ, List, [], ◌++◌, None};
 ghost use Rattle.cap_judge.specs.Logs.{MayLackMemory};
-ghost use Rattle.cap_judge.specs.Readings.{BeginsWhole, Follows, IsNoLine, Lacks, known_of, stage_of, verdict_so_far};
+ghost use Rattle.cap_judge.specs.Readings.{BeginsWhole, IsNoLine};
 ghost use Rattle.cap_report.specs.Answers.{NamesEscapesIn, without_verdict};
 ghost use Rattle.capcheck_judge.specs.Handles.{AnswersEnd, AnswersSoFar, HandsOverLines, Holds, held_in, known_in};
-ghost use Rattle.capcheck_judge.specs.Takings.{TakesLines};
+ghost use Rattle.capcheck_judge.specs.Takings.{TakesLine, TakesLines};
 
 use crate::answers::LinesTaken;
 use crate::handle::Handle;
@@ -57,8 +57,7 @@ pub extern "C" fn capcheck_judge_line(alloc: Global, judge: &mut Handle, line: &
     ensures held { (held_in judge.new ≡ None) ↔ (held_in judge.old ≡ None) }
 {
     match judge.take(alloc) {
-        Some(held) => {
-            let mut held = held;
+        Some(mut held) => {
             let state = take_line(&mut held, line);
             judge.put(held);
             state
@@ -80,8 +79,7 @@ pub extern "C" fn capcheck_judge_lines(
     ensures handed { HandsOverLines bytes.now (held_in judge.old) (held_in judge.new) result }
 {
     match judge.take(alloc) {
-        Some(held) => {
-            let mut held = held;
+        Some(mut held) => {
             let taken = take_lines(&mut held, bytes);
             judge.put(held);
             taken
@@ -145,11 +143,7 @@ pub extern "C" fn capcheck_judge_close(alloc: Global, judge: &mut Handle)
 /// Hands a line to a judge: 0, 2, 3 or 5, as [`capcheck_judge_line`] says.
 fn take_line(judge: &mut Judge<PageStore>, line: &[u8]) -> u8
     ensures answers { (result ≡ 0) ⊎ (result ≡ 2) ⊎ (result ≡ 3) ⊎ (result ≡ 5) }
-    ensures taken { result < 3 → Follows (stage_of judge.old) line.now (stage_of judge.new) }
-    ensures goes_on { result ≡ 0 → verdict_so_far (stage_of judge.new).due ≡ None }
-    ensures at_fault { result ≡ 2 → verdict_so_far (stage_of judge.new).due ≢ None }
-    ensures unchanged { 2 < result → known_of judge.new ≡ known_of judge.old }
-    ensures no_memory { result ≡ 3 → Lacks (stage_of judge.old) line.now [] }
+    ensures takes { TakesLine judge.old line.now result judge.new }
     ensures no_line { (result ≡ 5) ↔ IsNoLine line.now }
 {
     match judge.take_line(line) {

@@ -3,12 +3,12 @@
 //! Each call answers as `capcheck_judge_line` does on the line that spells the step. Where a number is out of its
 //! range no line spells it: it answers 5, and nothing has changed.
 
-ghost use Rattle.std.specs.Prelude.{◌≡◌, ◌⊎◌, ◌<◌, [], ◌∷◌, ◌++◌, ◌≢◌, None};
+ghost use Rattle.std.specs.Prelude.{◌≡◌, ◌⊎◌, [], ◌∷◌, ◌++◌, IfSome};
 ghost use Rattle.cap_log.specs.Lines.{spelling};
 ghost use Rattle.cap_log.specs.declared.lines.Line.TheVariants as line;
-ghost use Rattle.cap_judge.specs.Readings.{Follows, Lacks, known_of, stage_of, verdict_so_far};
+ghost use Rattle.cap_judge.specs.Readings.{IsUnmade};
 ghost use Rattle.cap_halves.specs.PassedSteps as steps;
-ghost use Rattle.capcheck_judge.specs.Handles.{HandsOver, held_in};
+ghost use Rattle.capcheck_judge.specs.{Handles.{HandsOver, held_in}, Takings.TakesLine};
 
 use crate::handle::Handle;
 use cap_halves::halves::taken;
@@ -18,7 +18,7 @@ use cap_log::kinds::{
     AndPerm, ClearTag, Load, LoadCap, Move, Seal, SetAddr, SetBounds, SetBoundsExact, Store,
     StoreCap, Unseal,
 };
-use cap_machine::Instruction;
+use cap_machine::{Instruction, StepEnd};
 use cap_report::answers::{GOES_ON, NO, NO_JUDGE, NO_LINE, NO_MEMORY};
 use std::alloc::Global;
 use tagmem::{PageStore, TaggedStore};
@@ -123,8 +123,7 @@ pub extern "C" fn capcheck_judge_seal(
 ) -> u8
     ensures step { HandsOver (line.Step (steps.seal_passed target source authority recorded)) (held_in judge.old) (held_in judge.new) result }
 {
-    let recorded = taken(recorded);
-    hand_over::<Seal>(alloc, judge, (target, source, authority, recorded))
+    hand_over::<Seal>(alloc, judge, (target, source, authority, taken(recorded)))
 }
 
 /// Hands over a step `unseal`.
@@ -139,8 +138,7 @@ pub extern "C" fn capcheck_judge_unseal(
 ) -> u8
     ensures step { HandsOver (line.Step (steps.unseal_passed target source authority recorded)) (held_in judge.old) (held_in judge.new) result }
 {
-    let recorded = taken(recorded);
-    hand_over::<Unseal>(alloc, judge, (target, source, authority, recorded))
+    hand_over::<Unseal>(alloc, judge, (target, source, authority, taken(recorded)))
 }
 
 /// Hands over a step `lc`.
@@ -155,8 +153,7 @@ pub extern "C" fn capcheck_judge_lc(
 ) -> u8
     ensures step { HandsOver (line.Step (steps.lc_passed target authority offset recorded)) (held_in judge.old) (held_in judge.new) result }
 {
-    let recorded = taken(recorded);
-    hand_over::<LoadCap>(alloc, judge, (target, authority, offset, recorded))
+    hand_over::<LoadCap>(alloc, judge, (target, authority, offset, taken(recorded)))
 }
 
 /// Hands over a step `sc`.
@@ -210,8 +207,7 @@ fn hand_over<I: Instruction>(alloc: Global, judge: &mut Handle, numbers: I::Numb
 {
     match I::from_numbers(numbers) {
         Some(step) => match judge.take(alloc) {
-            Some(held) => {
-                let mut held = held;
+            Some(mut held) => {
                 let state = take_step(&mut held, step);
                 judge.put(held);
                 state
@@ -232,14 +228,23 @@ fn hand_over<I: Instruction>(alloc: Global, judge: &mut Handle, numbers: I::Numb
 #[inline(always)]
 fn take_step<I: Instruction>(judge: &mut Judge<PageStore>, step: I) -> u8
     ensures answers { (result ≡ 0) ⊎ (result ≡ 2) ⊎ (result ≡ 3) }
-    ensures taken { result < 3
-        → Follows (stage_of judge.old) (spelling (line.Step (I.step step)) ++ 10 ∷ []) (stage_of judge.new) }
-    ensures goes_on { result ≡ 0 → verdict_so_far (stage_of judge.new).due ≡ None }
-    ensures at_fault { result ≡ 2 → verdict_so_far (stage_of judge.new).due ≢ None }
-    ensures unchanged { 2 < result → known_of judge.new ≡ known_of judge.old }
-    ensures no_memory { result ≡ 3 → Lacks (stage_of judge.old) (spelling (line.Step (I.step step)) ++ 10 ∷ []) [] }
+    ensures takes { TakesLine judge.old (spelling (line.Step (I.step step)) ++ 10 ∷ []) result judge.new }
 {
-    match judge.take_step(step) {
+    match judge.make_step(step) {
+        Ok(()) => GOES_ON,
+        Err(end) => take_unmade(judge, step, end),
+    }
+}
+
+// Hands a step to a judge that did not make it. The call gets a value of its own: so a step needn't stand in memory
+// where it is made.
+#[inline(always)]
+fn take_unmade<I: Instruction>(judge: &mut Judge<PageStore>, step: I, end: Option<StepEnd>) -> u8
+    requires ends { IfSome end (IsUnmade judge.old (I.step step)) }
+    ensures answers { (result ≡ 0) ⊎ (result ≡ 2) ⊎ (result ≡ 3) }
+    ensures takes { TakesLine judge.old (spelling (line.Step (I.step step)) ++ 10 ∷ []) result judge.new }
+{
+    match judge.take_unmade(step.into_step(), end) {
         Ok(()) => match judge.answer() {
             None => GOES_ON,
             Some(_) => NO,

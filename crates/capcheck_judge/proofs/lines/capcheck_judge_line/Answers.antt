@@ -6,9 +6,8 @@ use Rattle.capcheck_judge.proofs.lines.capcheck_judge_line.Goals as goal
 handed : (c : goal.After-put) → HandsLine c.args.line.now c.args.judge.now.judge c.put.new.self.judge c.take_line-state.result
 handed c =
     let is : c.args.judge.now.judge ≡ Some c.deref_mut.result.now = c.in-Some.ensures.taken ∙ ap Some (sym c.deref_mut.ensures.value) in
-    let ensures = c.take_line-state.ensures in
     line_handed c.args.line.now c.args.judge.now.judge c.put.new.self.judge c.deref_mut.result.now c.take_line-state.new.judge
-    c.take_line-state.result is c.put.ensures ensures.taken ensures.goes_on ensures.at_fault ensures.unchanged ensures.no_memory
+    c.take_line-state.result is c.put.ensures c.take_line-state.ensures.takes
 
 pub returns-in-Some-clause-taken : goal.returns-in-Some-clause-taken
 returns-in-Some-clause-taken c = (handed c).taken

@@ -15,6 +15,6 @@ returns-in-Some-take g c =
     let state = c.take_step-state.result in
     let ensures = c.take_step-state.ensures in
     let taken = line_handed (spelling (Line.Step (step_of c.in-Some.step)) ++ 10 ∷ []) held after c.deref_mut.result.now new state is
-    c.put.ensures ensures.taken ensures.goes_on ensures.at_fault ensures.unchanged ensures.no_memory in
+    c.put.ensures ensures.takes in
     handed (Line.Step (step_of wanted)) held after c.deref_mut.result.now new state of.0 is c.put.ensures ensures.answers
     (subst (λ operands. HandsLine (spelling (Line.Step (step_of operands)) ++ 10 ∷ []) held after state) of.1 taken)

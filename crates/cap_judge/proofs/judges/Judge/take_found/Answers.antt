@@ -1,13 +1,13 @@
-use Rattle.std.proofs.Common.{inl, inr, refl, subst, sym, drop, take, ◌+◌}
+use Rattle.std.proofs.Common.{inl, inr, refl, rules, subst, sym, drop, take, ◌+◌}
 use Rattle.cap_log.specs.Front.{IsFront}
 use Rattle.cap_judge.specs.Readings.{EndsAt, Known, at, stage_of}
 use Rattle.cap_judge.proofs.TurnLemmas.{begins_by, goes_none, text_ends_at}
 use Rattle.cap_judge.proofs.judges.Judge.take_found.Goals as goal
 
-pub returns-then-is_at_fault-clause-err : goal.returns-then-is_at_fault-clause-err
-returns-then-is_at_fault-clause-err g c =
+pub returns-in-Refused-clause-err : goal.returns-in-Refused-clause-err
+returns-in-Refused-clause-err g c =
     let stage = stage_of c.args.self.now in
-    (stage, goes_none stage, inl (c.is_at_fault.ensures.at c.if-is_at_fault.true, refl))
+    (stage, goes_none stage, inl (search rules, refl))
 
 pub stop-requires-clause-ends : goal.stop-requires-clause-ends
 stop-requires-clause-ends g c = inr (subst (IsFront c.args.bytes.now) c.in-TooLong.is c.requires.found, c.refusal_of_long.ensures)

@@ -1,4 +1,4 @@
-use Rattle.std.proofs.Common.{◌≡◌, ℕ, List, [], ◌∷◌, ◌++◌, rules, subst}
+use Rattle.std.proofs.{Common.{ℕ, List, ◌∷◌, ◌++◌, rules, subst}, lemmas.List.nil_from_length}
 use Rattle.cap_log.specs.{declared.lines.Line.TheVariants.Step, Heads.head_spelling, Lines.{IsInRange, spelling}}
 use Rattle.cap_log.specs.Parts.{Begins}
 use Rattle.cap_machine.specs.Helds.{AnswersStep}
@@ -10,10 +10,9 @@ returns g c =
     let old = c.args.machine.now in
     let new = c.perform_by.new.machine in
     let bytes = head_spelling g.I.Operands.head ++ 32 ∷ c.args.operands.now in
-    let read = c.in-Some in
+    let read = c.in_ok-instruction in
     let step = g.I.Operands.step read.instruction in
-    let behind = c.goes_on.ensures c.if-goes_on.false in
-    let none : read.rest.now ≡ [] = search rules in
+    let none = nil_from_length read.rest.now (search rules) in
     let begins = subst (λ (r : List ℕ). Begins IsInRange spelling 10 bytes (Step step) r) none read.ensures.some in
     let answers : AnswersStep old step c.perform_by.result new = search rules in
     record { done = step_answered old new bytes step c.perform_by.result begins answers }

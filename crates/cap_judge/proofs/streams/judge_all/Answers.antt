@@ -4,7 +4,7 @@ use Rattle.cap_log.specs.FaultLines.{bytes_of}
 use Rattle.cap_judge.specs.{Logs.MayLackMemory, Readings.{EndsWith, Follows, stage_of}, Turns.unread}
 use Rattle.cap_judge.proofs.SourceLemmas.{all_judged, all_lack, ended_answer}
 use Rattle.cap_judge.proofs.{TurnLaws.{lacks_memory, reached, refused_told, told}, TurnLemmas.{faults_at, stop_follows}}
-use Rattle.cap_judge.proofs.keeping.judge_all.Goals as goal
+use Rattle.cap_judge.proofs.streams.judge_all.Goals as goal
 
 pub returns-in-Cut : goal.returns-in-Cut
 returns-in-Cut g c = record {

@@ -3,7 +3,7 @@ use Rattle.cap_log.specs.{declared.{kinds.Step.Step, lines.Line.Line}, Lines.{Is
 use Rattle.cap_log.proofs.SpellingLemmas.{IsLine-spelling}
 use Rattle.cap_judge.specs.Readings.{IsNoLine}
 use Rattle.cap_judge.proofs.TurnLemmas.{memory_only, memory_why}
-use Rattle.cap_judge.proofs.judges.Judge.take_written.Goals as goal
+use Rattle.cap_judge.proofs.judges.Judge.take_unmade.Goals as goal
 
 pub take_end-requires-clause-body : goal.take_end-requires-clause-body
 take_end-requires-clause-body g c = (rw c.in-Some.is at c.requires.ends).0

@@ -1,11 +1,11 @@
 use Rattle.std.proofs.Common.{◌∙◌, Some, ap}
 use Rattle.cap_judge.proofs.TurnLemmas.{memory_only, no_line, step_follows, step_whole, whole_some}
-use Rattle.cap_judge.proofs.judges.Judge.take_body.Goals as goal
+use Rattle.cap_judge.proofs.judges.Judge.take_line.Goals as goal
 
 pub returns-in-Some-Ok-clause-taken : goal.returns-in-Some-Ok-clause-taken
 returns-in-Some-Ok-clause-taken g c =
     let step = rw (c.in-Some-Ok.is ∙ ap Some c.in-Some-Ok.field-0-is) at c.take_alone.ensures in
-    step_follows c.args.self.now.stage c.args.self.now.machine _ c.args.line.now c.requires.body step
+    step_follows c.args.self.now.stage c.args.self.now.machine _ c.args.line.now c.in-Body.is step
 
 pub returns-in-Some-Ok-clause-no_line : goal.returns-in-Some-Ok-clause-no_line
 returns-in-Some-Ok-clause-no_line g c =
@@ -17,9 +17,3 @@ returns-in-Some-Err-clause-no_line g c =
     let ends = (rw (c.in-Some-Err.is ∙ ap Some c.in-Some-Err.field-0-is) at c.take_alone.ensures).0 in
     no_line c.take_end.result c.args.line.now (whole_some c.args.line.now (step_whole c.args.line.now ends.0 ends.1))
     (memory_only c.take_end.result _ c.take_end.ensures.no_memory)
-
-pub returns-in-None-clause-taken : goal.returns-in-None-clause-taken
-returns-in-None-clause-taken g c = rw c.in-None.ensures at c.take_whole.ensures.taken
-
-pub returns-in-None-clause-no_memory : goal.returns-in-None-clause-no_memory
-returns-in-None-clause-no_memory g c = rw c.in-None.ensures at c.take_whole.ensures.no_memory

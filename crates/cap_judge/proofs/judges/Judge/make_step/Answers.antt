@@ -1,7 +1,7 @@
 use Rattle.std.proofs.Common.{◌++◌, ◌∷◌, [], refl}
 use Rattle.cap_log.specs.{declared.lines.Line.Line, Lines.spelling}
 use Rattle.cap_judge.proofs.TurnLemmas.{makes_takes, step_follows}
-use Rattle.cap_judge.proofs.judges.Judge.take_step.Goals as goal
+use Rattle.cap_judge.proofs.judges.Judge.make_step.Goals as goal
 
 pub returns-in-Ok-clause-taken : goal.returns-in-Ok-clause-taken
 returns-in-Ok-clause-taken g c =
