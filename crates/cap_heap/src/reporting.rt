@@ -1,8 +1,8 @@
 //! The judge that writes its verdict into a sink.
 
 ghost use Rattle.std.specs.Prelude.{ℕ, List, take, ◌++◌, Err, OnOk, OnErr};
-ghost use Rattle.cap_log.specs.{declared.judge_faults.JudgeToFault.TheVariants.{Pull, Push}, FaultLines.bytes_of};
-ghost use Rattle.cap_log.specs.Streams.{CountsFault, CountsOnly};
+ghost use Rattle.cap_streams.specs.{declared.judge_faults.JudgeToFault.TheVariants.{Pull, Push}, FaultLines.bytes_of};
+ghost use Rattle.cap_streams.specs.Streams.{CountsFault, CountsOnly};
 ghost use Rattle.cap_heap.specs.{HeapReports.report_lines, Texts.{IsLineReport, IsText}};
 ghost use Rattle.cap_heap.specs.VerdictLines.{Told, heap_line};
 

@@ -2,7 +2,7 @@
 
 ghost use Rattle.std.specs.Prelude.{◌≡◌};
 ghost use Rattle.std.specs.FinMap as map;
-ghost use Rattle.cap_log.specs.FaultLines.{bytes_of};
+ghost use Rattle.cap_streams.specs.FaultLines.{bytes_of};
 ghost use Rattle.cap_judge.specs.{Judgings.JudgedAll, Readings.stage_of, Turns.unread};
 
 use crate::judges::{Judge, Stop};

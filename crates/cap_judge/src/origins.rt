@@ -1,7 +1,8 @@
 //! Pushing the lines of the origins of what a machine holds.
 
 ghost use Rattle.std.specs.Prelude.{ℕ, ◌+◌, ◌^◌, take, OnOk, OnErr};
-ghost use Rattle.cap_log.specs.{Lines.IsPlace, Streams.CountsFault};
+ghost use Rattle.cap_log.specs.Lines.{IsPlace};
+ghost use Rattle.cap_streams.specs.Streams.{CountsFault};
 ghost use Rattle.cap_machine.specs.States.{key_of};
 ghost use Rattle.cap_judge.specs.OriginLists.{held_lines};
 

@@ -2,8 +2,8 @@
 
 ghost use Rattle.std.specs.Prelude.{◌≡◌, ◌≢◌, ◌≤◌, ℕ, List, ◌++◌, length, take, true, Err, Option, IfOk, OnOk, OnErr};
 ghost use Rattle.std.specs.FinMap as map;
-ghost use Rattle.cap_log.specs.{declared.judge_faults.JudgeToFault.TheVariants.{Pull, Push}, FaultLines.bytes_of};
-ghost use Rattle.cap_log.specs.{Front.IsCut, Streams.{CountsFault, CountsOnly}};
+ghost use Rattle.cap_streams.specs.{declared.judge_faults.JudgeToFault.TheVariants.{Pull, Push}, FaultLines.bytes_of};
+ghost use Rattle.cap_streams.specs.{Front.IsCut, Streams.{CountsFault, CountsOnly}};
 ghost use Rattle.cap_machine.specs.Helds.{account_of};
 ghost use Rattle.cap_judge.specs.{declared.verdict.Verdict.{Verdict, TheVariants.No}, Readings.HasRead};
 ghost use Rattle.cap_judge.specs.{Reports.{IsPushedFor, Reported}, VerdictLines.verdict_line, Verdicts.NamesEscapes};

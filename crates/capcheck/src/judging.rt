@@ -1,8 +1,8 @@
 //! Judging an input, and pushing the text of the verdict.
 
 ghost use Rattle.std.specs.Prelude.{◌≡◌, ℕ, List, Err, true};
-ghost use Rattle.cap_log.specs.Streams.{CountsOnly};
-ghost use Rattle.cap_log.specs.declared.judge_faults.JudgeToFault.TheVariants as judging;
+ghost use Rattle.cap_streams.specs.Streams.{CountsOnly};
+ghost use Rattle.cap_streams.specs.declared.judge_faults.JudgeToFault.TheVariants as judging;
 ghost use Rattle.cap_judge.specs.{Judgings.IsAnswerOf, Reports.{Reported, Tells}, VerdictLines.verdict_status};
 ghost use Rattle.cap_program.specs.{Doings.{IsCounted, IsDone}, Judging.{ShowsVerdict, StopsJudging, judged}};
 

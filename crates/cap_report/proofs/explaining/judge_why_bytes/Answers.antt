@@ -1,5 +1,5 @@
 use Rattle.std.proofs.Common.{subst}
-use Rattle.cap_log.specs.FaultLines.{bytes_of}
+use Rattle.cap_streams.specs.FaultLines.{bytes_of}
 use Rattle.cap_judge.specs.Judgings.{JudgedAll}
 use Rattle.cap_judge.proofs.{EscapeLaws.named, ReportLemmas.IsHeld}
 use Rattle.cap_report.proofs.WhyLemmas.{told}

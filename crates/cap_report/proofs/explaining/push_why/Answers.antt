@@ -1,5 +1,5 @@
 use Rattle.std.proofs.Common.{◌++◌, true, false, subst, sym, take}
-use Rattle.cap_log.specs.FaultLines.{bytes_of}
+use Rattle.cap_streams.specs.FaultLines.{bytes_of}
 use Rattle.cap_judge.specs.{OriginLists.report_text, VerdictLines.verdict_line}
 use Rattle.cap_report.proofs.WhyLemmas.{on_ok, on_err, why_yes, why_no}
 use Rattle.cap_report.proofs.explaining.push_why.Goals as goal

@@ -1,5 +1,5 @@
 use Rattle.std.proofs.Common.{inr}
-use Rattle.cap_log.specs.FaultLines.{bytes_of}
+use Rattle.cap_streams.specs.FaultLines.{bytes_of}
 use Rattle.cap_judge.specs.Readings.{stage_of}
 use Rattle.cap_judge.proofs.TurnLemmas.{last_front}
 use Rattle.cap_judge.proofs.judges.Judge.refuse.Goals as goal
