@@ -217,7 +217,7 @@ def compare(page, prose, text):
     if core > MOST:
         fail(f"the core has {core} lines, more than {MOST}")
     version, digest = re.search(r"@version (\S+) (\S+)", text).groups()
-    lines = "\n".join(line for it in sorted(reached(prose.partition(CORE_END)[0])) for line in text_of(*it))
+    lines = "\n".join(line for it in sorted(reached(prose.partition(CORE_END)[0]), key=lambda it: it[::-1]) for line in text_of(*it))
     now = hashlib.sha256(lines.encode()).hexdigest()[:12]
     if digest != now:
         fail(f"the core isn't that of version {version}: if its meaning changed, raise the version in {WORDS}; then write the digest {now} beside it")

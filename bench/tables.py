@@ -10,7 +10,7 @@ from tree import KIT, WIDTH, comment_of, fail, text_of
 # The modules in which names are looked for.
 CORE = {(crate, name) for crate, names in {
     "cap_word": "Fields Word Memory Digits", "cap_bounds": "Bounds Rounding Range", "tagmem": "Granules",
-    "cap_ops": "Checks Permissions Operations Accesses Authority Refusals", "cap_log": "Lines Ranges Front Streams",
+    "cap_ops": "Checks Permissions Operations Accesses Authority Refusals", "cap_log": "Lines Ranges", "cap_streams": "Front Streams",
     "cap_machine": "States Steps Accounts Runs RunAccounts Origins Escapes", "cap_judge": "Logs Verdicts Judgings VerdictLines"}.items() for name in names.split()}
 CHECKS = "authority_checks type_authority_checks seal_checks unseal_checks set_bounds_checks set_addr_checks and_perm_checks stored_checks access_checks"
 ROWS = CHECKS + " permission_for operation access_through address_through granule_through row_of"
@@ -237,7 +237,7 @@ def limits_table(first):
     module, numbers = ("cap_machine", "Accounts"), numbers_from(first)
     roots, steps = (f"{int(text_of(module, it)[1].split('= ')[1]):,}" for it in ("most_roots", "most_steps"))
     one, two = (f"{int(it.split('= ')[1]):,}" for it in text_of(module, "most_granules")[1:])
-    longest = re.search(r"length line ≤ (\d+)", "\n".join(text_of(("cap_log", "Front"), "IsLine")))[1]
+    longest = re.search(r"length line ≤ (\d+)", "\n".join(text_of(("cap_streams", "Front"), "IsLine")))[1]
     return rows_of(["", "Name", "Limit on", "Version 1", "Version 2"], [
         [next(numbers), "`most_roots`", "roots", roots, "the same"],
         [next(numbers), "`most_granules`", "distinct granules that a root, an `sc` or a `store` names", one, two],

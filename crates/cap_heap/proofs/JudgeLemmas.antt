@@ -2,12 +2,12 @@
 use Rattle.std.proofs.Common.{◌≡◌, ◌≢◌, ℕ, ◌+◌, ◌^◌, ◌≤◌, inl, inr, Bool, true, List, [], ◌∷◌, ◌++◌, length, refl, sym}
 use Rattle.std.proofs.Common.{ap, subst, ◌∙◌, append-nil, append_assoc, arith, Result, Ok, Err, length-append}
 use Rattle.std.proofs.lemmas.{Grind.flat_map-append, List.{length_push, length-map, take-append-le, Elements.All-nil}}
-use Rattle.cap_log.specs.declared.{judge_faults.JudgeFault.TheVariants.Pull, sources.PullFault.PullFault}
-use Rattle.cap_log.specs.declared.taking.{Lines.Lines, Next.Next}
-use Rattle.cap_log.specs.declared.taking.Next.TheVariants.{Line, LineTooLong, Truncated, Finished}
-use Rattle.cap_log.specs.{Front.{IsLine, IsCut, IsFrontText, IsTooLong}, Takings.{IsNext, Answered, kept, over_of}}
-use Rattle.cap_log.proofs.FrontLemmas.{IsLine-more, IsLine-not_cut, IsLine-not_too_long, IsTooLong-more}
-use Rattle.cap_log.proofs.FrontLemmas.{IsTooLong-not_cut}
+use Rattle.cap_streams.specs.declared.{judge_faults.JudgeFault.TheVariants.Pull, sources.PullFault.PullFault}
+use Rattle.cap_streams.specs.declared.lines.{Lines.Lines, Next.{Next, TheVariants.{Line, LineTooLong, Truncated}}}
+use Rattle.cap_streams.specs.{declared.lines.Next.TheVariants.Finished, Front.{IsLine, IsCut, IsFrontText, IsTooLong}}
+use Rattle.cap_streams.specs.Takings.{IsNext, Answered, kept, over_of}
+use Rattle.cap_streams.proofs.FrontLemmas.{IsLine-more, IsLine-not_cut, IsLine-not_too_long, IsTooLong-more}
+use Rattle.cap_streams.proofs.FrontLemmas.{IsTooLong-not_cut}
 use Rattle.cap_heap.specs.declared.{events.EventEnd.EventEnd, lines.HeapLine.{HeapLine, TheVariants.{Happens, End}}}
 use Rattle.cap_heap.specs.declared.{progress.Progress.Progress, refusal.HeapRefusal.HeapRefusal, stage.Stage.Stage}
 use Rattle.cap_heap.specs.declared.verdict.HeapVerdict.{HeapVerdict, TheVariants.{No, Yes}}

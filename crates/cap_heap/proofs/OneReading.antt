@@ -7,8 +7,10 @@ use Rattle.std.proofs.lemmas.{List.Elements.All-append, Option.none-some}
 use Rattle.cap_word.specs.Digits.{hex_digits}
 use Rattle.cap_word.proofs.DigitLemmas.{length-hex_digits}
 use Rattle.cap_bounds.specs.declared.decoding.Interval.{Interval}
-use Rattle.cap_log.specs.{Front.{HasNoFeed, IsLine, FrontIs}, Spaceless.{Lacks-by_test, Lacks-hex, Lacks-decimal}}
-use Rattle.cap_log.proofs.{ElementLemmas.short_decimal, FrontLemmas.{IsLine-same, IsLine-not_too_long, IsLine-not_cut}}
+use Rattle.cap_streams.specs.Front.{HasNoFeed, IsLine, FrontIs}
+use Rattle.cap_log.specs.Spaceless.{Lacks-by_test, Lacks-hex, Lacks-decimal}
+use Rattle.cap_log.proofs.ElementLemmas.{short_decimal}
+use Rattle.cap_streams.proofs.FrontLemmas.{IsLine-same, IsLine-not_too_long, IsLine-not_cut}
 use Rattle.cap_heap.specs.declared.{events.Event.{Event, TheVariants.{Malloc, Free}}, lines.HeapLine.HeapLine}
 use Rattle.cap_heap.specs.declared.lines.HeapLine.TheVariants.{Header, Root, Happens, End}
 use Rattle.cap_heap.specs.{declared.refusal.HeapRefusal.HeapRefusal, Beginnings.objects_after, Events.Throughout}

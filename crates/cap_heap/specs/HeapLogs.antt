@@ -2,7 +2,7 @@
 use Rattle.std.specs.Prelude.{◌≡◌, ◌≢◌, ℕ, ◌+◌, ◌-◌, ◌^◌, ◌<◌, ◌⊎◌, None, List, [], ◌∷◌, ◌++◌, length, map, flat_map}
 use Rattle.std.specs.{Prelude.fold, List.AllByRecursion}
 use Rattle.cap_bounds.specs.declared.decoding.Interval.{Interval}
-use Rattle.cap_log.specs.Front.{FrontIs}
+use Rattle.cap_streams.specs.Front.{FrontIs}
 use Rattle.cap_heap.specs.declared.{events.Event.Event, lines.HeapLine.HeapLine}
 use Rattle.cap_heap.specs.declared.lines.HeapLine.TheVariants.{Header, Root, Happens, End}
 use Rattle.cap_heap.specs.declared.refusal.HeapRefusal.{HeapRefusal, TheVariants.{BadHeader, LineTooLong, BadLine}}

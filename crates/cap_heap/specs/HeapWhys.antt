@@ -3,7 +3,7 @@ use Rattle.std.specs.Prelude.{◌≡◌, ◌⊎◌, ℕ, ◌+◌, Bool, ◌&&◌
 use Rattle.std.specs.Prelude.{Some, None, MatchOption, codes, decimal}
 use Rattle.cap_word.specs.Digits.{hex_digits}
 use Rattle.cap_bounds.specs.{declared.decoding.Interval.Interval, Rounding.{rounded_base, rounded_top, alignment_of}}
-use Rattle.cap_log.specs.Front.{IsFrontText}
+use Rattle.cap_streams.specs.Front.{IsFrontText}
 use Rattle.cap_texts.specs.{CapLines.bounds_line, ShownBytes.shown_line, TextLines.text_line}
 use Rattle.cap_heap.specs.declared.{events.Event.{Event, TheVariants.{Malloc, Free}}, lines.HeapLine.HeapLine}
 use Rattle.cap_heap.specs.declared.{lines.HeapLine.TheVariants.{Happens, End, Root}, refusal.HeapRefusal.HeapRefusal}

@@ -2,7 +2,7 @@
 -- below).
 use Rattle.std.specs.Prelude.{◌≡◌, ◌⊎◌, ℕ, ◌+◌, ◌-◌, ◌^◌, ◌<◌, List, [], ◌∷◌, ◌++◌, length}
 use Rattle.cap_bounds.specs.declared.decoding.Interval.{Interval}
-use Rattle.cap_log.specs.Front.{IsFrontText}
+use Rattle.cap_streams.specs.Front.{IsFrontText}
 use Rattle.cap_heap.specs.declared.events.{Event.{Event, TheVariants.Malloc}, EventEnd.EventEnd}
 use Rattle.cap_heap.specs.declared.{events.EventEnd.TheVariants.{Refused, NoMemory}, heap.Heap.Heap}
 use Rattle.cap_heap.specs.declared.{lines.HeapLine.{HeapLine, TheVariants.{Happens, End}}, progress.Progress.Progress}

@@ -1,7 +1,7 @@
 //! What is told of bytes that are no line: which word is wrong.
 
 ghost use Rattle.std.specs.Prelude.{◌≡◌, ◌++◌, ℕ, List, ◌+◌, ◌≤◌, IfNone, IfSome, codes, false, length, true};
-ghost use Rattle.cap_log.specs.Parts.{Writes};
+ghost use Rattle.cap_streams.specs.Written.{Writes};
 ghost use Rattle.cap_texts.specs.{TextLines.text_line, WrongLines.hint_line};
 ghost use Rattle.cap_heap.specs.{declared.bad_lines.Name.Name, BadLines.{AreBadLines, AreFirstLines, HasNoWrongWord}};
 ghost use Rattle.cap_heap.specs.BadLines.{IsMachineHeader, IsNamed, IsWrongWord, fields_of};

@@ -1,8 +1,8 @@
 //! The judge of an allocator's log.
 
 ghost use Rattle.std.specs.Prelude.{◌≡◌, Err};
-ghost use Rattle.cap_log.specs.{declared.judge_faults.JudgeFault.TheVariants.Pull, FaultLines.bytes_of};
-ghost use Rattle.cap_log.specs.{Streams.CountsOnly, Takings.kept};
+ghost use Rattle.cap_streams.specs.{declared.judge_faults.JudgeFault.TheVariants.Pull, FaultLines.bytes_of};
+ghost use Rattle.cap_streams.specs.{Streams.CountsOnly, Takings.kept};
 ghost use Rattle.cap_heap.specs.{declared.stage.Stage.TheVariants.Start, HeapVerdicts.HeapJudged, Heaps.live_in};
 ghost use Rattle.cap_heap.specs.Judgings.{JudgedBy, answer_at, finished_in, refused_in};
 

@@ -2,7 +2,7 @@
 
 ghost use Rattle.std.specs.Prelude.{◌≡◌, ◌+◌, ◌-◌, ◌^◌, ◌<◌, ◌≤◌, length};
 ghost use Rattle.cap_bounds.specs.Rounding.{alignment_of};
-ghost use Rattle.cap_log.specs.Parts.{Writes};
+ghost use Rattle.cap_streams.specs.Written.{Writes};
 ghost use Rattle.cap_heap.specs.declared.events.Event.TheVariants.{Malloc};
 ghost use Rattle.cap_heap.specs.HeapReports.{capped, excess_of, gap_of, padding_of, report_lines};
 

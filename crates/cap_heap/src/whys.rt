@@ -1,7 +1,7 @@
 //! The diagnosis: the line that was refused, and what its checks compared.
 
 ghost use Rattle.std.specs.Prelude.{◌≡◌, ℕ, List, ◌+◌, ◌≤◌, length};
-ghost use Rattle.cap_log.specs.Parts.{Writes};
+ghost use Rattle.cap_streams.specs.Written.{Writes};
 ghost use Rattle.cap_heap.specs.declared.events.Event.TheVariants.{Malloc};
 ghost use Rattle.cap_heap.specs.Beginnings.{AreDetailsBehind, Beginning, due_of, lines_of};
 ghost use Rattle.cap_heap.specs.HeapWhys.{AreEventDetails, apart_lines, count_in, counted_lines, due_line};

@@ -4,8 +4,10 @@ use Rattle.std.proofs.{Common.{Result, Ok, Err, IfOk}, lemmas.{Bool.{false≢tru
 use Rattle.cap_ops.specs.declared.refusal.Refusal.{Refusal, TheVariants.{BoundsEscape, LimitPassed, LineTooLong}}
 use Rattle.cap_ops.specs.declared.refusal.Refusal.TheVariants.{Misplaced, PlaceTaken, Truncated, UnsoundRoot}
 use Rattle.cap_ops.specs.{declared.refusal.Refusal.TheVariants.{WrongCount, WrongResult}, Checks.first_of}
-use Rattle.cap_log.specs.{declared.{kinds.Step.Step, lines.Line.Line}, Front.{FrontIs, IsLine}}
-use Rattle.cap_log.proofs.{FrontLemmas.{IsLine-same, IsLine-not_too_long, IsLine-not_cut}, SpellingLemmas.one_spelling}
+use Rattle.cap_log.specs.declared.{kinds.Step.Step, lines.Line.Line}
+use Rattle.cap_streams.specs.Front.{FrontIs, IsLine}
+use Rattle.cap_streams.proofs.FrontLemmas.{IsLine-same, IsLine-not_too_long, IsLine-not_cut}
+use Rattle.cap_log.proofs.SpellingLemmas.{one_spelling}
 use Rattle.cap_machine.specs.{declared.rules.Rules.Rules, Accounts.{Account, step_checks}, Escapes.Escapes}
 use Rattle.cap_machine.specs.{Parents.IsSoundState, States.{DeclaredRoot, start}}
 use Rattle.cap_machine.proofs.{AuthorityLemmas.{sound_along, start_sound}, EscapeLemmas.escapes_first}

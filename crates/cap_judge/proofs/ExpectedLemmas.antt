@@ -6,8 +6,10 @@ use Rattle.cap_word.specs.declared.word.Cap.{Cap}
 use Rattle.cap_ops.specs.{declared.refusal.Refusal.{Refusal, TheVariants.{WrongResult, LimitPassed}}, Checks.first_of}
 use Rattle.cap_ops.specs.Operations.{clear_result}
 use Rattle.cap_ops.proofs.{ClearLemmas.clear_result-none, TestLemmas.first_of-append}
-use Rattle.cap_log.specs.{declared.{kinds.Step.Step, lines.{Line.Line, Place.Place}}, Front.IsLine, Lines.Spells}
-use Rattle.cap_log.proofs.{FrontLemmas.{IsLine-same, IsLine-not_too_long}, SpellingLemmas.one_spelling}
+use Rattle.cap_log.specs.{declared.{kinds.Step.Step, lines.{Line.Line, Place.Place}}, Lines.Spells}
+use Rattle.cap_streams.specs.Front.{IsLine}
+use Rattle.cap_streams.proofs.FrontLemmas.{IsLine-same, IsLine-not_too_long}
+use Rattle.cap_log.proofs.SpellingLemmas.{one_spelling}
 use Rattle.cap_machine.specs.declared.rules.Rules.{Rules, TheVariants.TwoClear}
 use Rattle.cap_machine.specs.{Accounts.{Account, row_in, step_checks}, Shown.{given_by, given_for as shown_for}}
 use Rattle.cap_machine.specs.{States.{State, DeclaredRoot}, Steps.{Access, Recorded, Row, Nothing as Unrecorded}}

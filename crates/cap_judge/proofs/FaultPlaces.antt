@@ -3,8 +3,9 @@ use Rattle.std.specs.List.{AllByRecursion}
 use Rattle.std.proofs.Common.{◌≡◌, ℕ, ◌+◌, inl, inr, Bool, true, List, [], ◌∷◌, ◌++◌, length, refl, sym, ap, subst, ◌∙◌}
 use Rattle.std.proofs.{Common.{append-nil, arith}, lemmas.List.take-append-le}
 use Rattle.cap_ops.specs.declared.refusal.Refusal.{Refusal}
-use Rattle.cap_log.specs.{declared.lines.Line.Line, Front.IsFrontText, Lines.IsInRange}
-use Rattle.cap_log.proofs.FrontLemmas.{IsLine-more, IsTooLong-more}
+use Rattle.cap_log.specs.{declared.lines.Line.Line, Lines.IsInRange}
+use Rattle.cap_streams.specs.Front.{IsFrontText}
+use Rattle.cap_streams.proofs.FrontLemmas.{IsLine-more, IsTooLong-more}
 use Rattle.cap_machine.specs.{Accounts.Account, Helds.{Held, account_of}}
 use Rattle.cap_judge.specs.{declared.verdict.Verdict.TheVariants.No, Judgings.{IsBehind, IsVerdictOf, account_before}}
 use Rattle.cap_judge.specs.{Judgings.{IsLastFront, StopsBefore}, Logs.{Beginning, lines_of, text_of, IsFirstFault}}

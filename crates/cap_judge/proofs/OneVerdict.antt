@@ -3,9 +3,9 @@ use Rattle.std.specs.List.{AllByRecursion}
 use Rattle.std.proofs.Common.{◌≡◌, ℕ, inl, inr, List, [], ◌∷◌, ◌++◌, refl, sym, ap, subst, ◌∙◌, append_assoc, ◌+◌}
 use Rattle.std.proofs.{Common.{length, append-nil}, lemmas.Option.{none-some, same_Some}}
 use Rattle.cap_ops.specs.{declared.refusal.Refusal.Refusal, Checks.first_of}
-use Rattle.cap_log.specs.{declared.lines.Line.{Line, TheVariants.{Version, Mode}}, Front.IsLine}
-use Rattle.cap_log.specs.Lines.{spelling, IsInRange}
-use Rattle.cap_log.proofs.FrontLemmas.{IsLine-same, IsLine-not_too_long, IsLine-not_cut, IsTooLong-not_cut}
+use Rattle.cap_log.specs.{declared.lines.Line.{Line, TheVariants.{Version, Mode}}, Lines.{spelling, IsInRange}}
+use Rattle.cap_streams.specs.Front.{IsLine}
+use Rattle.cap_streams.proofs.FrontLemmas.{IsLine-same, IsLine-not_too_long, IsLine-not_cut, IsTooLong-not_cut}
 use Rattle.cap_log.proofs.SpellingLemmas.{one_spelling, IsLine-spelling}
 use Rattle.cap_judge.specs.{declared.verdict.Verdict.{Verdict, TheVariants.{Yes, No}}, Judgings.IsBehind}
 use Rattle.cap_judge.specs.Logs.{Beginning, Empty, NoMode, Body, Whole, account_after, lines_of, text_of, line_checks}

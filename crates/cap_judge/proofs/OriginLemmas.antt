@@ -4,8 +4,8 @@ use Rattle.std.proofs.Common.{◌≡◌, ℕ, zero, suc, ◌+◌, ◌-◌, ◌�
 use Rattle.std.proofs.Common.{refl, sym, ap, subst, ◌∙◌, append-nil, append_assoc, arith, nat_lt, slice_index_or}
 use Rattle.std.proofs.{Common.{unwrap_or, Result, Ok, Err, OnOk, OnErr, le-ltb}, lemmas.Bool.cond-false}
 use Rattle.std.proofs.lemmas.Grind.{flat_map-append}
-use Rattle.cap_log.specs.declared.{lines.Place.{Place, TheVariants.{Register, Granule}}, sinks.PushFault.PushFault}
-use Rattle.cap_log.specs.Lines.{IsPlace}
+use Rattle.cap_log.specs.{declared.lines.Place.{Place, TheVariants.{Register, Granule}}, Lines.IsPlace}
+use Rattle.cap_streams.specs.declared.sinks.PushFault.{PushFault}
 use Rattle.tagmem.specs.Granules.{Entry, NonePut, IsNextPut, blank, code_at}
 use Rattle.cap_machine.specs.{Helds.{Held, account_of}, Places.place_at, States.key_of}
 use Rattle.cap_judge.specs.{OriginLines.origin_line, OriginLists.{place_of, listed, origins_from, lines_from}}

@@ -7,9 +7,9 @@ use Rattle.std.proofs.lemmas.{Bool.{cond-true, cond-false, cases_lt, false≢tru
 use Rattle.std.proofs.lemmas.List.Elements.{All-nil, Contains-append_left, Contains-append_right}
 use Rattle.std.proofs.lemmas.Option.{none-some, same_Some}
 use Rattle.cap_word.specs.declared.word.Cap.{Cap}
-use Rattle.cap_log.specs.declared.judge_faults.JudgeFault.{JudgeFault, TheVariants.{NoMemory, Pull}}
-use Rattle.cap_log.specs.{declared.lines.Place.{Place, TheVariants.{Register, Granule}}, JudgeFaults.told_fault}
-use Rattle.cap_log.specs.Lines.{IsPlace}
+use Rattle.cap_streams.specs.declared.judge_faults.JudgeFault.{JudgeFault, TheVariants.{NoMemory, Pull}}
+use Rattle.cap_streams.specs.JudgeFaults.{told_fault}
+use Rattle.cap_log.specs.{declared.lines.Place.{Place, TheVariants.{Register, Granule}}, Lines.IsPlace}
 use Rattle.tagmem.specs.Granules.{AreStored, Entry}
 use Rattle.cap_machine.specs.{Accounts.Account, Helds.{Held, account_of, state_of, code_in}}
 use Rattle.cap_machine.specs.{Places.{IsCoded, AreCoded, place_at}, RunAccounts.OriginsAreRoots}

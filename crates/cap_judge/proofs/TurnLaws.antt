@@ -4,9 +4,11 @@ use Rattle.std.proofs.Common.{refl, sym, ap, subst, ◌∙◌, append-nil, appen
 use Rattle.std.proofs.{Common.length-append, lemmas.{Bool.{false≢true}, List.length-map, Option.{none-some, same_Some}}}
 use Rattle.cap_ops.specs.declared.refusal.Refusal.{Refusal, TheVariants.{BadLine, LineTooLong, Misplaced, Truncated}}
 use Rattle.cap_ops.specs.Checks.{first_of}
-use Rattle.cap_log.specs.{declared.{kinds.Step.Step, lines.Line.Line}, Front.IsCut, Lines.{IsInRange, Spells, spelling}}
+use Rattle.cap_log.specs.{declared.{kinds.Step.Step, lines.Line.Line}, Lines.{IsInRange, Spells, spelling}}
 use Rattle.cap_log.specs.Parts.{Reads as Spelled}
-use Rattle.cap_log.proofs.{FrontLemmas.{IsLine-more, IsTooLong-more}, SpellingLemmas.one_spelling}
+use Rattle.cap_streams.specs.Front.{IsCut}
+use Rattle.cap_streams.proofs.FrontLemmas.{IsLine-more, IsTooLong-more}
+use Rattle.cap_log.proofs.SpellingLemmas.{one_spelling}
 use Rattle.cap_machine.specs.{declared.rules.Rules.{Rules, TheVariants.One}, Accounts.Account, Helds.{Held, account_of}}
 use Rattle.cap_machine.specs.States.{DeclaredRoot}
 use Rattle.cap_machine.proofs.AccountLemmas.{account_after-grows}

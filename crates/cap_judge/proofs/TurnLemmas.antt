@@ -8,11 +8,12 @@ use Rattle.cap_word.specs.declared.word.Word.{Word}
 use Rattle.cap_ops.specs.declared.refusal.Refusal.{Refusal, TheVariants.{BadLine, Misplaced, Truncated}}
 use Rattle.cap_ops.specs.Checks.{first_of}
 use Rattle.cap_ops.proofs.TestLemmas.{none_hold}
-use Rattle.cap_log.specs.{declared.{kinds.Step.Step, lines.{Line.Line, Place.Place}}, FaultLines.bytes_of, Front.IsCut}
-use Rattle.cap_log.specs.{Front.{IsFrontText, IsLine, IsTooLong}, Lines.{IsInRange, Spells, spelling}, Parts.Begins}
-use Rattle.cap_log.proofs.{ElementLemmas.AllByRecursion-append, FrontLemmas.{IsLine-not_cut, IsLine-not_too_long}}
-use Rattle.cap_log.proofs.FrontLemmas.{IsLine-same, IsTooLong-not_cut, IsLine-more, IsTooLong-more}
-use Rattle.cap_log.proofs.SpellingLemmas.{IsLine-spelling}
+use Rattle.cap_log.specs.declared.{kinds.Step.Step, lines.{Line.Line, Place.Place}}
+use Rattle.cap_log.specs.{Lines.{IsInRange, Spells, spelling}, Parts.Begins}
+use Rattle.cap_streams.specs.{FaultLines.bytes_of, Front.{IsCut, IsFrontText, IsLine, IsTooLong}}
+use Rattle.cap_log.proofs.{ElementLemmas.AllByRecursion-append, SpellingLemmas.IsLine-spelling}
+use Rattle.cap_streams.proofs.FrontLemmas.{IsLine-not_cut, IsLine-not_too_long, IsLine-same, IsTooLong-not_cut}
+use Rattle.cap_streams.proofs.FrontLemmas.{IsLine-more, IsTooLong-more}
 use Rattle.cap_machine.specs.declared.{ends.StepEnd.StepEnd, rules.Rules.{Rules, TheVariants.One}}
 use Rattle.cap_machine.specs.Accounts.{Account, root_checks}
 use Rattle.cap_machine.specs.Helds.{Held, account_of, AnswersStep, EndsRoot, EndsStep, Makes, TakesRoot}

@@ -3,7 +3,8 @@ use Rattle.std.proofs.Common.{◌≡◌, ◌↔◌, ℕ, inl, inr, List, [], ◌
 use Rattle.std.proofs.{Common.{append-nil, arith, codes}, lemmas.Fmt.decimal_digit}
 use Rattle.cap_ops.specs.declared.refusal.Refusal.{Refusal}
 use Rattle.cap_log.specs.declared.lines.Line.{Line, TheVariants.{Version, Mode, Root, Step, End}}
-use Rattle.cap_log.specs.{declared.lines.Mode.TheVariants.{Strict, Clear}, Front.IsLine, Lines.{Spells, spelling}}
+use Rattle.cap_log.specs.{declared.lines.Mode.TheVariants.{Strict, Clear}, Lines.{Spells, spelling}}
+use Rattle.cap_streams.specs.Front.{IsLine}
 use Rattle.cap_log.specs.declared.kinds.Step as steps_module
 use Rattle.cap_machine.specs.{declared.rules.Rules.TheVariants.{One, TwoStrict, TwoClear}, States.DeclaredRoot}
 use Rattle.cap_judge.specs.declared.verdict.Verdict.{Verdict, TheVariants.{Yes, No}}

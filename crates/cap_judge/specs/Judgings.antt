@@ -1,7 +1,8 @@
 -- The answer on the bytes that a source gave (this profile's own, as are all below).
 use Rattle.std.specs.Prelude.{◌≡◌, ◌≢◌, ℕ, ◌+◌, Bool, true, false, List, ◌++◌, length, take, Result, Err, IfOk, IfErr}
-use Rattle.cap_log.specs.declared.{judge_faults.JudgeFault.{JudgeFault, TheVariants.{Pull, NoMemory}}, kinds.Step.Step}
-use Rattle.cap_log.specs.Front.{IsCut, FrontIs}
+use Rattle.cap_streams.specs.declared.judge_faults.JudgeFault.{JudgeFault, TheVariants.{Pull, NoMemory}}
+use Rattle.cap_streams.specs.Front.{IsCut, FrontIs}
+use Rattle.cap_log.specs.declared.kinds.Step.{Step}
 use Rattle.cap_machine.specs.{declared.rules.Rules.{Rules, TheVariants.One}, Accounts.{Account, no_account}}
 use Rattle.cap_machine.specs.{Helds.{Held, account_of}, States.DeclaredRoot}
 use Rattle.cap_judge.specs.{declared.verdict.Verdict.{Verdict, TheVariants.{Yes, No}}, Logs.{Beginning, Empty, NoMode}}

@@ -6,8 +6,8 @@ use Rattle.cap_bounds.specs.Bounds.{is_sound}
 use Rattle.cap_ops.specs.declared.refusal.Refusal.{Refusal, TheVariants.{BadHeader, LineTooLong, BadLine, Misplaced}}
 use Rattle.cap_ops.specs.{declared.refusal.Refusal.TheVariants.{Truncated, WrongCount, BadMode}, Checks.first_of}
 use Rattle.cap_log.specs.declared.lines.Line.{Line, TheVariants.{Version, Mode, Root, Step, End}}
-use Rattle.cap_log.specs.{declared.lines.Mode.TheVariants.{Strict, Clear}, Front.FrontIs}
-use Rattle.cap_log.specs.Lines.{spelling, IsInRange, Spells}
+use Rattle.cap_log.specs.{declared.lines.Mode.TheVariants.{Strict, Clear}, Lines.{spelling, IsInRange, Spells}}
+use Rattle.cap_streams.specs.Front.{FrontIs}
 use Rattle.cap_log.specs.declared.kinds.Step as steps_module
 use Rattle.cap_log.specs.declared.lines.Mode as modes_module
 pub use Rattle.cap_machine.specs.RunAccounts.{account_after}

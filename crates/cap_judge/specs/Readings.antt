@@ -2,8 +2,9 @@
 use Rattle.std.specs.Prelude.{◌≡◌, ◌≢◌, ◌⊎◌, ℕ, ◌+◌, Bool, false, IsTrue, List, [], ◌++◌, length, Option, None, Some}
 use Rattle.std.specs.{Prelude.{Result, Ok, Err}, Borrow.Bor, List.AllByRecursion}
 use Rattle.cap_ops.specs.declared.refusal.Refusal.{Refusal, TheVariants.{LineTooLong, Misplaced, Truncated}}
-use Rattle.cap_log.specs.declared.{judge_faults.JudgeFault.JudgeFault, kinds.Step.Step, lines.Line.Line}
-use Rattle.cap_log.specs.{FaultLines.bytes_of, Front.{IsCut, IsLine, IsTooLong}, Lines.{IsInRange, Spells, spelling}}
+use Rattle.cap_streams.specs.{declared.judge_faults.JudgeFault.JudgeFault, FaultLines.bytes_of}
+use Rattle.cap_streams.specs.Front.{IsCut, IsLine, IsTooLong}
+use Rattle.cap_log.specs.{declared.{kinds.Step.Step, lines.Line.Line}, Lines.{IsInRange, Spells, spelling}}
 use Rattle.cap_log.specs.Parts.{Begins, Reads as Spelled}
 use Rattle.cap_log.specs.declared.lines.Line.TheVariants as lines
 use Rattle.cap_machine.specs.{declared.ends.StepEnd.StepEnd, Accounts.{Account, is_new}, Helds.{Held, account_of}}

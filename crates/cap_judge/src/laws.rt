@@ -2,7 +2,8 @@
 
 ghost use Rattle.std.specs.{Prelude.{◌≡◌, ◌↔◌, ◌++◌, ℕ, Bool, List, None, Option, true}, List.AllByRecursion};
 ghost use Rattle.cap_ops.specs.declared.refusal.Refusal.{Refusal};
-ghost use Rattle.cap_log.specs.{declared.kinds.Step.Step, Front.IsCut, Lines.IsInRange};
+ghost use Rattle.cap_log.specs.{declared.kinds.Step.Step, Lines.IsInRange};
+ghost use Rattle.cap_streams.specs.Front.{IsCut};
 ghost use Rattle.cap_machine.specs.{declared.rules.Rules.Rules, Escapes.ClearsExactly, Helds.{Held, account_of}};
 ghost use Rattle.cap_machine.specs.{Runs.IsRun, States.{DeclaredRoot, State, start}};
 ghost use Rattle.cap_judge.specs.declared.verdict.{Expected.Expected, Verdict.{Verdict, TheVariants.No}};

@@ -1,8 +1,8 @@
 //! The judges that write into a sink: the verdict, and the origins of a log's last state.
 
 ghost use Rattle.std.specs.Prelude.{◌≤◌, ℕ, length, take, Err, IfOk, OnOk, OnErr, true, false};
-ghost use Rattle.cap_log.specs.declared.judge_faults.JudgeToFault.TheVariants.{Pull, Push};
-ghost use Rattle.cap_log.specs.Streams.{CountsFault, CountsOnly};
+ghost use Rattle.cap_streams.specs.declared.judge_faults.JudgeToFault.TheVariants.{Pull, Push};
+ghost use Rattle.cap_streams.specs.Streams.{CountsFault, CountsOnly};
 ghost use Rattle.cap_judge.specs.{OriginLists.report_text, Reports.{Reported, Tells}, VerdictLines.verdict_line};
 ghost use Rattle.cap_judge.specs.Verdicts.{NamesEscapes};
 

@@ -3,9 +3,11 @@ use Rattle.std.proofs.Common.{◌≡◌, ◌≢◌, ℕ, zero, suc, ◌+◌, ◌
 use Rattle.std.proofs.Common.{sym, ap, ◌∙◌, inl, inr, refl, subst, bytes_eq, eqb, if◌then◌else◌, arith, ne_eqb}
 use Rattle.std.proofs.{Math.Seq.take-length, lemmas.Bool.Decides.{leb_tells, eqb_tells}}
 use Rattle.std.proofs.lemmas.{List.Elements.{All-head, All-tail}, Slice.Eq.bytes_eq-Decides}
-use Rattle.cap_log.specs.{declared.{kinds.Head.Head, lines.Line.Line}, Front.{HasNoFeed, IsLine, IsTooLong, IsCut}}
-use Rattle.cap_log.specs.{Heads.head_spelling, Lines.{Spells, spelling}, Parts.HasNoSpace, Spaceless.head-spaceless}
-use Rattle.cap_log.proofs.{FrontLemmas.{HasNoFeed-take, IsLine-at}, Searches.{Decided, by_test}}
+use Rattle.cap_log.specs.{declared.{kinds.Head.Head, lines.Line.Line}, Heads.head_spelling, Lines.{Spells, spelling}}
+use Rattle.cap_log.specs.{Parts.HasNoSpace, Spaceless.head-spaceless}
+use Rattle.cap_streams.specs.Front.{HasNoFeed, IsLine, IsTooLong, IsCut}
+use Rattle.cap_streams.proofs.FrontLemmas.{HasNoFeed-take, IsLine-at}
+use Rattle.cap_log.proofs.Searches.{Decided, by_test}
 use Rattle.cap_log.proofs.Shapes.{Fits, Value, fits-of, head_of, is_made, made, made-of, named, named-spelling}
 use Rattle.cap_log.proofs.Shapes.{operands_of, row, spelling-of}
 

@@ -1,7 +1,7 @@
 -- Numbers of up to four decimal digits.
 use Rattle.std.proofs.Common.{◌≡◌, ℕ, ◌+◌, ◌/◌, ◌%◌, ◌<◌, ◌≤◌, List, [], ◌∷◌, ◌++◌, ◌∙◌, ap, sym, refl, arith, decimal}
 use Rattle.std.proofs.{Common.subst, lemmas.Fmt.{decimal_digit, decimal_step}}
-use Rattle.cap_log.specs.Parts.{Writes}
+use Rattle.cap_streams.specs.Written.{Writes}
 
 pub two : (n : ℕ) → 10 ≤ n → n < 100 → decimal n ≡ (48 + n / 10) ∷ (48 + n % 10) ∷ []
 two n least below = decimal_step n least (omega arith)

@@ -1,7 +1,8 @@
 -- Parts of a line: each value has one spelling of few bytes, and two parts with a space between are one.
 use Rattle.std.proofs.Common.{◌≡◌, ◌≢◌, ℕ, ◌+◌, ◌≤◌, List, ◌∷◌, length, sym, ap, ◌∙◌, arith, length-append}
 use Rattle.std.proofs.lemmas.List.Elements.{All-append, All-cons}
-use Rattle.cap_log.specs.{Front.HasNoFeed, Parts.{HasNoSpace, FitBoth, spaced}}
+use Rattle.cap_streams.specs.Front.{HasNoFeed}
+use Rattle.cap_log.specs.Parts.{HasNoSpace, FitBoth, spaced}
 use Rattle.cap_log.proofs.Cuts.{same_cut}
 
 -- no spelling has a space

@@ -5,18 +5,22 @@ use Rattle.std.proofs.Common.{arith, Bool, true, false, inl, inr, decimal, codes
 use Rattle.std.proofs.lemmas.Fmt.{decimal_digit, decimal_injective, length-decimal-le}
 use Rattle.cap_word.specs.{declared.word.{Cap.Cap, Word.Word}, Digits.hex_digits}
 use Rattle.cap_log.specs.declared.{kinds.{Head.Head, Step.Step}, lines.{Line.Line, Mode.Mode}}
-use Rattle.cap_log.specs.{declared.parts.{headers.Version.Version, sized.Accessed.Accessed}, Front.HasNoFeed}
-use Rattle.cap_log.specs.{Heads.{IsHead, head_spelling}, Lines.{IsInRange, IsNumber, IsVersion, IsOffset, IsPlace}}
-use Rattle.cap_log.specs.Lines.{IsRegister, IsTarget, IsWord, mode_spelling, place_spelling, register_spelling}
-use Rattle.cap_log.specs.{Lines.spelling, Parts.{BeginsWithNone, BeginsWithout, FitBoth, IsCount, IsMode, StandsBehind}}
+use Rattle.cap_log.specs.declared.parts.{headers.Version.Version, sized.Accessed.Accessed}
+use Rattle.cap_log.specs.Heads.{IsHead, head_spelling}
+use Rattle.cap_log.specs.Lines.{IsInRange, IsNumber, IsVersion, IsOffset, IsPlace, IsRegister, IsTarget, IsWord}
+use Rattle.cap_log.specs.Lines.{mode_spelling, place_spelling, register_spelling, spelling}
+use Rattle.cap_log.specs.Parts.{BeginsWithNone, BeginsWithout, FitBoth, IsCount, IsMode, StandsBehind}
 use Rattle.cap_log.specs.{Parts.{accessed_spelling, result_spelling, spaced}, Ranges.IsDatum}
 use Rattle.cap_log.specs.Spaceless.{Lacks-head, head-plain, head-spaceless}
-use Rattle.cap_log.proofs.{Cuts.{Lacks-by_test, same_cut}, OperandLemmas.{FitBoth-operand, IsOperand, Spaceless}}
-use Rattle.cap_log.proofs.{OperandLemmas.mapped, PartLemmas.{Lacks-decimal, accessed-operand, count-operand}}
-use Rattle.cap_log.proofs.PartLemmas.{number-operand, number-spaceless, offset-operand, offset-spaceless, place-operand}
-use Rattle.cap_log.proofs.PartLemmas.{place-spaceless, register-operand, register-spaceless, result-operand}
-use Rattle.cap_log.proofs.{PartLemmas.{target-operand, word-operand}, Searches.{Searched, accesses, below, caps}}
-use Rattle.cap_log.proofs.Searches.{modes as both_modes, offsets, pairs, places, registers, targets, versions, words}
+use Rattle.cap_streams.specs.Front.{HasNoFeed}
+use Rattle.cap_log.proofs.Cuts.{Lacks-by_test, same_cut}
+use Rattle.cap_log.proofs.OperandLemmas.{FitBoth-operand, IsOperand, Spaceless, mapped}
+use Rattle.cap_log.proofs.PartLemmas.{Lacks-decimal, accessed-operand, count-operand, number-operand, number-spaceless}
+use Rattle.cap_log.proofs.PartLemmas.{offset-operand, offset-spaceless, place-operand, place-spaceless}
+use Rattle.cap_log.proofs.PartLemmas.{register-operand, register-spaceless, result-operand, target-operand}
+use Rattle.cap_log.proofs.PartLemmas.{word-operand}
+use Rattle.cap_log.proofs.Searches.{Searched, accesses, below, caps, modes as both_modes, offsets, pairs, places}
+use Rattle.cap_log.proofs.Searches.{registers, targets, versions, words}
 
 -- a kind of part: its values, those in range, and their bytes. Each has one spelling, and they can be searched
 pub record Shape : Type 1 where

@@ -5,8 +5,9 @@ use Rattle.std.proofs.{Common.{length-append, take_all}, lemmas.Bool.Decides.eqb
 use Rattle.std.proofs.lemmas.Fmt.{decimal_digit, decimal_injective}
 use Rattle.cap_word.specs.Digits.{hex_digits}
 use Rattle.cap_word.proofs.DigitLemmas.{length-hex_digits}
-use Rattle.cap_log.specs.Parts.{Begins, BeginsWithNone, Writes, accessed_spelling, value_mark}
+use Rattle.cap_log.specs.Parts.{Begins, BeginsWithNone, accessed_spelling, value_mark}
 use Rattle.cap_log.specs.Ranges.{Datum, IsDataSize, IsDataValue, IsDatum}
+use Rattle.cap_streams.specs.Written.{Writes}
 use Rattle.cap_log.proofs.{Cuts.same_cut, PartLemmas.{size-small, size-spaceless}, WriteLemmas.length-Writes}
 
 -- a size is one of four texts

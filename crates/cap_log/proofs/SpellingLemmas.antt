@@ -1,12 +1,13 @@
 -- Spellings: bytes spell one line at most, and a spelling with its line feed is the line at the front of any bytes.
 use Rattle.std.proofs.Common.{◌≡◌, ◌≢◌, ℕ, ◌+◌, ◌≤◌, List, [], ◌∷◌, ◌++◌, length, sym, ap, subst, ◌∙◌, refl, arith}
 use Rattle.std.proofs.{Common.length-append, lemmas.List.{append_cancel_right, Elements.{All-append, All-cons}}}
-use Rattle.cap_log.specs.{declared.{kinds.Head.Head, lines.Line.Line}, Front.{HasNoFeed, IsLine}, Heads.head_spelling}
-use Rattle.cap_log.specs.{Lines.{IsInRange, IsLineAt, Spells, spelling}, Parts.{Begins, BeginsWithNone, Writes}}
+use Rattle.cap_log.specs.{declared.{kinds.Head.Head, lines.Line.Line}, Heads.head_spelling}
+use Rattle.cap_log.specs.{Lines.{IsInRange, IsLineAt, Spells, spelling}, Parts.{Begins, BeginsWithNone}}
 use Rattle.cap_log.specs.Spaceless.{head-spaceless}
-use Rattle.cap_log.proofs.{Cuts.same_cut, Shapes.{Fits, Value, fits-of, head-operand, head_of, made, made-of}}
-use Rattle.cap_log.proofs.Shapes.{operands_of, row, row-short, spelling-of, text}
-use Rattle.cap_log.proofs.WriteLemmas.{front_and_byte, length-Writes}
+use Rattle.cap_streams.specs.{Front.{HasNoFeed, IsLine}, Written.Writes}
+use Rattle.cap_log.proofs.Cuts.{same_cut}
+use Rattle.cap_log.proofs.Shapes.{Fits, Value, fits-of, head-operand, head_of, made, made-of, operands_of, row}
+use Rattle.cap_log.proofs.{Shapes.{row-short, spelling-of, text}, WriteLemmas.{front_and_byte, length-Writes}}
 
 -- lines with one spelling are one
 same_made : (h k : Head) → h ≡ k → (x : Value h) (y : Value k) → Fits h x → Fits k y → text h x ≡ text k y → made h x ≡ made k y

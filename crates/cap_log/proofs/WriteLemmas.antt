@@ -1,8 +1,8 @@
 -- Texts written into a buffer, one after another.
 use Rattle.std.proofs.Common.{◌≡◌, ℕ, ◌-◌, ◌≤◌, List, [], ◌∷◌, ◌++◌, length, take, drop, ap, ◌∙◌, arith, length-take-le}
 use Rattle.std.proofs.Common.{take_at}
-pub use Rattle.cap_log.specs.Written.{whole, length-Writes, ◌⨾◌}
-use Rattle.cap_log.specs.Parts.{Writes}
+pub use Rattle.cap_streams.specs.Written.{whole, length-Writes, ◌⨾◌}
+use Rattle.cap_streams.specs.Written.{Writes}
 
 -- a text at the front of a buffer, and one byte behind it
 pub front_and_byte : (i j c : ℕ) (a old mid new : List ℕ) → Writes 0 a old mid i → Writes i (c ∷ []) mid new j → j ≤ length old

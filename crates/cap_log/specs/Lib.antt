@@ -1,16 +1,5 @@
-pub mod Failings
-pub mod FaultLines
-pub mod Front
 pub mod Heads
-pub mod JudgeFaults
-pub mod Known
 pub mod Lines
 pub mod Parts
-pub mod Pulled
 pub mod Ranges
-pub mod Slices
 pub mod Spaceless
-pub mod Streams
-pub mod Takings
-pub mod Wrapped
-pub mod Written

@@ -1,6 +1,6 @@
 -- What a reader of a part of a line answers and a writer writes, and the parts themselves. All of it is this profile's
 -- own.
-use Rattle.std.specs.Prelude.{◌≡◌, ◌≢◌, ℕ, ◌+◌, ◌*◌, ◌^◌, ◌<◌, ◌≤◌, List, [], ◌∷◌, ◌++◌, length, take, drop, Option}
+use Rattle.std.specs.Prelude.{◌≡◌, ◌≢◌, ℕ, ◌*◌, ◌^◌, ◌<◌, ◌≤◌, List, [], ◌∷◌, ◌++◌, length, take, Option}
 use Rattle.std.specs.{Prelude.{Bool, true, false, Some, None, All, codes, decimal, slice_index}, List.join_with_byte}
 use Rattle.std.specs.Str.Parse.{AllDigits, digits_value}
 use Rattle.cap_word.specs.{declared.word.Cap.Cap, Digits.hex_digits}
@@ -88,9 +88,3 @@ value_mark false = []
 -- the end of a load or a store: its size, an equals sign where it is a load, and its value
 abbrev pub accessed_spelling : Bool → Datum → List ℕ
 accessed_spelling is_load datum = decimal datum.size ++ 32 ∷ (value_mark is_load ++ hex_digits (2 * datum.size) datum.value)
-
--- new is old with the text written from an index on, up to an end
-pub record Writes (at : ℕ) (text old new : List ℕ) (end : ℕ) : Type 0 where
-  pub ends : end ≡ at + length text
-  pub written : take end new ≡ take at old ++ text
-  pub rest : (k : ℕ) → end ≤ k → drop k new ≡ drop k old

@@ -2,7 +2,8 @@
 
 ghost use Rattle.std.specs.Prelude.{◌≡◌, ◌+◌, ◌<◌, ◌≤◌, length, decimal};
 ghost use Rattle.cap_word.specs.Digits.{hex_digits};
-ghost use Rattle.cap_log.specs.{Lines.{place_spelling, tag_spelling}, Parts.Writes};
+ghost use Rattle.cap_log.specs.Lines.{place_spelling, tag_spelling};
+ghost use Rattle.cap_streams.specs.Written.{Writes};
 
 use crate::lines::Place;
 use cap_word::{Word, word_text};

@@ -4,7 +4,8 @@
 
 ghost use Rattle.std.specs.Prelude.{◌≡◌, ◌≤◌, ◌∷◌, ◌++◌, length, IfSome, IfNone};
 ghost use Rattle.cap_log.specs.{Heads.{IsHead, head_spelling}, Lines.{IsInRange, spelling}};
-ghost use Rattle.cap_log.specs.{Parts.{Begins, BeginsWithNone, BeginsWithout, Writes}, Spaceless.head-spaceless};
+ghost use Rattle.cap_log.specs.{Parts.{Begins, BeginsWithNone, BeginsWithout}, Spaceless.head-spaceless};
+ghost use Rattle.cap_streams.specs.Written.{Writes};
 ghost use Rattle.cap_log.specs.declared.kinds.Head.TheVariants as heads;
 ghost use Rattle.cap_log.specs.declared.kinds.Step.TheVariants as steps;
 

@@ -1,4 +1,4 @@
-//! The lines of a log: the version, the roots, the steps and the end; and what bytes begin with, as far as lines go.
+//! The lines of a log: the version, the roots, the steps and the end.
 
 use crate::kinds::Step;
 use cap_word::Word;
@@ -34,15 +34,4 @@ pub enum Line {
     Step(Step),
     /// `end`: the number of step lines.
     End(u32),
-}
-
-/// What some bytes begin with.
-#[derive(Clone, Copy, Debug, PartialEq, Eq)]
-pub enum Front {
-    /// A whole line: its length in bytes, before its line feed.
-    Line(usize),
-    /// More than 95 bytes before any line feed.
-    TooLong,
-    /// At most 95 bytes, and no line feed among them.
-    Cut,
 }

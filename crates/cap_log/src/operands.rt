@@ -3,7 +3,8 @@
 ghost use Rattle.std.specs.Prelude.{◌≡◌, ◌≤◌, ◌∷◌, ◌++◌, length, IfSome, IfNone};
 ghost use Rattle.cap_log.specs.{declared.kinds.{Head.Head, Step.Step}, Heads.head_spelling};
 ghost use Rattle.cap_log.specs.Lines.{IsInRange, IsStepInRange, spelling};
-ghost use Rattle.cap_log.specs.Parts.{Begins, BeginsWithNone, IsMade, StandsBehind, Writes};
+ghost use Rattle.cap_log.specs.Parts.{Begins, BeginsWithNone, IsMade, StandsBehind};
+ghost use Rattle.cap_streams.specs.Written.{Writes};
 ghost use Rattle.cap_log.specs.declared.lines.Line.TheVariants as lines;
 
 use crate::kinds::{Head, Step};

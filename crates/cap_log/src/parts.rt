@@ -1,7 +1,8 @@
 //! The parts of a line: each takes itself from the front of some bytes, with the byte that ends it.
 
 ghost use Rattle.std.specs.Prelude.{ℕ, List, ◌+◌, ◌≤◌, length, IfSome, IfNone};
-ghost use Rattle.cap_log.specs.Parts.{Begins, BeginsWithNone, FitBoth, HasNoSpace, IsEnd, Writes, spaced};
+ghost use Rattle.cap_log.specs.Parts.{Begins, BeginsWithNone, FitBoth, HasNoSpace, IsEnd, spaced};
+ghost use Rattle.cap_streams.specs.Written.{Writes};
 
 pub mod cutting;
 pub mod decimals;

@@ -1,14 +1,15 @@
 //! Reading a line.
 
 ghost use Rattle.std.specs.Prelude.{◌≡◌, ◌≤◌, ℕ, List, length, IfSome, IfNone};
-ghost use Rattle.cap_log.specs.{declared.lines.Line.Line, Front.HasNoFeed, Lines.{IsInRange, Spells, spelling}};
+ghost use Rattle.cap_log.specs.{declared.lines.Line.Line, Lines.{IsInRange, Spells, spelling}};
 ghost use Rattle.cap_log.specs.Parts.{Begins, BeginsWithNone};
+ghost use Rattle.cap_streams.specs.Front.{HasNoFeed};
 
 use crate::buffers::put;
-use crate::fronts::LINE_LIMIT;
 use crate::kinds::{Head, take_operands};
 use crate::lines::Line;
 use crate::parts::Part;
+use cap_streams::LINE_LIMIT;
 
 /// Takes a line and its line feed from the front of some bytes: the line, and what follows it.
 /// `None` where no line and a line feed stand there.

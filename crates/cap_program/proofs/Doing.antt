@@ -3,7 +3,7 @@ use Rattle.std.specs.Io.KnownBytes.{Consumes}
 use Rattle.std.proofs.Common.{Bool, true, ◌≡◌, ◌≢◌, ℕ, List, [], ◌++◌, take, length, Option, Some, None, Result, Ok}
 use Rattle.std.proofs.{Common.{Err, inl, inr, refl, sym, subst, ◌∙◌, append-nil}, Math.Seq.take-length}
 use Rattle.std.proofs.lemmas.Option.{none-some}
-use Rattle.cap_log.specs.Streams.{next_count}
+use Rattle.cap_streams.specs.Streams.{next_count}
 use Rattle.cap_program.specs.declared.faults.Fault.{Fault}
 use Rattle.cap_program.specs.declared.faults.Fault.TheVariants.{Read, Write}
 use Rattle.cap_program.specs.{Commands.Meaning, Doings.{IsFollowed, gave_by, ended_by, known_bytes, IsDone, IsCounted}}

@@ -1,7 +1,7 @@
 -- What a program does with an order, over any streams. All of it is this profile's own.
 use Rattle.std.specs.Prelude.{◌≡◌, ◌≢◌, ℕ, Bool, false, ◌⊎◌, List, [], take, Option, Some, None, Result, Ok, Err, IfOk}
 use Rattle.std.specs.Prelude.{IfErr}
-use Rattle.cap_log.specs.Streams.{next_count}
+use Rattle.cap_streams.specs.Streams.{next_count}
 use Rattle.cap_program.specs.{declared.faults.Fault.{Fault, TheVariants.{Read, Write}}, Commands.Meaning}
 use Rattle.cap_program.specs.Faults.{fault_line}
 

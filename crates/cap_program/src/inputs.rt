@@ -1,7 +1,7 @@
 //! The input of an order.
 
 ghost use Rattle.std.specs.Prelude.{◌≡◌, None};
-ghost use Rattle.cap_log.specs.Wrapped.{reader_of};
+ghost use Rattle.cap_streams.specs.Wrapped.{reader_of};
 ghost use Rattle.cap_program.specs.Doings.{known_bytes};
 
 use cap_log::ReadSource;

@@ -1,7 +1,7 @@
 //! Where the text of an order goes.
 
 ghost use Rattle.std.specs.Prelude.{◌≡◌, ℕ, Bool, true, [], take, IfOk, IfErr, OnOk, Ok, Err};
-ghost use Rattle.cap_log.specs.{Streams.CountsFault, Wrapped.has_flushed};
+ghost use Rattle.cap_streams.specs.{Streams.CountsFault, Wrapped.has_flushed};
 ghost use Rattle.cap_program.specs.Doings.{IsCounted};
 
 use crate::faults::Fault;

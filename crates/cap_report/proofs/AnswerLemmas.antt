@@ -1,6 +1,6 @@
 -- An answer on all the bytes of a log, in numbers.
 use Rattle.std.proofs.Common.{◌≡◌, ℕ, List, true, refl, Err, Ok, None, Some}
-use Rattle.cap_log.specs.declared.judge_faults.JudgeFault.TheVariants.{NoMemory}
+use Rattle.cap_streams.specs.declared.judge_faults.JudgeFault.TheVariants.{NoMemory}
 use Rattle.cap_judge.specs.{declared.verdict.Verdict.Verdict, Judgings.IsAnswerOf}
 use Rattle.cap_report.specs.{declared.answers.Answer.Answer, Answers.{AnswersBytes, numbers_of, without_verdict}}
 

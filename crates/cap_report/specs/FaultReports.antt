@@ -4,7 +4,8 @@ use Rattle.cap_word.specs.{declared.word.Word.Word, Digits.hex_digits}
 use Rattle.cap_bounds.specs.Bounds.{length_of}
 use Rattle.cap_ops.specs.declared.refusal.Refusal.{Refusal, TheVariants.{BadHeader, LineTooLong, BadLine, Misplaced}}
 use Rattle.cap_ops.specs.declared.refusal.Refusal.TheVariants.{Truncated, WrongCount, PlaceTaken, LimitPassed, BadMode}
-use Rattle.cap_log.specs.{declared.lines.{Line.Line, Place.Place}, Front.IsFrontText}
+use Rattle.cap_log.specs.declared.lines.{Line.Line, Place.Place}
+use Rattle.cap_streams.specs.Front.{IsFrontText}
 use Rattle.cap_log.specs.declared.lines.Line.TheVariants as lines
 use Rattle.cap_texts.specs.{CapLines.{cap_lines, operand_lines}, ShownBytes.shown_line, TextLines.text_line}
 use Rattle.cap_texts.specs.WrongLines.{header_lines}

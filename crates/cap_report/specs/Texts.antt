@@ -1,7 +1,7 @@
 -- A text that is written where there is room for it (this profile's own, as are all below).
 use Rattle.std.specs.Prelude.{◌≡◌, ℕ, ◌+◌, ◌-◌, ◌^◌, ◌≤◌, ◌<◌, List, [], ◌++◌, length, refl}
 use Rattle.std.proofs.{Common.arith, lemmas.List.length-append}
-use Rattle.cap_log.specs.Written.{WritesInside, WritesInside-nothing, WritesInside-joined}
+use Rattle.cap_streams.specs.Written.{WritesInside, WritesInside-nothing, WritesInside-joined}
 
 -- a text is counted behind what was counted before, up to 2 ^ 64 - 1, and stands behind that where it fits
 pub record IsTold (at end : ℕ) (text old new : List ℕ) : Type 0 where

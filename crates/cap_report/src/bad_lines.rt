@@ -1,7 +1,7 @@
 //! What is told of bytes that are no line: which word is wrong.
 
 ghost use Rattle.std.specs.Prelude.{◌≡◌, ℕ, List, ◌+◌, ◌≤◌, IfNone, IfSome, length};
-ghost use Rattle.cap_log.specs.Parts.{Writes};
+ghost use Rattle.cap_streams.specs.Written.{Writes};
 ghost use Rattle.cap_report.specs.BadLines.{AreBadLines, AreFirstLines, HasNoWrongWord, IsWrongWord, fields_of};
 
 use cap_log::buffers::put;

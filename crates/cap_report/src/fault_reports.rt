@@ -1,7 +1,8 @@
 //! The report of a first fault: the line, and what the machine held before it.
 
 ghost use Rattle.std.specs.Prelude.{ℕ, List, ◌+◌, ◌++◌, ◌≤◌, length};
-ghost use Rattle.cap_log.specs.{FaultLines.bytes_of, Lines.IsPlace, Parts.Writes};
+ghost use Rattle.cap_streams.specs.{FaultLines.bytes_of, Written.Writes};
+ghost use Rattle.cap_log.specs.Lines.{IsPlace};
 ghost use Rattle.cap_machine.specs.Helds.{account_of};
 ghost use Rattle.cap_report.specs.FaultReports.{AreDetails, IsLineReport, count_lines, due_line, root_lines};
 

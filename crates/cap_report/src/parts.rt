@@ -1,7 +1,7 @@
 //! The parts of the report on a step: each is a few lines that name a value.
 
 ghost use Rattle.std.specs.Prelude.{◌+◌, ◌*◌, ◌≤◌, length};
-ghost use Rattle.cap_log.specs.Parts.{Writes};
+ghost use Rattle.cap_streams.specs.Written.{Writes};
 ghost use Rattle.cap_report.specs.Parts.{cleared_line, differs_line, lines_of_parts, part_lines, where_different};
 
 use cap_log::Place;

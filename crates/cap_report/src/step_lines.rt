@@ -3,7 +3,7 @@
 
 ghost use Rattle.std.specs.Prelude.{◌≡◌, ◌+◌, ◌*◌, ◌<◌, ◌≤◌, ◌∷◌, [], Some, None, IfSome, length};
 ghost use Rattle.cap_bounds.specs.{Bounds.{base_of, top_of}, Range.with_address, Rounding.{rounded_base, rounded_top}};
-ghost use Rattle.cap_log.specs.Parts.{Writes};
+ghost use Rattle.cap_streams.specs.Written.{Writes};
 ghost use Rattle.cap_machine.specs.{Helds.account_of, Shown.{IsRead, IsShown}};
 ghost use Rattle.cap_machine.specs.declared.shown.Given.TheVariants as givens;
 ghost use Rattle.cap_report.specs.{Parts.lines_of_parts, StepLines.{access_parts, asked_parts, given_lines}};

@@ -2,7 +2,7 @@
 
 ghost use Rattle.std.specs.Prelude.{◌≡◌, ◌+◌, ◌≤◌, ◌<◌, ◌^◌, [], length, take, IfOk, IsOk, OnErr, refl};
 ghost use Rattle.std.proofs.Common.{◌∙◌, rules};
-ghost use Rattle.cap_log.specs.{Streams.CountsFault, Written.WritesInside};
+ghost use Rattle.cap_streams.specs.{Streams.CountsFault, Written.WritesInside};
 ghost use Rattle.cap_report.specs.Texts.{IsTold-nothing, IsTold-joined};
 
 use cap_log::{PushFault, Sink};

@@ -2,7 +2,7 @@
 
 ghost use Rattle.std.specs.Prelude.{◌≡◌, ◌+◌, ◌≤◌, ◌++◌, codes, length, take, drop};
 ghost use Rattle.cap_word.specs.{Digits.hex_digits, Memory.memory_of};
-ghost use Rattle.cap_log.specs.Parts.{Writes};
+ghost use Rattle.cap_streams.specs.Written.{Writes};
 ghost use Rattle.cap_texts.specs.ExplainLines.{bounds_lines, explain_lines, mantissa_lines, permission_lines};
 ghost use Rattle.cap_texts.specs.{ExplainLines.{type_name, word_lines}, TextLines.{bytes_text, text_line}};
 

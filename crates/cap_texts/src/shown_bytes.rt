@@ -1,7 +1,7 @@
 //! Bytes as they are shown.
 
 ghost use Rattle.std.specs.Prelude.{◌*◌, ◌+◌, ◌≤◌, length};
-ghost use Rattle.cap_log.specs.Parts.{Writes};
+ghost use Rattle.cap_streams.specs.Written.{Writes};
 ghost use Rattle.cap_texts.specs.{ShownBytes.{shown, shown_byte, shown_line}, TextLines.text_line};
 
 use cap_log::buffers::{put, put_hex};

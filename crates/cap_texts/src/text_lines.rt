@@ -2,7 +2,7 @@
 
 ghost use Rattle.std.specs.Prelude.{◌+◌, ◌<◌, ◌≤◌, length, decimal};
 ghost use Rattle.cap_word.specs.Digits.{hex_digits};
-ghost use Rattle.cap_log.specs.Parts.{Writes};
+ghost use Rattle.cap_streams.specs.Written.{Writes};
 ghost use Rattle.cap_texts.specs.TextLines.{text_line, yes_or_no};
 
 use cap_log::buffers::{put, put_decimal, put_hex};

@@ -1,7 +1,7 @@
 //! The lines that say which word of a line is wrong, and what is expected there.
 
 ghost use Rattle.std.specs.Prelude.{◌≡◌, ◌+◌, ◌-◌, ◌≤◌, ◌++◌, codes, length};
-ghost use Rattle.cap_log.specs.Parts.{Writes};
+ghost use Rattle.cap_streams.specs.Written.{Writes};
 ghost use Rattle.cap_texts.specs.{TextLines.text_line, WrongLines.{end_text, found_line, header_lines, hint_line}};
 ghost use Rattle.cap_texts.specs.WrongLines.{hint_of, mark_hint, wrong_lines};
 

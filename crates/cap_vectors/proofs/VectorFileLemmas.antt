@@ -2,10 +2,11 @@
 use Rattle.std.proofs.Common.{◌≡◌, ◌≢◌, ℕ, ◌+◌, ◌<◌, inl, inr, Bool, true, false, List, [], ◌∷◌, ◌++◌, refl, sym, ap}
 use Rattle.std.proofs.Common.{subst, ◌∙◌, append-nil, append_assoc, arith, Result, Ok, Err}
 use Rattle.std.proofs.lemmas.{Grind.flat_map-append, List.length_push}
-use Rattle.cap_log.specs.declared.{sources.PullFault.PullFault, taking.{Lines.Lines, Next.Next}}
-use Rattle.cap_log.specs.declared.taking.Next.TheVariants.{Line, LineTooLong, Truncated, Finished}
-use Rattle.cap_log.specs.{Front.{IsLine, FrontIs}, Takings.{IsNext, Answered, kept, over_of}}
-use Rattle.cap_log.proofs.{ElementLemmas.AllByRecursion-append, FrontLemmas.{IsLine-more, IsTooLong-more}}
+use Rattle.cap_streams.specs.declared.{sources.PullFault.PullFault, lines.{Lines.Lines, Next.{Next, TheVariants.Line}}}
+use Rattle.cap_streams.specs.declared.lines.Next.TheVariants.{LineTooLong, Truncated, Finished}
+use Rattle.cap_streams.specs.{Front.{IsLine, FrontIs}, Takings.{IsNext, Answered, kept, over_of}}
+use Rattle.cap_log.proofs.ElementLemmas.{AllByRecursion-append}
+use Rattle.cap_streams.proofs.FrontLemmas.{IsLine-more, IsTooLong-more}
 use Rattle.cap_vectors.specs.declared.files.VectorVerdict.{VectorVerdict, TheVariants.{Pass, Fail}}
 use Rattle.cap_vectors.specs.VectorFiles.{vector_text_of, last_line, BeginsTrue, FailsWhole, FailsFirst}
 use Rattle.cap_vectors.specs.VectorFiles.{IsVectorVerdictOf, Checked}

@@ -1,7 +1,7 @@
 -- Vector files, and the first line of one that fails. All of it is this profile's own.
 use Rattle.std.specs.Prelude.{◌≡◌, ◌≢◌, ℕ, ◌+◌, ◌-◌, ◌^◌, ◌<◌, ◌⊎◌, ⊤, Bool, true, false, List, [], ◌∷◌, ◌++◌, length}
 use Rattle.std.specs.{Prelude.{flat_map, Result, IfOk, IfErr, codes, decimal}, List.AllByRecursion}
-use Rattle.cap_log.specs.{declared.sources.PullFault.PullFault, Front.{IsCut, FrontIs}}
+use Rattle.cap_streams.specs.{declared.sources.PullFault.PullFault, Front.{IsCut, FrontIs}}
 use Rattle.cap_vectors.specs.declared.files.VectorVerdict.{VectorVerdict, TheVariants.{Pass, Fail}}
 use Rattle.cap_vectors.specs.Vectors.{Vector, IsTrueVector, IsTrueLine, vector_spelling}
 

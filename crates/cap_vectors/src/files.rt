@@ -1,7 +1,7 @@
 //! Vector files: lines of operands and of what is said of them, by which two implementations compare themselves.
 
 ghost use Rattle.std.specs.Prelude.{◌≢◌, MatchBool};
-ghost use Rattle.cap_log.specs.Streams.{CountsFault};
+ghost use Rattle.cap_streams.specs.Streams.{CountsFault};
 ghost use Rattle.cap_vectors.specs.{VectorFiles.{Checked, FailsWhole, last_line}, Vectors.IsTrueLine};
 
 use crate::stating::is_true_line;

@@ -3,9 +3,11 @@ use Rattle.std.proofs.Common.{◌≡◌, ◌≢◌, ◌+◌, ◌-◌, ◌≤◌,
 use Rattle.std.proofs.Common.{length, refl, subst, sym, take, length-append, take-append-drop}
 use Rattle.std.proofs.Math.Seq.{drop-append_seam}
 use Rattle.cap_log.specs.declared.{kinds.Step.Step, lines.{Line.Line, Mode.TheVariants.{Strict, Clear}}}
-use Rattle.cap_log.specs.{declared.lines.Place.TheVariants.{Register, Granule}, Front.IsLine}
-use Rattle.cap_log.specs.{Lines.{IsInRange, spelling}, Parts.{Begins, BeginsWithNone}}
-use Rattle.cap_log.proofs.{FrontLemmas.IsLine-same, SpellingLemmas.{IsLine-spelling, one_spelling}}
+use Rattle.cap_log.specs.{declared.lines.Place.TheVariants.{Register, Granule}, Lines.{IsInRange, spelling}}
+use Rattle.cap_log.specs.Parts.{Begins, BeginsWithNone}
+use Rattle.cap_streams.specs.Front.{IsLine}
+use Rattle.cap_streams.proofs.FrontLemmas.{IsLine-same}
+use Rattle.cap_log.proofs.SpellingLemmas.{IsLine-spelling, one_spelling}
 use Rattle.capcheck_c.specs.declared.values.LineRead.{LineRead}
 use Rattle.capcheck_c.specs.LinesRead.{IsLineRead, IsStepRead, ReadsFront, ReadsLines}
 

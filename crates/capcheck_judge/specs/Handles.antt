@@ -4,8 +4,9 @@ use Rattle.std.specs.Prelude.{Some}
 use denote.RattleType.{RattleType}
 use Rattle.cap_word.specs.declared.word.Cap.{Cap}
 use Rattle.cap_ops.specs.declared.refusal.Refusal.{Refusal}
-use Rattle.cap_log.specs.{declared.lines.{Line.Line, Place.{Place, TheVariants.{Register, Granule}}}, Front.IsCut}
+use Rattle.cap_log.specs.declared.lines.{Line.Line, Place.{Place, TheVariants.{Register, Granule}}}
 use Rattle.cap_log.specs.Lines.{IsInRange, spelling}
+use Rattle.cap_streams.specs.Front.{IsCut}
 use Rattle.tagmem.specs.contracts.page_store.{PageStore.the_row as store_row, PageStoreTaggedStore.TheImpl.ghosts}
 use Rattle.cap_machine.specs.States.{State}
 use Rattle.cap_judge.specs.declared.verdict.{Expected.{Expected, TheVariants.{Capability, Number}}, Verdict.Verdict}

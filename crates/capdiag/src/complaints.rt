@@ -1,7 +1,7 @@
 //! What the program says of words that spell no order, and of a file that cannot be opened.
 
 ghost use Rattle.std.specs.Prelude.{◌≡◌, ℕ, List, ◌+◌, ◌≤◌, ◌↔◌, IsTrue, length, map, take};
-ghost use Rattle.cap_log.specs.Parts.{Writes};
+ghost use Rattle.cap_streams.specs.Written.{Writes};
 ghost use Rattle.cap_program.specs.Doings.{IsPushed};
 ghost use Rattle.capdiag.specs.Complaints.{IsComplaint, IsKnown, IsOperandComplaint, IsWordsLine, complaint_line};
 ghost use Rattle.capdiag.specs.Complaints.{front_text, quoted, reason_text, subject, unopened_line};

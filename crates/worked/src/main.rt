@@ -21,27 +21,35 @@ mod ways;
 
 use crate::calls::call_holds;
 use crate::rows::Row;
+use std::alloc::{AllocError, Global};
 use std::io;
 
 fn main(rt: HostRuntime) -> io::Result<()> {
     let text = io::read_to_string(rt.alloc(), rt.stdin())?;
+    let told = checked(rt.alloc(), &text)?;
+    println!(rt; "{told}")
+}
+
+// A line for each row that gets another answer or text, and how many rows there are.
+fn checked(alloc: Global, text: &str) -> Result<String, AllocError> {
+    let mut told = String::new(alloc);
     let mut rows = 0u32;
-    let mut row = Row::new(rt.alloc());
+    let mut row = Row::new(alloc);
     for line in text.split('\n') {
         if line.starts_with('>') {
-            if !call_holds(rt.alloc(), line)? {
-                println!(rt; "another answer: {line}")?;
+            if !call_holds(alloc, line)? {
+                told = format!(in alloc; "{told}another answer: {line}\n")?;
             }
             rows = rows.saturating_add(1);
         } else if !line.is_empty() {
             row.add(line)?;
         } else if !row.is_empty() {
-            if !row.holds(rt.alloc())? {
-                println!(rt; "another text: {}", row.name())?;
+            if !row.holds(alloc)? {
+                told = format!(in alloc; "{told}another text: {}\n", row.name())?;
             }
             rows = rows.saturating_add(1);
-            row = Row::new(rt.alloc());
+            row = Row::new(alloc);
         }
     }
-    println!(rt; "{rows} rows")
+    format!(in alloc; "{told}{rows} rows")
 }

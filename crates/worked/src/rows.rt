@@ -36,12 +36,13 @@ impl<'a> Row<'a> {
 
     /// Adds a line of the row.
     pub fn add(&mut self, line: &'a str) -> Result<(), AllocError> {
-        match line.as_bytes() {
-            [b'|', b' ', rest @ ..] => append(&mut self.log, rest, b"\n"),
-            [b'|'] => append(&mut self.log, b"", b"\n"),
-            [b'~', b' ', rest @ ..] => append(&mut self.log, rest, b"\r\n"),
-            [b'!', b' ', rest @ ..] => append(&mut self.log, rest, b""),
-            [b'=', b' ', rest @ ..] => append(&mut self.text, rest, b"\n"),
+        let bytes = line.as_bytes();
+        let rest = bytes.get(2..).unwrap_or(b"");
+        match bytes.first() {
+            Some(b'|') => append(&mut self.log, rest, b"\n"),
+            Some(b'~') => append(&mut self.log, rest, b"\r\n"),
+            Some(b'!') => append(&mut self.log, rest, b""),
+            Some(b'=') => append(&mut self.text, rest, b"\n"),
             _ => {
                 self.name = line;
                 Ok(())

@@ -34,8 +34,8 @@ fn by_stepping(alloc: Global, log: &[u8], verdict: Verdict, text: &[u8]) -> bool
     let mut machine = Machine::new(memory);
     for line in log.split(|byte| *byte == b'\n') {
         let is_taken = match read_line(line) {
-            Some(Line::Root(place, word)) => machine.declare(place, word) == Ok(()),
-            Some(Line::Step(step)) => machine.step(&step) == Ok(()),
+            Some(Line::Root(place, word)) => machine.declare(place, word).is_ok(),
+            Some(Line::Step(step)) => machine.step(&step).is_ok(),
             _ => true,
         };
         if !is_taken {

@@ -2,8 +2,9 @@
 
 ghost use Rattle.std.specs.Prelude.{◌≡◌, ◌+◌, ◌≤◌, length, IfNone, IfSome, MatchOption};
 ghost use Rattle.cap_log.specs.Lines.{IsPlace, place_spelling, register_spelling};
-ghost use Rattle.cap_log.specs.{Parts.{Begins, BeginsWithNone, IsEnd, Writes}, Ranges.{IsRegister, IsRegisterFrom}};
+ghost use Rattle.cap_log.specs.{Parts.{Begins, BeginsWithNone, IsEnd}, Ranges.{IsRegister, IsRegisterFrom}};
 ghost use Rattle.cap_log.specs.Spaceless.{place-spaceless, register-spaceless, register-within};
+ghost use Rattle.cap_streams.specs.Written.{Writes};
 
 use crate::buffers::{put, put_few};
 use crate::lines::Place;

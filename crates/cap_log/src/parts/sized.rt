@@ -3,8 +3,9 @@
 ghost use Rattle.std.specs.Prelude.{◌≡◌, ℕ, ◌*◌, ◌+◌, ◌≤◌, length, List, ◌++◌, decimal, IfSome, IfNone, IsTrue};
 ghost use Rattle.std.specs.Prelude.{MatchOption, ◌↔◌};
 ghost use Rattle.cap_word.specs.Digits.{hex_digits};
-ghost use Rattle.cap_log.specs.Parts.{Begins, BeginsWithNone, Writes, accessed_spelling};
+ghost use Rattle.cap_log.specs.Parts.{Begins, BeginsWithNone, accessed_spelling};
 ghost use Rattle.cap_log.specs.Ranges.{IsDataSize, IsDataValue, IsDatum};
+ghost use Rattle.cap_streams.specs.Written.{Writes};
 
 use crate::buffers::{put, put_few};
 use crate::parts::Part;

@@ -1,5 +1,5 @@
 use Rattle.std.proofs.Common.{List, Ok, ap, subst, ◌∙◌, rules, arith, ℕ}
-use Rattle.cap_log.specs.{FaultLines.bytes_of, Front.IsFrontText}
+use Rattle.cap_streams.specs.{FaultLines.bytes_of, Front.IsFrontText}
 use Rattle.cap_heap.proofs.JudgeLemmas.{stands, few, pulled, at_finish, at_cut, at_long, at_line, line_taken}
 use Rattle.cap_heap.proofs.judging.judge_lines.Goals as goal
 

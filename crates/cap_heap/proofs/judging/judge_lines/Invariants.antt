@@ -1,5 +1,5 @@
 use Rattle.std.proofs.Common.{◌≡◌, ◌-◌, ◌^◌, ℕ, List, None}
-use Rattle.cap_log.specs.Takings.{kept, over_of}
+use Rattle.cap_streams.specs.Takings.{kept, over_of}
 use Rattle.cap_heap.specs.Progresses.{IsAt}
 use Rattle.cap_heap.proofs.judging.judge_lines.Given as goal
 

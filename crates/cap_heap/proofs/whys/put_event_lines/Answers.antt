@@ -1,5 +1,5 @@
 use Rattle.std.proofs.Common.{[], inl, inr, refl, subst}
-use Rattle.cap_log.specs.Written.{Writes-nothing}
+use Rattle.cap_streams.specs.Written.{Writes-nothing}
 use Rattle.cap_heap.specs.declared.{events.Event.{Event, TheVariants.Free}, lines.HeapLine.TheVariants.Happens}
 use Rattle.cap_heap.specs.HeapLines.{SpellsHeapLine}
 use Rattle.cap_heap.proofs.whys.put_event_lines.Goals as goal

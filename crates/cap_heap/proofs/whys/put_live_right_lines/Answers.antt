@@ -1,4 +1,4 @@
-use Rattle.cap_log.specs.Written.{◌⨾◌}
+use Rattle.cap_streams.specs.Written.{◌⨾◌}
 use Rattle.cap_heap.specs.HeapWhys.{live_right_lines}
 use Rattle.cap_heap.proofs.whys.put_live_right_lines.Goals as goal
 

@@ -1,5 +1,5 @@
 use Rattle.std.proofs.Common.{[], ◌++◌, refl, sym, subst, codes}
-use Rattle.cap_log.specs.Written.{◌⨾◌}
+use Rattle.cap_streams.specs.Written.{◌⨾◌}
 use Rattle.cap_texts.specs.CapLines.{bounds_line}
 use Rattle.cap_heap.specs.declared.{events.Event.TheVariants.Malloc, refusal.HeapRefusal.HeapRefusal}
 use Rattle.cap_heap.specs.{declared.refusal.HeapRefusal.TheVariants.Misplaced, HeapWhys.{AreEventDetails, apart_lines}}

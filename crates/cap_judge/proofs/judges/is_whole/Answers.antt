@@ -1,5 +1,5 @@
 use Rattle.std.proofs.{Common.{◌+◌, ◌∙◌, eq-eqb, length, subst, sym}, lemmas.Bool.{false≢true}}
-use Rattle.cap_log.specs.Front.{IsFront}
+use Rattle.cap_streams.specs.Front.{IsFront}
 use Rattle.cap_judge.proofs.TurnLemmas.{cut_no_line, longer_no_line}
 use Rattle.cap_judge.proofs.judges.is_whole.Goals as goal
 

@@ -1,6 +1,6 @@
 use Rattle.std.specs.FinMap.{len, len-empty}
 use Rattle.std.proofs.{Common.{ap, subst, true, ◌∙◌, nat_cmp}, lemmas.Result.err_from_is_err_and}
-use Rattle.cap_log.specs.FaultLines.{bytes_of}
+use Rattle.cap_streams.specs.FaultLines.{bytes_of}
 use Rattle.tagmem.specs.Granules.{Entry}
 use Rattle.cap_judge.specs.{Judgings.JudgedBy, OriginLists.report_text, Reports.Tells}
 use Rattle.cap_judge.proofs.{EscapeLaws.named, ReportLemmas.{IsHeld, pushed_nothing, tells}}

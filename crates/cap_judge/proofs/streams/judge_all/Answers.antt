@@ -1,6 +1,6 @@
 use Rattle.std.proofs.Common.{◌≡◌, ◌≢◌, ◌≤◌, ◌-◌, [], List, ℕ, arith, drop, inl, length, refl, subst, take, true}
 use Rattle.std.proofs.{Common.{length-drop, take-append-drop, take_all}, lemmas.List.Elements.All-nil}
-use Rattle.cap_log.specs.FaultLines.{bytes_of}
+use Rattle.cap_streams.specs.FaultLines.{bytes_of}
 use Rattle.cap_judge.specs.{Logs.MayLackMemory, Readings.{EndsWith, Follows, stage_of}, Turns.unread}
 use Rattle.cap_judge.proofs.SourceLemmas.{all_judged, all_lack, ended_answer}
 use Rattle.cap_judge.proofs.{TurnLaws.{lacks_memory, reached, refused_told, told}, TurnLemmas.{faults_at, stop_follows}}

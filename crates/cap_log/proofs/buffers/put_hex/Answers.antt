@@ -1,5 +1,5 @@
 use Rattle.std.proofs.Common.{List, ℕ, subst}
-use Rattle.cap_log.specs.Parts.{Writes}
+use Rattle.cap_streams.specs.Written.{Writes}
 use Rattle.cap_log.proofs.SizedLemmas.{last_digits}
 use Rattle.cap_log.proofs.buffers.put_hex.Goals as goal
 

@@ -1,5 +1,5 @@
 use Rattle.std.proofs.Common.{◌≡◌, ◌++◌, inl, refl, codes, rules}
-use Rattle.cap_log.specs.Written.{◌⨾◌}
+use Rattle.cap_streams.specs.Written.{◌⨾◌}
 use Rattle.cap_texts.specs.{TextLines.text_line, WrongLines.hint_line}
 use Rattle.cap_report.specs.BadLines.{first_lines}
 use Rattle.cap_report.proofs.bad_lines.put_bad_header.Goals as goal

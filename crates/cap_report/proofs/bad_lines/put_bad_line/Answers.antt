@@ -1,5 +1,5 @@
 use Rattle.std.proofs.Common.{inr, refl, codes}
-use Rattle.cap_log.specs.Written.{◌⨾◌}
+use Rattle.cap_streams.specs.Written.{◌⨾◌}
 use Rattle.cap_texts.specs.TextLines.{text_line}
 use Rattle.cap_report.proofs.bad_lines.put_bad_line.Goals as goal
 

@@ -1,5 +1,5 @@
 use Rattle.std.proofs.Common.{◌++◌, arith, subst}
-use Rattle.cap_log.specs.FaultLines.{bytes_of}
+use Rattle.cap_streams.specs.FaultLines.{bytes_of}
 use Rattle.cap_machine.specs.Helds.{account_of}
 use Rattle.cap_judge.specs.{declared.verdict.Verdict.TheVariants.No, Readings.known_of, VerdictLines.verdict_line}
 use Rattle.cap_report.specs.FaultReports.{IsLineReport}

@@ -1,5 +1,5 @@
 use Rattle.std.proofs.Common.{◌≤◌, ℕ, List, ◌++◌, length, take, subst, arith, ap, ◌∙◌}
-use Rattle.cap_log.specs.Written.{◌⨾◌}
+use Rattle.cap_streams.specs.Written.{◌⨾◌}
 use Rattle.cap_judge.specs.{declared.verdict.Verdict.TheVariants.No, VerdictLines.verdict_line}
 use Rattle.cap_report.proofs.WhyLemmas.{on_ok, on_err}
 use Rattle.cap_report.proofs.explaining.push_fault.Goals as goal

@@ -1,5 +1,5 @@
 use Rattle.std.proofs.Common.{◌++◌, [], None, Some, arith, refl, subst}
-use Rattle.cap_log.specs.FaultLines.{bytes_of}
+use Rattle.cap_streams.specs.FaultLines.{bytes_of}
 use Rattle.cap_machine.specs.Helds.{account_of}
 use Rattle.cap_judge.specs.{declared.verdict.Verdict.TheVariants.No, Readings.{known_of, stage_of}}
 use Rattle.cap_judge.specs.VerdictLines.{verdict_line}

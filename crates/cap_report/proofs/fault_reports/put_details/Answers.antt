@@ -1,5 +1,6 @@
 use Rattle.std.proofs.Common.{[], inl, inr, refl, sym, ap, subst, arith}
-use Rattle.cap_log.specs.{declared.lines.Line.Line, Lines.Spells, Written.Writes-nothing}
+use Rattle.cap_log.specs.{declared.lines.Line.Line, Lines.Spells}
+use Rattle.cap_streams.specs.Written.{Writes-nothing}
 use Rattle.cap_machine.specs.Helds.{account_of}
 use Rattle.cap_report.specs.{FaultReports.{known_lines, root_lines}, StepLines.step_lines}
 use Rattle.cap_report.proofs.DetailLemmas.{details_other, nothing_told, root_form, step_form}

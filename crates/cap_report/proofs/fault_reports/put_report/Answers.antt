@@ -1,5 +1,5 @@
 use Rattle.std.proofs.Common.{◌++◌, List, ℕ, subst, refl}
-use Rattle.cap_log.specs.Written.{◌⨾◌}
+use Rattle.cap_streams.specs.Written.{◌⨾◌}
 use Rattle.cap_texts.specs.ShownBytes.{shown_line}
 use Rattle.cap_machine.specs.Helds.{account_of}
 use Rattle.cap_report.specs.FaultReports.{AreDetails}

@@ -1,5 +1,5 @@
 use Rattle.std.proofs.Common.{List, ℕ, sym, subst}
-use Rattle.cap_log.specs.{Parts.Writes, Written.{◌⨾◌}}
+use Rattle.cap_streams.specs.Written.{Writes, ◌⨾◌}
 use Rattle.cap_machine.specs.Helds.{account_of}
 use Rattle.cap_report.proofs.DetailLemmas.{root_other}
 use Rattle.cap_report.proofs.fault_reports.put_root_lines.Goals as goal

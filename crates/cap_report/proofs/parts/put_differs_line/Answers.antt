@@ -1,4 +1,4 @@
-use Rattle.cap_log.specs.Written.{◌⨾◌}
+use Rattle.cap_streams.specs.Written.{◌⨾◌}
 use Rattle.cap_report.specs.Parts.{differs_line}
 use Rattle.cap_report.proofs.parts.put_differs_line.Goals as goal
 

@@ -1,5 +1,5 @@
 use Rattle.std.proofs.Common.{◌+◌, ◌*◌, ◌≤◌, take}
-use Rattle.cap_log.specs.Parts.{Writes}
+use Rattle.cap_streams.specs.Written.{Writes}
 use Rattle.cap_report.specs.Parts.{lines_of_parts}
 use Rattle.cap_report.proofs.parts.put_parts.Given as goal
 

@@ -1,4 +1,4 @@
-use Rattle.cap_log.specs.Written.{◌⨾◌}
+use Rattle.cap_streams.specs.Written.{◌⨾◌}
 use Rattle.cap_texts.specs.CapLines.{cap_lines}
 use Rattle.cap_texts.proofs.cap_lines.put_cap_lines.Goals as goal
 

@@ -1,5 +1,5 @@
 use Rattle.cap_bounds.proofs.SoundTests.{is_sound-from}
-use Rattle.cap_log.specs.Written.{◌⨾◌}
+use Rattle.cap_streams.specs.Written.{◌⨾◌}
 use Rattle.cap_texts.specs.ExplainLines.{bounds_lines}
 use Rattle.cap_texts.proofs.explain_lines.put_bounds_lines.Goals as goal
 

@@ -1,5 +1,5 @@
 use Rattle.std.proofs.Common.{◌+◌, ◌*◌, ◌≤◌, take}
-use Rattle.cap_log.specs.Parts.{Writes}
+use Rattle.cap_streams.specs.Written.{Writes}
 use Rattle.cap_texts.specs.ShownBytes.{shown}
 use Rattle.cap_texts.proofs.shown_bytes.put_shown.Given as goal
 

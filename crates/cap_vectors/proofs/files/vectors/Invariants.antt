@@ -1,5 +1,5 @@
 use Rattle.std.proofs.Common.{◌≡◌, ◌-◌, ℕ, List, None}
-use Rattle.cap_log.specs.Takings.{kept, over_of}
+use Rattle.cap_streams.specs.Takings.{kept, over_of}
 use Rattle.cap_vectors.specs.VectorFiles.{BeginsTrue, last_line}
 use Rattle.cap_vectors.proofs.files.vectors.Given as goal
 

@@ -1,5 +1,5 @@
 use Rattle.std.proofs.Common.{[]}
-use Rattle.cap_log.specs.FaultLines.{bytes_of}
+use Rattle.cap_streams.specs.FaultLines.{bytes_of}
 use Rattle.cap_judge.specs.Readings.{stage_of}
 use Rattle.cap_judge.proofs.{EscapeLaws.named, TurnLemmas.ends_ok}
 use Rattle.cap_judge.proofs.judges.Judge.end.Goals as goal

@@ -1,6 +1,6 @@
 use Rattle.std.proofs.Common.{◌≡◌, ℕ, ◌-◌, ◌≤◌, List, take, drop, subst, sym, ◌∙◌, arith}
 use Rattle.cap_word.specs.Digits.{hex_digits}
-use Rattle.cap_log.specs.Parts.{Writes}
+use Rattle.cap_streams.specs.Written.{Writes}
 use Rattle.cap_log.proofs.SizedLemmas.{last_digits}
 use Rattle.cap_log.proofs.parts.sized.put_value.Goals as goal
 

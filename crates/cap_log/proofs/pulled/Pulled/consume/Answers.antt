@@ -1,8 +1,0 @@
-use Rattle.std.proofs.Common.{ℕ, arith, length-take, length-drop}
-use Rattle.cap_log.proofs.PulledLemmas.{consumed}
-use Rattle.cap_log.proofs.pulled.Pulled.consume.Goals as goal
-
-pub returns-clause-items : goal.returns-clause-items
-returns-clause-items c =
-    let w = c.args.self.now in
-    consumed w.bytes w.start w.end c.args.count (omega (arith, length-take {A = ℕ}, length-drop {A = ℕ}))

@@ -1,0 +1,4 @@
+pub mod FrontLemmas
+mod PulledLemmas
+mod SliceLemmas
+mod TakingLemmas

@@ -1,0 +1,11 @@
+pub mod Failings
+pub mod FaultLines
+pub mod Front
+pub mod JudgeFaults
+pub mod Known
+pub mod Pulled
+pub mod Slices
+pub mod Streams
+pub mod Takings
+pub mod Wrapped
+pub mod Written

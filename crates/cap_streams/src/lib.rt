@@ -1,0 +1,34 @@
+//! Streams of bytes that hold lines: where the bytes come from, where a line ends, where a text goes, and what those
+//! who read lines report. Nothing here allocates.
+//!
+//! A [`Source`] gives bytes a piece at a time, and [`Pulled`] holds those not yet taken. [`front`] finds the line at
+//! the front of some bytes, and [`Lines`] are the lines of what a source gives, however it is cut. A [`Sink`] takes
+//! bytes a piece at a time, and [`push_all`] pushes a whole text.
+//!
+//! A judge of lines reports the [`FaultLine`] at which it stopped, and why it gave no verdict: [`JudgeFault`], or
+//! [`JudgeToFault`] if it writes one.
+#![tactic(auto)]
+
+mod fault_lines;
+mod fronts;
+mod judge_faults;
+mod lines;
+mod pulled;
+mod pushing;
+mod sinks;
+mod sources;
+
+pub use crate::fault_lines::FaultLine;
+pub use crate::fronts::{LINE_LIMIT, front};
+pub use crate::judge_faults::{JudgeFault, JudgeToFault};
+pub use crate::lines::{Front, Lines, Next};
+pub use crate::pulled::Pulled;
+pub use crate::pushing::push_all;
+pub use crate::sinks::failing::FailingSink;
+pub use crate::sinks::slices::SliceSink;
+pub use crate::sinks::writing::WriteSink;
+pub use crate::sinks::{PushFault, Sink};
+pub use crate::sources::failing::FailingSource;
+pub use crate::sources::reading::ReadSource;
+pub use crate::sources::slices::SliceSource;
+pub use crate::sources::{PullFault, Source};
