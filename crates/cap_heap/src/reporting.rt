@@ -1,8 +1,8 @@
 //! The judge that writes its verdict into a sink.
 
 ghost use Rattle.std.specs.Prelude.{◌≤◌, take, Err};
-ghost use Rattle.cap_log.specs.{declared.judge_faults.JudgeToFault.TheVariants.{Pull, Push}, FaultLines.bytes_of};
-ghost use Rattle.cap_log.specs.Streams.{CountsOnly};
+ghost use Rattle.cap_streams.specs.{declared.judge_faults.JudgeToFault.TheVariants.{Pull, Push}, FaultLines.bytes_of};
+ghost use Rattle.cap_streams.specs.Streams.{CountsOnly};
 ghost use Rattle.cap_heap.specs.{Texts.IsText, VerdictLines.Told};
 
 use crate::judging::judge_lines;

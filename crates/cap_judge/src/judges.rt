@@ -4,9 +4,9 @@
 ghost use Rattle.std.specs.Prelude.{◌≡◌, ◌≤◌, ◌<◌, ◌^◌, ◌↔◌, ◌⊎◌, ℕ, List, [], ◌++◌, length, take, drop, true, false};
 ghost use Rattle.std.specs.Prelude.{Err, None, IfSome, OnOk, IfErr, ◌≢◌, ◌∷◌, ◌+◌, IfOk, Some};
 ghost use Rattle.std.specs.FinMap as map;
-ghost use Rattle.cap_log.specs.{declared.lines.Line.Line, FaultLines.bytes_of};
-ghost use Rattle.cap_log.specs.Front.{IsCut, IsFront, IsFrontText, IsLine, IsTooLong};
-ghost use Rattle.cap_log.specs.{Lines.{IsStepInRange, Spells, spelling, IsInRange, IsPlace}, Parts.Begins};
+ghost use Rattle.cap_log.specs.{declared.lines.Line.Line, Lines.{IsStepInRange, Spells, spelling, IsInRange, IsPlace}};
+ghost use Rattle.cap_log.specs.Parts.{Begins};
+ghost use Rattle.cap_streams.specs.{FaultLines.bytes_of, Front.{IsCut, IsFront, IsFrontText, IsLine, IsTooLong}};
 ghost use Rattle.cap_log.specs.declared.lines.Line.TheVariants as lines;
 ghost use Rattle.cap_machine.specs.States.{granule_key, key_of};
 ghost use Rattle.cap_judge.specs.declared.{faults.Fault.Fault as FaultIn, judges.Stage.TheVariants.Body};

@@ -1,7 +1,8 @@
 //! The lines of the origins of what a machine holds.
 
 ghost use Rattle.std.specs.Prelude.{◌≡◌, ◌≤◌, ℕ, ◌+◌, ◌^◌, drop, length, take, OnOk, OnErr};
-ghost use Rattle.cap_log.specs.{Lines.IsPlace, Streams.CountsFault};
+ghost use Rattle.cap_log.specs.Lines.{IsPlace};
+ghost use Rattle.cap_streams.specs.Streams.{CountsFault};
 ghost use Rattle.cap_machine.specs.States.{key_of};
 ghost use Rattle.cap_judge.specs.{OriginLines.origin_line, OriginLists.held_lines};
 

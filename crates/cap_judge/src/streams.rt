@@ -2,8 +2,8 @@
 
 ghost use Rattle.std.specs.Prelude.{◌≡◌, ℕ, List, [], ◌++◌, Err, IsOk, IfOk, IfErr};
 ghost use Rattle.std.specs.FinMap as map;
-ghost use Rattle.cap_log.specs.{declared.judge_faults.JudgeFault.TheVariants.Pull, FaultLines.bytes_of, Pulled.items};
-ghost use Rattle.cap_log.specs.Streams.{CountsOnly};
+ghost use Rattle.cap_streams.specs.{declared.judge_faults.JudgeFault.TheVariants.Pull, FaultLines.bytes_of};
+ghost use Rattle.cap_streams.specs.{Pulled.items, Streams.CountsOnly};
 ghost use Rattle.cap_judge.specs.{Judgings.{Judged, JudgedAll, JudgedBy}, Logs.NamesNoGranules};
 ghost use Rattle.cap_judge.specs.{Readings.{IsAnswered, StopsAt, stage_of}, Turns.unread};
 ghost use Rattle.cap_judge.specs.Verdicts.{EscapesExactly, NoVerdictIn, IsGuarded, IsVerdict, NamesEscapes};

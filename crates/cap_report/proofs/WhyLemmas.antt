@@ -2,7 +2,7 @@
 use Rattle.std.proofs.Common.{◌≡◌, ℕ, Bool, true, false, List, [], ◌++◌, refl, sym, ap, subst, Ok, Err, Result, OnOk}
 use Rattle.std.proofs.Common.{IfOk, OnErr, Some, if◌then◌else◌}
 use Rattle.cap_ops.specs.declared.refusal.Refusal.{Refusal}
-use Rattle.cap_log.specs.{declared.judge_faults.JudgeFault.JudgeFault, FaultLines.bytes_of, Front.IsCut}
+use Rattle.cap_streams.specs.{declared.judge_faults.JudgeFault.JudgeFault, FaultLines.bytes_of, Front.IsCut}
 use Rattle.cap_machine.specs.{Accounts.Account, Helds.{Held, account_of}}
 use Rattle.cap_judge.specs.declared.{faults.Fault.Fault, judges.Stage.Stage, verdict.Verdict.Verdict}
 use Rattle.cap_judge.specs.declared.verdict.Verdict.TheVariants.{Yes, No}

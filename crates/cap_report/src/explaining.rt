@@ -3,9 +3,9 @@
 ghost use Rattle.std.specs.Prelude.{◌≡◌, ◌≢◌, ◌↔◌, ◌≤◌, ℕ, Bool, List, ◌++◌, length, take, true, Err, Option, IfOk, OnOk};
 ghost use Rattle.std.specs.Prelude.{OnErr};
 ghost use Rattle.std.specs.FinMap as map;
-ghost use Rattle.cap_log.specs.{declared.judge_faults.JudgeToFault.TheVariants.{Pull, Push}, FaultLines.bytes_of};
-ghost use Rattle.cap_log.specs.declared.judge_faults.JudgeFault.TheVariants as judge_faults;
-ghost use Rattle.cap_log.specs.{Front.IsCut, Streams.{CountsFault, CountsOnly}};
+ghost use Rattle.cap_streams.specs.{declared.judge_faults.JudgeToFault.TheVariants.{Pull, Push}, FaultLines.bytes_of};
+ghost use Rattle.cap_streams.specs.{Front.IsCut, Streams.{CountsFault, CountsOnly}};
+ghost use Rattle.cap_streams.specs.declared.judge_faults.JudgeFault.TheVariants as judge_faults;
 ghost use Rattle.cap_machine.specs.Helds.{account_of};
 ghost use Rattle.cap_judge.specs.{declared.verdict.Verdict.{Verdict, TheVariants.No}, Readings.HasRead};
 ghost use Rattle.cap_judge.specs.Judgings.{IsAnswerOf, LeadsAfter, StopsIn};

@@ -2,7 +2,7 @@
 //! which root it comes.
 
 ghost use Rattle.std.specs.Prelude.{◌+◌, ◌≤◌, length};
-ghost use Rattle.cap_log.specs.Parts.{Writes};
+ghost use Rattle.cap_streams.specs.Written.{Writes};
 ghost use Rattle.cap_texts.specs.CapLines.{bounds_line, cap_lines, cap_line, descent_lines};
 ghost use Rattle.cap_texts.specs.{CapLines.{operand_lines, perms_line, type_line}, ExplainLines.type_name};
 

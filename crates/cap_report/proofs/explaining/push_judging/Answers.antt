@@ -1,5 +1,5 @@
 use Rattle.std.proofs.{Common.subst, lemmas.Result.err_from_is_err_and}
-use Rattle.cap_log.specs.FaultLines.{bytes_of}
+use Rattle.cap_streams.specs.FaultLines.{bytes_of}
 use Rattle.cap_judge.specs.Judgings.{IsAnswerOf}
 use Rattle.cap_judge.proofs.ReportLemmas.{pushed_nothing}
 use Rattle.cap_report.specs.Whys.{Explains}

@@ -1,5 +1,5 @@
 use Rattle.std.proofs.Common.{inr, subst}
-use Rattle.cap_log.specs.FaultLines.{bytes_of}
+use Rattle.cap_streams.specs.FaultLines.{bytes_of}
 use Rattle.cap_judge.specs.Readings.{EndsAt, stage_of}
 use Rattle.cap_judge.proofs.TurnLemmas.{goes_none, last_front}
 use Rattle.cap_judge.proofs.judges.Judge.stop.Goals as goal

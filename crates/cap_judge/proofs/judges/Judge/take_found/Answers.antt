@@ -1,5 +1,5 @@
 use Rattle.std.proofs.Common.{inl, inr, refl, rules, subst, sym, drop, take, ◌+◌}
-use Rattle.cap_log.specs.Front.{IsFront}
+use Rattle.cap_streams.specs.Front.{IsFront}
 use Rattle.cap_judge.specs.Readings.{EndsAt, Known, at, stage_of}
 use Rattle.cap_judge.proofs.TurnLemmas.{begins_by, goes_none, text_ends_at}
 use Rattle.cap_judge.proofs.judges.Judge.take_found.Goals as goal
