@@ -6,7 +6,7 @@ ghost use Rattle.cap_texts.specs.{TextLines.text_line, WrongLines.hint_line};
 ghost use Rattle.cap_heap.specs.{declared.bad_lines.Name.Name, BadLines.{AreBadLines, AreFirstLines, HasNoWrongWord}};
 ghost use Rattle.cap_heap.specs.BadLines.{IsMachineHeader, IsNamed, IsWrongWord, fields_of};
 
-use crate::reading::behind;
+use crate::readers::behind;
 use cap_log::buffers::put;
 use cap_texts::fields::{Field, Wrong, first_wrong};
 use cap_texts::text_lines::put_line;

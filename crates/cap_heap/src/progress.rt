@@ -9,7 +9,7 @@ ghost use Rattle.cap_heap.specs.declared.stage.Stage.TheVariants as stages;
 use crate::events::{Event, EventEnd};
 use crate::heap::Heap;
 use crate::lines::HeapLine;
-use crate::reading::{is_header, read_heap_line};
+use crate::readers::{is_header, read_heap_line};
 use crate::refusal::HeapRefusal;
 use crate::report::HeapReport;
 use crate::stage::Stage;

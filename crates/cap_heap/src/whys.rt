@@ -12,7 +12,7 @@ use crate::bad_lines::{put_bad_header, put_bad_line};
 use crate::events::Event;
 use crate::heap::Heap;
 use crate::progress::Progress;
-use crate::reading::read_event;
+use crate::readers::read_event;
 use crate::refusal::HeapRefusal;
 use crate::report::alignment;
 use crate::stage::Stage;

@@ -19,7 +19,7 @@ ghost use Rattle.cap_judge.specs.Readings.{lines_read, long_refusal, stage_of, v
 ghost use Rattle.cap_judge.specs.{Turns.{refusal_at, rules_of, unread}, Verdicts.NamesEscapes};
 ghost use Rattle.cap_judge.specs.declared.judges.Stop.TheVariants as stops;
 
-use crate::expecting::expected_by;
+use crate::expectation::expected_by;
 use crate::faults::Fault;
 use crate::steps::{take_alone, take_steps};
 use crate::verdict::{Expected, TakeFault, Verdict};

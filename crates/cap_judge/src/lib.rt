@@ -6,12 +6,12 @@
 //! machine with the answer, and after a `no` the refused line.
 #![tactic(auto)]
 
-mod expecting;
+mod expectation;
 mod faults;
 mod judges;
 mod laws;
 mod origins;
-mod reporting;
+mod output;
 mod steps;
 mod streams;
 mod verdict;
@@ -24,7 +24,7 @@ pub use crate::laws::{
     other_bytes_are_of_version_one, some_verdict, stages_are_of_logs,
 };
 pub use crate::origins::origin_text;
-pub use crate::reporting::{judge_origins, judge_to, push_report, push_verdict};
+pub use crate::output::{judge_origins, judge_to, push_report, push_verdict};
 pub use crate::streams::{
     Judging, judge, judge_bytes, judge_bytes_keeping, judge_in, judge_keeping,
 };

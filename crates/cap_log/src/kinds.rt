@@ -29,7 +29,7 @@ pub use crate::kinds::operations::{
 };
 use crate::lines::{Line, Mode, Place};
 use crate::operands::{Operands, take_parts, take_step, write_parts};
-use crate::parts::cutting::behind;
+use crate::parts::fronts::behind;
 use crate::parts::headers::Version;
 use crate::parts::{Part, Single};
 use cap_word::Word;

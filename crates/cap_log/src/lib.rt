@@ -23,8 +23,8 @@ pub mod kinds;
 mod lines;
 mod operands;
 mod parts;
-mod reading;
-mod writing;
+mod readers;
+mod writers;
 
 pub use crate::kinds::{Head, Step, take_operands};
 pub use crate::lines::{Line, Mode, Place};
@@ -33,8 +33,8 @@ pub use crate::parts::Part;
 pub use crate::parts::offsets::Offset;
 pub use crate::parts::registers::{Register, Target};
 pub use crate::parts::sized::{Datum, Size};
-pub use crate::reading::{read_line, spellings_are_distinct, take_line};
-pub use crate::writing::{write_line, write_place, write_step};
+pub use crate::readers::{read_line, spellings_are_distinct, take_line};
+pub use crate::writers::{write_line, write_place, write_step};
 pub use cap_streams::{
     FailingSink, FailingSource, FaultLine, Front, JudgeFault, JudgeToFault, Lines, Next, PullFault,
     Pulled, PushFault, ReadSource, Sink, SliceSink, SliceSource, Source, WriteSink, front,

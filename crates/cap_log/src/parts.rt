@@ -4,7 +4,7 @@ ghost use Rattle.std.specs.Prelude.{ℕ, List, ◌+◌, ◌≤◌, length, IfSom
 ghost use Rattle.cap_log.specs.Parts.{Begins, BeginsWithNone, FitBoth, HasNoSpace, IsEnd, spaced};
 ghost use Rattle.cap_streams.specs.Written.{Writes};
 
-pub mod cutting;
+pub mod fronts;
 pub mod decimals;
 pub mod headers;
 pub mod hexadecimals;

@@ -7,7 +7,7 @@ mod access;
 mod accesses;
 mod addresses;
 mod bits;
-mod clearing;
+mod clear_mode;
 mod faults;
 mod kinds;
 mod narrowing;
@@ -23,7 +23,7 @@ pub use crate::bits::{
     GLOBAL, PERMIT_LOAD, PERMIT_SEAL, PERMIT_STORE, PERMIT_STORE_CAPABILITY,
     PERMIT_STORE_LOCAL_CAPABILITY, PERMIT_UNSEAL,
 };
-pub use crate::clearing::{
+pub use crate::clear_mode::{
     and_perm_clear, seal_clear, set_addr_clear, set_bounds_clear, unseal_clear,
 };
 pub use crate::faults::OpFault;

@@ -2,18 +2,18 @@
 //! with their statuses and lines.
 #![tactic(auto)]
 
-mod answering;
+mod answers;
 mod commands;
 mod faults;
 mod inputs;
 mod outputs;
-mod running;
+mod runs;
 mod words;
 
-pub use crate::answering::{exit_status, hand_on, tell};
+pub use crate::answers::{exit_status, hand_on, tell};
 pub use crate::commands::Command;
 pub use crate::faults::{Fault, fault_of};
 pub use crate::inputs::opened;
 pub use crate::outputs::{Output, show};
-pub use crate::running::{carry_out, run};
+pub use crate::runs::{carry_out, run};
 pub use crate::words::{collect_words, is_operand, take_option};

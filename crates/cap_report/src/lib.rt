@@ -11,11 +11,11 @@
 
 pub mod answers;
 mod bad_lines;
-mod explaining;
+mod explanations;
 mod fault_reports;
 mod operands;
 mod parts;
 mod step_lines;
 pub mod texts;
 
-pub use crate::explaining::{judge_why, judge_why_bytes, push_ending, push_refused};
+pub use crate::explanations::{judge_why, judge_why_bytes, push_ending, push_refused};

@@ -1,7 +1,6 @@
 -- What a source or a sink that fails once has, and what it counts. All of it is this profile's own.
 use Rattle.std.specs.Prelude.{ℕ, Bool, Option, None, Some}
-use Rattle.cap_streams.specs.declared.sinks.failing.FailingSink.{FailingSink}
-use Rattle.cap_streams.specs.declared.sources.failing.FailingSource.{FailingSource}
+use Rattle.cap_streams.specs.declared.{sinks.faults.FailingSink.FailingSink, sources.faults.FailingSource.FailingSource}
 
 -- the source that is asked
 abbrev pub inner_source : {S : Type 0} → FailingSource S → S

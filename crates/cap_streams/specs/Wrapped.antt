@@ -1,6 +1,6 @@
 -- What a source over a reader and a sink over a writer hold. All of it is this profile's own.
 use Rattle.std.specs.Prelude.{ℕ, Bool}
-use Rattle.cap_streams.specs.declared.{sinks.writing.WriteSink.WriteSink, sources.reading.ReadSource.ReadSource}
+use Rattle.cap_streams.specs.declared.{sinks.writers.WriteSink.WriteSink, sources.readers.ReadSource.ReadSource}
 
 -- the reader that is asked
 abbrev pub reader_of : {R : Type 0} {g : _} → ReadSource R g → R

@@ -3,9 +3,9 @@
 ghost use Rattle.std.specs.Prelude.{ℕ, ◌≤◌, ◌<◌, ◌^◌, List, [], ◌++◌, length, take, IfOk, OnErr};
 ghost use Rattle.cap_streams.specs.Streams.{CountsFault};
 
-pub mod failing;
+pub mod faults;
 pub mod slices;
-pub mod writing;
+pub mod writers;
 
 /// A sink that failed.
 #[derive(Clone, Copy, Debug, PartialEq, Eq)]

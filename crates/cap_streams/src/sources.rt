@@ -3,8 +3,8 @@
 ghost use Rattle.std.specs.Prelude.{◌≡◌, ℕ, ◌≤◌, ◌<◌, ◌^◌, Bool, false, List, [], ◌++◌, length, take, IfOk, OnErr};
 ghost use Rattle.cap_streams.specs.Streams.{CountsFault, is_end};
 
-pub mod failing;
-pub mod reading;
+pub mod faults;
+pub mod readers;
 pub mod slices;
 
 /// A source that failed.

@@ -4,7 +4,7 @@ ghost use Rattle.std.specs.Prelude.{◌≢◌, MatchBool};
 ghost use Rattle.cap_streams.specs.Streams.{CountsFault};
 ghost use Rattle.cap_vectors.specs.{VectorFiles.{Checked, FailsWhole, last_line}, Vectors.IsTrueLine};
 
-use crate::stating::is_true_line;
+use crate::statements::is_true_line;
 use cap_log::{Lines, Next, PullFault, Source};
 
 /// The number of the line that fails whatever it holds, so that no file goes on for ever.

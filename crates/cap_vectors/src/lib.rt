@@ -4,10 +4,10 @@
 
 mod files;
 mod operands;
-mod stating;
+mod statements;
 mod texts;
-mod writing;
+mod writers;
 
 pub use crate::files::{VectorVerdict, vectors};
-pub use crate::stating::is_true_line;
+pub use crate::statements::is_true_line;
 pub use crate::texts::vector_text;

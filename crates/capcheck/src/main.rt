@@ -2,21 +2,21 @@
 //! files.
 #![tactic(auto)]
 
-mod checking;
-mod judging;
+mod checks;
+mod judges;
 #[cfg(test)]
 mod rows;
-mod running;
-mod showing;
+mod runs;
+mod explanations;
 #[cfg(test)]
 mod surface;
 #[cfg(test)]
 mod tests;
 mod words;
 
-pub use crate::running::{carry_out, run};
+pub use crate::runs::{carry_out, run};
 pub use crate::words::Order;
-pub use crate::words::reading::read_words;
+pub use crate::words::readers::read_words;
 pub use cap_judge::{
     JudgeFault, JudgeToFault, Verdict, judge, judge_bytes, judge_in, judge_origins, judge_to,
     verdict_text,

@@ -1,7 +1,7 @@
 //! The words after the program's name.
 
 pub mod operands;
-pub mod reading;
+pub mod readers;
 
 /// What the program was asked to do.
 #[derive(Debug, Clone, Copy, PartialEq, Eq)]

@@ -7,9 +7,9 @@
 #![tactic(auto)]
 
 mod accesses;
-mod clearing;
+mod clear_mode;
 mod decoding;
-mod explaining;
+mod explanations;
 mod header_lines;
 mod names;
 mod operations;

@@ -2,7 +2,7 @@
 use Rattle.std.specs.Prelude.{◌≡◌, ℕ, Bool, true, List, [], Option, None, Some}
 use Rattle.cap_judge.specs.declared.verdict.Verdict.{Verdict}
 use Rattle.cap_report.specs.{Answers.AnswersBytes, Texts.IsTold, Whys.Explains}
-use Rattle.capcheck_freestanding.specs.declared.explaining.Why.{Why}
+use Rattle.capcheck_freestanding.specs.declared.explanations.Why.{Why}
 
 -- the text of an answer on all the bytes of a log: without a verdict it is empty
 abbrev pub IsWhyOf : Bool → List ℕ → Option Verdict → List ℕ → Type 0

@@ -5,5 +5,5 @@
 //! number is in an export's range. Nothing allocates: each granule that a log names takes one of the slots.
 #![tactic(auto)]
 
-mod explaining;
-mod judging;
+mod explanations;
+mod judges;

@@ -8,7 +8,7 @@
 mod answers;
 mod handle;
 mod held;
-mod judging;
+mod judges;
 mod lines;
 mod places;
 mod reports;

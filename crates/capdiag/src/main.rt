@@ -3,17 +3,17 @@
 #![tactic(auto)]
 
 mod complaints;
-mod judging;
+mod judges;
 #[cfg(test)]
 mod rows;
-mod running;
-mod showing;
+mod runs;
+mod help;
 #[cfg(test)]
 mod tests;
 mod words;
 
 pub use crate::complaints::{Unopened, tell_unopened, tell_words};
-pub use crate::running::run;
+pub use crate::runs::run;
 pub use crate::words::{Order, read_words};
 use cap_log::WriteSink;
 pub use cap_program::carry_out;

@@ -4,7 +4,7 @@
 
 mod decoding;
 mod residues;
-mod searching;
+mod search;
 
 pub use crate::decoding::{plain_bounds, plain_keeps, plain_mantissa, plain_sound};
-pub use crate::searching::plain_round;
+pub use crate::search::plain_round;

@@ -2,7 +2,7 @@
 ghost use Rattle.std.specs.Prelude.{◌≡◌, ◌+◌, ◌<◌, ◌≤◌, ℕ, length, is_none, None, Some, slice_index_or, slice_set};
 ghost use Rattle.tagmem.specs.Granules.{IsBlankWhereUnput, overwritten, shown};
 
-use crate::overwriting::overwrite;
+use crate::overwrites::overwrite;
 
 // Block `number` has the granules from `16 * number` on. What was never put has no tag, zero bytes and the
 // code 0.

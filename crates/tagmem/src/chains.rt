@@ -3,7 +3,7 @@ ghost use Rattle.std.specs.Prelude.{◌≡◌, ◌++◌, ◌∷◌, ◌+◌, ◌
 ghost use Rattle.std.specs.Prelude.{slice_index, vec_len, vec_capacity};
 ghost use Rattle.tagmem.specs.Chains.{AreChains, IsMissing, IsThere, place_of};
 
-use crate::linking::{link, place};
+use crate::links::{link, place};
 use crate::room::make_room;
 use crate::store::NoMemory;
 use std::alloc::Global;

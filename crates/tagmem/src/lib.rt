@@ -4,15 +4,15 @@
 mod block;
 mod chains;
 mod directory;
-mod linking;
+mod links;
 mod list_store;
-mod overwriting;
+mod overwrites;
 mod page;
 mod page_store;
 mod room;
 mod store;
 
 pub use crate::list_store::ListStore;
-pub use crate::overwriting::overwrite;
+pub use crate::overwrites::overwrite;
 pub use crate::page_store::PageStore;
 pub use crate::store::{NoMemory, TaggedStore};

@@ -5,7 +5,7 @@ ghost use Rattle.tagmem.specs.Granules.{with_write, HasRoom, IsCodeFor, IsStored
 ghost use Rattle.tagmem.specs.ListLaws.{AreStored-contents_of, len_fits};
 ghost use Rattle.tagmem.specs.Listed.{contents_of, entry_of, IsRising, AllStored, IsEntryAt, IsGapFor};
 
-use crate::overwriting::overwrite;
+use crate::overwrites::overwrite;
 use crate::store::{NoMemory, TaggedStore};
 use std::alloc::Global;
 

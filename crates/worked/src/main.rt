@@ -13,7 +13,7 @@
 
 mod calls;
 mod made;
-mod refusing;
+mod refusals;
 mod rows;
 mod told;
 mod vector_files;

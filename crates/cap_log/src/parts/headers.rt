@@ -6,7 +6,7 @@ ghost use Rattle.cap_log.specs.{Lines.{IsVersion, mode_spelling}, Parts.IsMode};
 use crate::buffers::{put, put_few};
 use crate::lines::Mode;
 use crate::parts::Part;
-use crate::parts::cutting::behind;
+use crate::parts::fronts::behind;
 
 /// The version of a log, 1 or 2.
 #[derive(Clone, Copy)]

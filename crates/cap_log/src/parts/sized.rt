@@ -9,7 +9,7 @@ ghost use Rattle.cap_streams.specs.Written.{Writes};
 
 use crate::buffers::{put, put_few};
 use crate::parts::Part;
-use crate::parts::cutting::behind;
+use crate::parts::fronts::behind;
 use cap_word::{number_text, take_bytes, take_u64};
 use std::marker::Model;
 

@@ -2,7 +2,7 @@
 
 use crate::calls::agreed;
 use crate::made::{Made, Making};
-use crate::refusing::Refusing;
+use crate::refusals::Refusing;
 use cap_judge::{judge_in, verdict_text};
 use cap_log::{Line, read_line};
 use cap_machine::{Machine, StepEnd};

@@ -1,0 +1,20 @@
+use Rattle.std.proofs.Common.{rules, subst}
+use Rattle.cap_judge.proofs.EscapeLaws.{named}
+use Rattle.cap_report.specs.Texts.{IsTold}
+use Rattle.cap_report.proofs.TextLemmas.{told_from}
+use Rattle.capcheck_freestanding.proofs.explanations.capcheck_judge_why.Goals as goal
+
+pub returns : goal.returns
+returns c =
+    let why = c.answer_into-answer.ensures in
+    record {
+      why = record {
+        answer = why.0;
+        text = why.1;
+        explains = why.2;
+        told = subst (λ n. IsTold 0 c.length-length.result why.1 c.args.text.now n) (search rules)
+            (told_from c.new-sink.result c.answer_into-answer.new.sink why.1 c.args.text.now c.length-length.result
+            c.new-sink.ensures.none c.new-sink.ensures.room c.length-length.ensures.count why.3);
+      };
+      escape = λ verdict is. named verdict;
+    }
