@@ -33,7 +33,7 @@ pub fn word_of(halves: Halves) -> Word
 }
 
 /// A capability that C passes.
-pub fn taken(passed: Capability) -> Cap
+pub fn from_c(passed: Capability) -> Cap
     ensures value { result ≡ cap_of passed }
 {
     Cap {
@@ -43,7 +43,7 @@ pub fn taken(passed: Capability) -> Cap
 }
 
 /// A capability as C gets it.
-pub fn given(cap: Cap) -> Capability
+pub fn to_c(cap: Cap) -> Capability
     ensures cap { cap_of result ≡ cap }
     ensures tag { result.tag ≤ 1 }
 {
@@ -58,7 +58,7 @@ pub fn no_capability() -> Capability
     ensures cap { cap_of result ≡ no_cap }
     ensures tag { result.tag ≤ 1 }
 {
-    given(Cap {
+    to_c(Cap {
         tag: false,
         word: null(),
     })

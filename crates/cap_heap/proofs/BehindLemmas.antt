@@ -5,7 +5,7 @@ use Rattle.cap_heap.specs.declared.{events.Event.Event, lines.HeapLine.{HeapLine
 use Rattle.cap_heap.specs.declared.{progress.Progress.Progress, refusal.HeapRefusal.HeapRefusal}
 use Rattle.cap_heap.specs.declared.refusal.HeapRefusal.TheVariants.{BadHeader, LineTooLong, BadLine, Misplaced}
 use Rattle.cap_heap.specs.declared.refusal.HeapRefusal.TheVariants.{Truncated, WrongCount, LimitPassed}
-use Rattle.cap_heap.specs.declared.stage.Stage.{Stage}
+use Rattle.cap_heap.specs.declared.log_parts.LogPart.{LogPart}
 use Rattle.cap_heap.specs.Beginnings.{Beginning, Nothing, Headed, Body, Whole, AreDetailsBehind, lines_of}
 use Rattle.cap_heap.specs.{Events.after_event, HeapLines.SpellsHeapLine, HeapWhys.{AreHeapDetails, AreEventDetails}}
 use Rattle.cap_heap.specs.{Heaps.objects_in, Objects.{Objects, no_objects}, Progresses.{AreEventDetailsIn, StandsFor}}
@@ -39,7 +39,7 @@ event_details root events before text LimitPassed details is told = absurd (is.f
 event_details root events before text refusal details is told = told
 
 pub behind : (progress : Progress) (beginning : Beginning) (text : List ℕ) (refusal : HeapRefusal) (details : List ℕ)
-    → progress.stage ≡ Stage.Within → StandsFor progress beginning → IsOfEvent refusal
+    → progress.stage ≡ LogPart.Within → StandsFor progress beginning → IsOfEvent refusal
     → AreEventDetailsIn progress.heap text refusal details → AreDetailsBehind beginning text refusal details
 behind progress Nothing text refusal details within h is told = let no : ⊥ = cc in absurd no
 behind progress Headed text refusal details within h is told = let no : ⊥ = cc in absurd no

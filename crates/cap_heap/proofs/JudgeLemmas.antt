@@ -9,7 +9,7 @@ use Rattle.cap_streams.specs.Takings.{IsNext, Answered, kept, over_of}
 use Rattle.cap_streams.proofs.FrontLemmas.{IsLine-more, IsLine-not_cut, IsLine-not_too_long, IsTooLong-more}
 use Rattle.cap_streams.proofs.FrontLemmas.{IsTooLong-not_cut}
 use Rattle.cap_heap.specs.declared.{events.EventEnd.EventEnd, lines.HeapLine.{HeapLine, TheVariants.{Happens, End}}}
-use Rattle.cap_heap.specs.declared.{progress.Progress.Progress, refusal.HeapRefusal.HeapRefusal, stage.Stage.Stage}
+use Rattle.cap_heap.specs.declared.{progress.Progress.Progress, refusal.HeapRefusal.HeapRefusal, log_parts.LogPart.LogPart}
 use Rattle.cap_heap.specs.declared.verdict.HeapVerdict.{HeapVerdict, TheVariants.{No, Yes}}
 use Rattle.cap_heap.specs.Beginnings.{Beginning, Nothing, Headed, Body, Whole, lines_of, events_of, due_of, root_of}
 use Rattle.cap_heap.specs.Beginnings.{IsAccepted, RefusesWhole, RefusesBehind, body_lines}
@@ -103,9 +103,9 @@ with_none Fact rest more none holds =
 abbrev RefusedAt : Progress → ℕ → HeapRefusal → (HeapRefusal → Type 0) → Type 0
 RefusedAt progress line refusal Holds = (shown : HeapRefusal) × (refused_in progress.stage line refusal ≡ No line shown) × Holds shown
 
-shown_as : (progress : Progress) (line : ℕ) (refusal : HeapRefusal) (stage : Stage) → progress.stage ≡ stage
+shown_as : (progress : Progress) (line : ℕ) (refusal : HeapRefusal) (stage : LogPart) → progress.stage ≡ stage
     → refused_in progress.stage line refusal ≡ refused_in stage line refusal
-shown_as progress line refusal stage is = ap (λ (s : Stage). refused_in s line refusal) is
+shown_as progress line refusal stage is = ap (λ (s : LogPart). refused_in s line refusal) is
 
 refuses_cut : (progress : Progress) (line : ℕ) (rest : List ℕ) (beginning : Beginning) → StandsFor progress beginning → IsCut rest → rest ≢ []
     → RefusedAt progress line HeapRefusal.Truncated (RefusesBehind beginning rest)
@@ -259,18 +259,18 @@ module _ {S : Type 0} {gave : S → S → List ℕ → Type 0} {ended : S → Bo
         → line ≡ length (lines_of beginning) + 1
         → JudgedBy gave ended old new (Ok (finished_in progress.stage progress.events (live_in progress.heap) line)) progress []
     finish Nothing stands bytes number =
-        subst (λ (stage : Stage). JudgedBy gave ended old new (Ok (finished_in stage progress.events (live_in progress.heap) line)) progress [])
+        subst (λ (stage : LogPart). JudgedBy gave ended old new (Ok (finished_in stage progress.events (live_in progress.heap) line)) progress [])
         (sym stands) (ends_here Nothing stands bytes number (λ rest cut. inr (inl (cut, refl))))
     finish Headed stands bytes number =
-        subst (λ (stage : Stage). JudgedBy gave ended old new (Ok (finished_in stage progress.events (live_in progress.heap) line)) progress [])
+        subst (λ (stage : LogPart). JudgedBy gave ended old new (Ok (finished_in stage progress.events (live_in progress.heap) line)) progress [])
         (sym stands) (ends_here Headed stands bytes number (λ rest cut. inr (inl (cut, refl))))
     finish (Body root events) stands bytes number =
-        subst (λ (stage : Stage). JudgedBy gave ended old new (Ok (finished_in stage progress.events (live_in progress.heap) line)) progress [])
+        subst (λ (stage : LogPart). JudgedBy gave ended old new (Ok (finished_in stage progress.events (live_in progress.heap) line)) progress [])
         (sym stands.0) (ends_here (Body root events) stands bytes number (λ rest cut. inr (inl (cut, refl))))
     finish (Whole root events) stands bytes number =
         let bytes_are : p.given ≡ heap_text_of (lines_of (Whole root events)) = bytes ∙ append-nil (heap_text_of (lines_of (Whole root events))) in
         let log = is_log root events stands.1.runs in
-        subst (λ (stage : Stage). JudgedBy gave ended old new (Ok (finished_in stage progress.events (live_in progress.heap) line)) progress [])
+        subst (λ (stage : LogPart). JudgedBy gave ended old new (Ok (finished_in stage progress.events (live_in progress.heap) line)) progress [])
         (sym stands.0)
         (answered (Yes progress.events (live_in progress.heap)) p progress [] (lines_of (Whole root events), root, events, bytes_are, log, stands.1.report_is) tt
         (p.next.1, lines_of (Whole root events), root, events, bytes_are, log, stands.1.count_is, stands.1.live_is))

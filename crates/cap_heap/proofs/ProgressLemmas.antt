@@ -4,7 +4,7 @@ use Rattle.std.proofs.Common.{sym, ap, subst, ◌∙◌, arith, Result, Ok, Err,
 use Rattle.cap_bounds.specs.declared.decoding.Interval.{Interval}
 use Rattle.cap_heap.specs.declared.events.{Event.Event, EventEnd.{EventEnd, TheVariants.{Refused, NoMemory}}}
 use Rattle.cap_heap.specs.declared.{heap.Heap.Heap, lines.HeapLine.{HeapLine, TheVariants.{Root, Happens, End}}}
-use Rattle.cap_heap.specs.declared.{progress.Progress.Progress, report.HeapReport.HeapReport, stage.Stage.Stage}
+use Rattle.cap_heap.specs.declared.{progress.Progress.Progress, report.HeapReport.HeapReport, log_parts.LogPart.LogPart}
 use Rattle.cap_heap.specs.Beginnings.{Beginning, Nothing, Headed, Body, Whole, lines_of, due_of, body_lines}
 use Rattle.cap_heap.specs.{Beginnings.RefusesWhole, HeapLines.{IsHeapLineInRange, SpellsHeapLine}}
 use Rattle.cap_heap.specs.{HeapReports.IsReportOf, HeapWhys.{count_in, due_text}, Heaps.{objects_in, live_in}}
@@ -19,13 +19,13 @@ record IsBody (progress : Progress) (beginning : Beginning) : Type 0 where
   is : Body root events ≡ beginning
   reaches : Reaches progress.heap progress.report progress.events root events
 
-body : (progress : Progress) → progress.stage ≡ Stage.Within → (beginning : Beginning) → StandsFor progress beginning → IsBody progress beginning
+body : (progress : Progress) → progress.stage ≡ LogPart.Within → (beginning : Beginning) → StandsFor progress beginning → IsBody progress beginning
 body progress within Nothing h = let no : ⊥ = cc in absurd no
 body progress within Headed h = let no : ⊥ = cc in absurd no
 body progress within (Body root events) h = record { root = root; events = events; is = refl; reaches = h.1 }
 body progress within (Whole root events) h = let bad = h.0 in let no : ⊥ = cc in absurd no
 
-headed : (progress : Progress) → progress.stage ≡ Stage.Headed → (beginning : Beginning) → StandsFor progress beginning → Headed ≡ beginning
+headed : (progress : Progress) → progress.stage ≡ LogPart.Headed → (beginning : Beginning) → StandsFor progress beginning → Headed ≡ beginning
 headed progress is Nothing h = let no : ⊥ = cc in absurd no
 headed progress is Headed h = refl
 headed progress is (Body root events) h = let bad = h.0 in let no : ⊥ = cc in absurd no
@@ -46,7 +46,7 @@ count_events [] later = omega arith
 count_events (event ∷ events) later = let rest = count_events events later in omega (arith, rest)
 
 -- behind the root, as many events were counted as the lines so far have
-pub counted : (progress : Progress) (beginning : Beginning) → (progress.stage ≡ Stage.Within) ⊎ (progress.stage ≡ Stage.Ended)
+pub counted : (progress : Progress) (beginning : Beginning) → (progress.stage ≡ LogPart.Within) ⊎ (progress.stage ≡ LogPart.Ended)
     → StandsFor progress beginning → progress.events ≡ count_in (lines_of beginning)
 counted progress Nothing (inl within) h = let no : ⊥ = cc in absurd no
 counted progress Nothing (inr ended) h = let no : ⊥ = cc in absurd no
@@ -63,7 +63,7 @@ counted progress (Whole root events) stage h =
     let same : progress.events ≡ count_in (map Happens events ++ End (length events) ∷ []) = omega (arith, are, have) in same
 
 -- an event more
-pub takes_event : {X : Type 0} (old new : Progress) (event : Event) → old.stage ≡ Stage.Within → new.stage ≡ old.stage
+pub takes_event : {X : Type 0} (old new : Progress) (event : Event) → old.stage ≡ LogPart.Within → new.stage ≡ old.stage
     → (result : Result X EventEnd)
     → OnOk result ((root : Interval) (events : List Event) → Reaches old.heap old.report old.events root events
     → Reaches new.heap new.report new.events root (events ++ event ∷ []))
@@ -86,7 +86,7 @@ stays_event old new same (Ok done) told = tt
 stays_event old new same (Err end) told = λ beginning stands. stays_for old new same told beginning stands
 
 -- the end line more
-pub takes_end : (old new : Progress) (count : ℕ) → old.stage ≡ Stage.Within → new.stage ≡ Stage.Ended → new.heap ≡ old.heap
+pub takes_end : (old new : Progress) (count : ℕ) → old.stage ≡ LogPart.Within → new.stage ≡ LogPart.Ended → new.heap ≡ old.heap
     → new.report ≡ old.report → new.events ≡ old.events → count ≡ old.events → Takes old (End count) new
 takes_end old new count within ended same same_report same_events is beginning stands =
     let here = body old within beginning stands in
@@ -100,7 +100,7 @@ takes_end old new count within ended same same_report same_events is beginning s
     )
 
 -- the root more
-pub takes_root : (old new : Progress) (bounds : Interval) → old.stage ≡ Stage.Headed → new.stage ≡ Stage.Within → new.events ≡ 0
+pub takes_root : (old new : Progress) (bounds : Interval) → old.stage ≡ LogPart.Headed → new.stage ≡ LogPart.Within → new.events ≡ 0
     → IsHeapLineInRange (Root bounds) → new.heap.bounds ≡ bounds → objects_in new.heap ≡ no_objects → live_in new.heap ≡ 0
     → IsReportOf new.report [] → Takes old (Root bounds) new
 takes_root old new bounds is within none range same objects live reported beginning stands = (
@@ -114,7 +114,7 @@ takes_root old new bounds is within none range same objects live reported beginn
 )
 
 -- a line after the root is not taken
-pub ends_within : {X : Type 0} (progress : Progress) (text : List ℕ) (line : HeapLine) → progress.stage ≡ Stage.Within → SpellsHeapLine text line
+pub ends_within : {X : Type 0} (progress : Progress) (text : List ℕ) (line : HeapLine) → progress.stage ≡ LogPart.Within → SpellsHeapLine text line
     → (result : Result X EventEnd)
     → IfErr result (λ end. (root : Interval) (events : List Event) → Reaches progress.heap progress.report progress.events root events
     → EndsLine root events line end)
@@ -128,11 +128,11 @@ ends_within progress text line within spells (Err NoMemory) told = λ beginning 
     subst (λ (b : Beginning). LacksMemory b text) here.is (line, spells, told here.root here.events here.reaches)
 
 -- which lines may come: a root once the header was read, and else others
-pub due_headed : (progress : Progress) (beginning : Beginning) → progress.stage ≡ Stage.Headed → StandsFor progress beginning
+pub due_headed : (progress : Progress) (beginning : Beginning) → progress.stage ≡ LogPart.Headed → StandsFor progress beginning
     → codes "root BASE TOP, the bounds of the heap" ≡ due_text (due_of beginning)
 due_headed progress beginning is stands = subst (λ (b : Beginning). codes "root BASE TOP, the bounds of the heap" ≡ due_text (due_of b)) (headed progress is beginning stands) refl
 
-pub due_other : (progress : Progress) (beginning : Beginning) → (progress.stage ≡ Stage.Headed → ⊥) → StandsFor progress beginning
+pub due_other : (progress : Progress) (beginning : Beginning) → (progress.stage ≡ LogPart.Headed → ⊥) → StandsFor progress beginning
     → codes "malloc, free or one end line, and nothing after it" ≡ due_text (due_of beginning)
 due_other progress Nothing other stands = refl
 due_other progress Headed other stands = absurd (other stands)

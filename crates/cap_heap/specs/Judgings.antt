@@ -3,7 +3,7 @@ use Rattle.std.specs.Prelude.{ℕ, Bool, List, Result, Ok, Err, IfOk}
 use Rattle.cap_streams.specs.declared.judge_faults.JudgeFault.{JudgeFault, TheVariants.NoMemory}
 use Rattle.cap_heap.specs.declared.{events.EventEnd.EventEnd, progress.Progress.Progress}
 use Rattle.cap_heap.specs.declared.refusal.HeapRefusal.{HeapRefusal, TheVariants.{Misplaced, Truncated}}
-use Rattle.cap_heap.specs.declared.{stage.Stage.{Stage, TheVariants.Ended}, verdict.HeapVerdict.HeapVerdict}
+use Rattle.cap_heap.specs.declared.{log_parts.LogPart.{LogPart, TheVariants.Ended}, verdict.HeapVerdict.HeapVerdict}
 use Rattle.cap_heap.specs.declared.verdict.HeapVerdict.TheVariants.{Yes, No}
 use Rattle.cap_heap.specs.{HeapVerdicts.{HeapJudged, Lasts, ReportsAfter}, Progresses.IsStopped}
 use Rattle.cap_heap.specs.declared.events.EventEnd.TheVariants as ends
@@ -14,12 +14,12 @@ answer_at line (ends.Refused refusal) = Ok (No line refusal)
 answer_at line ends.NoMemory = Err NoMemory
 
 -- the verdict on a line that is too long or cut: after the end line it is misplaced
-abbrev pub refused_in : Stage → ℕ → HeapRefusal → HeapVerdict
+abbrev pub refused_in : LogPart → ℕ → HeapRefusal → HeapVerdict
 refused_in Ended line refusal = No line Misplaced
 refused_in stage line refusal = No line refusal
 
 -- the verdict where the bytes end at a line's start: a yes after the end line
-abbrev pub finished_in : Stage → ℕ → ℕ → ℕ → HeapVerdict
+abbrev pub finished_in : LogPart → ℕ → ℕ → ℕ → HeapVerdict
 finished_in Ended events live line = Yes events live
 finished_in stage events live line = No line Truncated
 

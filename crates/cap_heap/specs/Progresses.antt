@@ -11,7 +11,7 @@ use Rattle.cap_heap.specs.Beginnings.{Beginning, Nothing, Headed, Body, Whole, R
 use Rattle.cap_heap.specs.{Beginnings.{RefusesBehind, lines_of, objects_after}, Events.{HasRoom, mallocs, frees}}
 use Rattle.cap_heap.specs.{HeapLines.SpellsHeapLine, HeapLogs.{RefusesHeapLine, heap_text_of}, HeapReports.IsReportOf}
 use Rattle.cap_heap.specs.{HeapWhys.AreEventDetails, Heaps.{objects_in, live_in}, Objects.{no_objects, IsApart}}
-use Rattle.cap_heap.specs.declared.stage.Stage.TheVariants as stages
+use Rattle.cap_heap.specs.declared.log_parts.LogPart.TheVariants as stages
 
 -- a root and events that are accepted lead to a heap, a report and a number of events
 pub record Reaches (heap : Heap) (report : HeapReport) (count : ℕ) (root : Interval) (events : List Event) : Type 0 where

@@ -6,7 +6,7 @@ ghost use Rattle.cap_texts.specs.{TextLines.text_line, WrongLines.hint_line};
 ghost use Rattle.cap_heap.specs.{declared.bad_lines.Name.Name, BadLines.{AreBadLines, AreFirstLines, HasNoWrongWord}};
 ghost use Rattle.cap_heap.specs.BadLines.{IsMachineHeader, IsNamed, IsWrongWord, fields_of};
 
-use crate::readers::behind;
+use crate::readers::strip_text;
 use cap_log::buffers::put;
 use cap_texts::fields::{Field, Wrong, first_wrong};
 use cap_texts::text_lines::put_line;
@@ -87,19 +87,19 @@ fn take_name(line: &[u8]) -> Option<(Name, &[u8])>
     ensures none { IfNone result ((name : Name) (operands : List ℕ) → IsNamed line.now name operands → ⊥) }
     ensures inside { IfSome result (λ p. length p.1.now ≤ length line.now) }
 {
-    if let Some(operands) = behind(line, b"malloc ") {
+    if let Some(operands) = strip_text(line, b"malloc ") {
         return Some((Name::Malloc, operands));
     }
-    if let Some(operands) = behind(line, b"free ") {
+    if let Some(operands) = strip_text(line, b"free ") {
         return Some((Name::Free, operands));
     }
-    if let Some(operands) = behind(line, b"root ") {
+    if let Some(operands) = strip_text(line, b"root ") {
         return Some((Name::Root, operands));
     }
-    if let Some(operands) = behind(line, b"end ") {
+    if let Some(operands) = strip_text(line, b"end ") {
         return Some((Name::End, operands));
     }
-    match behind(line, b"heap ") {
+    match strip_text(line, b"heap ") {
         Some(operands) => Some((Name::Header, operands)),
         None => None,
     }

@@ -3,13 +3,13 @@
 ghost use Rattle.std.specs.Prelude.{◌≡◌, Err};
 ghost use Rattle.cap_streams.specs.{declared.judge_faults.JudgeFault.TheVariants.Pull, FaultLines.bytes_of};
 ghost use Rattle.cap_streams.specs.{Streams.CountsOnly, Takings.kept};
-ghost use Rattle.cap_heap.specs.{declared.stage.Stage.TheVariants.Start, HeapVerdicts.HeapJudged, Heaps.live_in};
+ghost use Rattle.cap_heap.specs.{declared.log_parts.LogPart.TheVariants.Start, HeapVerdicts.HeapJudged, Heaps.live_in};
 ghost use Rattle.cap_heap.specs.Judgings.{JudgedBy, answer_at, finished_in, refused_in};
 
 use crate::events::EventEnd;
 use crate::progress::Progress;
 use crate::refusal::HeapRefusal;
-use crate::stage::Stage;
+use crate::log_parts::LogPart;
 use crate::verdict::HeapVerdict;
 use cap_log::{FaultLine, JudgeFault, Lines, Next, PullFault, Source, front};
 use std::alloc::Global;
@@ -52,16 +52,16 @@ pub(crate) fn judge_lines<S: Source>(
             Ok(Next::Truncated) => {
                 let verdict = refused(progress.stage, line, HeapRefusal::Truncated);
                 let kept = lines.kept();
-                return (Ok(verdict), FaultLine::of(front(kept), kept));
+                return (Ok(verdict), FaultLine::of_front(front(kept), kept));
             }
             Ok(Next::LineTooLong) => {
                 let verdict = refused(progress.stage, line, HeapRefusal::LineTooLong);
                 let kept = lines.kept();
-                return (Ok(verdict), FaultLine::of(front(kept), kept));
+                return (Ok(verdict), FaultLine::of_front(front(kept), kept));
             }
             Ok(Next::Line(text)) => {
                 if let Err(end) = progress.take_line(text) {
-                    return (answer_at(line, end), FaultLine::of(front(text), text));
+                    return (answer_at(line, end), FaultLine::of_front(front(text), text));
                 }
                 line += 1;
             }
@@ -74,7 +74,7 @@ fn finished(progress: &Progress, line: u64) -> HeapVerdict
     ensures { result ≡ finished_in progress.now.stage progress.now.events (live_in progress.now.heap) line }
 {
     match progress.stage {
-        Stage::Ended => HeapVerdict::Yes {
+        LogPart::Ended => HeapVerdict::Yes {
             events: progress.events,
             live: progress.heap.live() as u64,
         },
@@ -86,11 +86,11 @@ fn finished(progress: &Progress, line: u64) -> HeapVerdict
 }
 
 // The verdict on a line that is too long or cut.
-fn refused(stage: Stage, line: u64, refusal: HeapRefusal) -> HeapVerdict
+fn refused(stage: LogPart, line: u64, refusal: HeapRefusal) -> HeapVerdict
     ensures { result ≡ refused_in stage line refusal }
 {
     match stage {
-        Stage::Ended => HeapVerdict::No {
+        LogPart::Ended => HeapVerdict::No {
             line,
             refusal: HeapRefusal::Misplaced,
         },

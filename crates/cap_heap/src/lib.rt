@@ -19,7 +19,7 @@ mod readers;
 mod refusal;
 mod report;
 mod output;
-mod stage;
+mod log_parts;
 mod verdict;
 mod verdict_lines;
 mod whys;

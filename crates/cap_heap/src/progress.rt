@@ -4,7 +4,7 @@ ghost use Rattle.std.specs.Prelude.{◌≡◌, ◌++◌, ◌∷◌, [], List, On
 ghost use Rattle.cap_bounds.specs.declared.decoding.Interval.{Interval};
 ghost use Rattle.cap_heap.specs.declared.{events.Event.Event, lines.HeapLine.TheVariants.{Happens, End}};
 ghost use Rattle.cap_heap.specs.{Beginnings.{Beginning, due_of, lines_of}, HeapLines.IsHeapLineInRange};
-ghost use Rattle.cap_heap.specs.declared.stage.Stage.TheVariants as stages;
+ghost use Rattle.cap_heap.specs.declared.log_parts.LogPart.TheVariants as stages;
 
 use crate::events::{Event, EventEnd};
 use crate::heap::Heap;
@@ -12,7 +12,7 @@ use crate::lines::HeapLine;
 use crate::readers::{is_header, read_heap_line};
 use crate::refusal::HeapRefusal;
 use crate::report::HeapReport;
-use crate::stage::Stage;
+use crate::log_parts::LogPart;
 use cap_bounds::Interval;
 use std::alloc::Global;
 
@@ -23,7 +23,7 @@ const MOST_EVENTS: u32 = 0xffff_ffff;
 #[derive(Drop)]
 pub(crate) struct Progress {
     pub alloc: Global,
-    pub stage: Stage,
+    pub stage: LogPart,
     pub heap: Heap,
     pub events: u32,
     pub report: HeapReport,
@@ -40,7 +40,7 @@ impl Progress {
     {
         Progress {
             alloc,
-            stage: Stage::Start,
+            stage: LogPart::Start,
             heap: Heap::new(alloc, Interval { base: 0, top: 0 }),
             events: 0,
             report: HeapReport::new(),
@@ -53,8 +53,8 @@ impl Progress {
         ensures value { (beginning : Beginning) → StandsFor self.now beginning → result ≡ count_in (lines_of beginning) }
     {
         match self.stage {
-            Stage::Start | Stage::Headed => 0,
-            Stage::Within | Stage::Ended => self.events,
+            LogPart::Start | LogPart::Headed => 0,
+            LogPart::Within | LogPart::Ended => self.events,
         }
     }
 
@@ -64,7 +64,7 @@ impl Progress {
         ensures value { (beginning : Beginning) → StandsFor self.now beginning → result.now ≡ due_text (due_of beginning) }
         ensures short { length result.now ≤ 64 }
     {
-        if self.stage == Stage::Headed {
+        if self.stage == LogPart::Headed {
             b"root BASE TOP, the bounds of the heap"
         } else {
             b"malloc, free or one end line, and nothing after it"
@@ -78,10 +78,10 @@ impl Progress {
         ensures stays { OnErr result (Stays self.old self.new) }
     {
         match self.stage {
-            Stage::Start => self.take_header(text),
-            Stage::Headed => self.take_root(text),
-            Stage::Within => self.take_within(text),
-            Stage::Ended => Err(EventEnd::Refused(HeapRefusal::Misplaced)),
+            LogPart::Start => self.take_header(text),
+            LogPart::Headed => self.take_root(text),
+            LogPart::Within => self.take_within(text),
+            LogPart::Ended => Err(EventEnd::Refused(HeapRefusal::Misplaced)),
         }
     }
 
@@ -95,7 +95,7 @@ impl Progress {
         if !is_header(text) {
             return Err(EventEnd::Refused(HeapRefusal::BadHeader));
         }
-        self.stage = Stage::Headed;
+        self.stage = LogPart::Headed;
         Ok(())
     }
 
@@ -108,7 +108,7 @@ impl Progress {
     {
         match read_heap_line(text) {
             Some(HeapLine::Root(bounds)) => {
-                self.stage = Stage::Within;
+                self.stage = LogPart::Within;
                 self.heap = Heap::new(self.alloc, bounds);
                 self.events = 0;
                 self.report = HeapReport::new();
@@ -188,7 +188,7 @@ impl Progress {
         if count != self.events {
             return Err(EventEnd::Refused(HeapRefusal::WrongCount));
         }
-        self.stage = Stage::Ended;
+        self.stage = LogPart::Ended;
         Ok(())
     }
 }

@@ -45,7 +45,7 @@ pub(crate) fn is_header(text: &[u8]) -> bool
 
 /// What follows a text at the front of some bytes, or `None` where it does not stand there.
 #[inline(always)]
-pub(crate) fn behind<'a, const N: usize>(bytes: &'a [u8], front: &[u8; N]) -> Option<&'a [u8]>
+pub(crate) fn strip_text<'a, const N: usize>(bytes: &'a [u8], front: &[u8; N]) -> Option<&'a [u8]>
     ensures some { IfSome result (λ rest. bytes.now ≡ front.now ++ rest.now) }
     ensures none { IfNone result ((rest : List ℕ) → bytes.now ≡ front.now ++ rest → ⊥) }
 {
@@ -69,9 +69,9 @@ fn read_malloc(text: &[u8]) -> Option<Event>
     ensures some { IfSome result (λ event. SpellsHeapLine text.now (Happens event)) }
     ensures none { IfNone result ((address length : ℕ) → SpellsHeapLine text.now (Happens (Malloc address length)) → ⊥) }
 {
-    let operands = behind(text, b"malloc ")?;
+    let operands = strip_text(text, b"malloc ")?;
     let (address, rest) = take_u64(operands)?;
-    let digits = behind(rest, b" ")?;
+    let digits = strip_text(rest, b" ")?;
     let length = read_u64(digits)?;
     Some(Event::Malloc { address, length })
 }
@@ -81,7 +81,7 @@ fn read_free(text: &[u8]) -> Option<Event>
     ensures some { IfSome result (λ event. SpellsHeapLine text.now (Happens event)) }
     ensures none { IfNone result ((address : ℕ) → SpellsHeapLine text.now (Happens (Free address)) → ⊥) }
 {
-    let digits = behind(text, b"free ")?;
+    let digits = strip_text(text, b"free ")?;
     let address = read_u64(digits)?;
     Some(Event::Free { address })
 }
@@ -91,9 +91,9 @@ fn read_root(text: &[u8]) -> Option<Interval>
     ensures some { IfSome result (λ bounds. SpellsHeapLine text.now (Root bounds)) }
     ensures none { IfNone result ((bounds : Interval) → SpellsHeapLine text.now (Root bounds) → ⊥) }
 {
-    let operands = behind(text, b"root ")?;
+    let operands = strip_text(text, b"root ")?;
     let (base, rest) = take_u64(operands)?;
-    let digits = behind(rest, b" ")?;
+    let digits = strip_text(rest, b" ")?;
     let top = read_top(digits)?;
     if u128::from(base) <= top {
         Some(Interval { base, top })
@@ -107,7 +107,7 @@ fn read_top(digits: &[u8]) -> Option<u128>
     ensures some { IfSome result (λ top. (digits.now ≡ hex_digits 17 top) × (top ≤ 2 ^ 64)) }
     ensures none { IfNone result ((top : ℕ) → top ≤ 2 ^ 64 → digits.now ≡ hex_digits 17 top → ⊥) }
 {
-    if let Some(low) = behind(digits, b"0") {
+    if let Some(low) = strip_text(digits, b"0") {
         let number = read_u64(low)?;
         return Some(u128::from(number));
     }

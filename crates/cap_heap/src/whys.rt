@@ -15,7 +15,7 @@ use crate::progress::Progress;
 use crate::readers::read_event;
 use crate::refusal::HeapRefusal;
 use crate::report::alignment;
-use crate::stage::Stage;
+use crate::log_parts::LogPart;
 use cap_bounds::{Interval, round, round_length};
 use cap_texts::cap_lines::put_bounds_line;
 use cap_texts::text_lines::{put_decimal_line, put_hex_line, put_line};
@@ -46,7 +46,7 @@ pub(crate) fn put_details(
         | HeapRefusal::WrongCount
         | HeapRefusal::LimitPassed => put_counted_lines(progress, refusal, buffer, at),
         _ => match progress.stage {
-            Stage::Within => put_event_lines(&progress.heap, text, refusal, buffer, at),
+            LogPart::Within => put_event_lines(&progress.heap, text, refusal, buffer, at),
             _ => at,
         },
     }

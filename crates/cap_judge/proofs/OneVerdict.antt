@@ -19,11 +19,11 @@ abbrev pub Stops : Stage → List ℕ → Type 0
 Stops stage rest = (line : Line) (more : List ℕ) → IsInRange line → Allows stage line → rest ≡ spelling line ++ 10 ∷ more → ⊥
 
 -- the verdict on what follows a beginning
-abbrev pub Answers : Beginning → List ℕ → Verdict → Type 0
-Answers (Whole rules roots steps) rest (Yes step_count root_count) =
+abbrev pub IsAnswerFor : Beginning → List ℕ → Verdict → Type 0
+IsAnswerFor (Whole rules roots steps) rest (Yes step_count root_count) =
     (rest ≡ []) × (step_count ≡ length steps) × (root_count ≡ length roots)
-Answers beginning rest (Yes steps roots) = ⊥
-Answers beginning rest (No line refusal) = (line ≡ length (lines_of beginning) + 1) × Refuses beginning rest refusal
+IsAnswerFor beginning rest (Yes steps roots) = ⊥
+IsAnswerFor beginning rest (No line refusal) = (line ≡ length (lines_of beginning) + 1) × Refuses beginning rest refusal
 
 -- the first line of a text
 pub text_cons : (line : Line) (lines : List Line) (rest : List ℕ)
@@ -86,7 +86,7 @@ refused_stops beginning rest refusal refused line more range allowed is =
     let whole = subst (λ (bytes : List ℕ). IsLine bytes (spelling line) more) (sym is) (IsLine-spelling line range more) in
     not_refused beginning line refusal range allowed (front_refused beginning rest (spelling line) more refusal whole refused)
 
-pub answer_stops : (beginning : Beginning) (rest : List ℕ) (verdict : Verdict) → Answers beginning rest verdict
+pub answer_stops : (beginning : Beginning) (rest : List ℕ) (verdict : Verdict) → IsAnswerFor beginning rest verdict
     → Stops (stage_after beginning) rest
 answer_stops (Whole rules_are roots steps) rest verdict answers = λ line more range allowed is. none-some _ (sym allowed)
 answer_stops beginning rest (Yes steps roots) answers = absurd answers
@@ -118,7 +118,7 @@ one_refusal (Whole rules_are roots steps) rest a b h k = h.1 ∙ sym k.1
 one_refusal beginning rest a b h k = one_front beginning rest a b h k
 
 -- where a reading stops there is one verdict
-one_answer : (beginning : Beginning) (rest : List ℕ) (a b : Verdict) → Answers beginning rest a → Answers beginning rest b → a ≡ b
+one_answer : (beginning : Beginning) (rest : List ℕ) (a b : Verdict) → IsAnswerFor beginning rest a → IsAnswerFor beginning rest b → a ≡ b
 one_answer (Whole rules_are roots steps) rest (Yes step_count root_count) (Yes step_count' root_count') h k = cc
 one_answer (Whole rules_are roots steps) rest (Yes step_count root_count) (No line refusal) h k = absurd (k.1.0 h.0)
 one_answer (Whole rules_are roots steps) rest (No line refusal) (Yes step_count root_count) h k = absurd (h.1.0 k.0)
@@ -131,7 +131,7 @@ one_answer beginning rest verdict (Yes steps roots) h k = absurd k
 
 -- each comes from a reading: the bytes are a beginning that is accepted, and a rest that has this verdict
 read : (bytes : List ℕ) (verdict : Verdict) → IsVerdict bytes verdict
-    → (beginning : Beginning) × (rest : List ℕ) × IsBehind bytes beginning rest × Answers beginning rest verdict
+    → (beginning : Beginning) × (rest : List ℕ) × IsBehind bytes beginning rest × IsAnswerFor beginning rest verdict
 read bytes (Yes steps roots) is = (
   Whole is.rules is.roots is.steps,
   [],
@@ -150,5 +150,5 @@ one_verdict bytes a b is_a is_b =
     (accepted_read first here.accepted) (accepted_read second there.accepted)
     (answer_stops first rest a answers) (answer_stops second rest' b answers') (sym here.bytes_are ∙ there.bytes_are) in
     one_answer first rest a b answers
-    (subst (λ (r : List ℕ). Answers first r b) (sym same.1)
-    (subst (λ (beginning : Beginning). Answers beginning rest' b) (sym (same_beginning first second same.0)) answers'))
+    (subst (λ (r : List ℕ). IsAnswerFor first r b) (sym same.1)
+    (subst (λ (beginning : Beginning). IsAnswerFor beginning rest' b) (sym (same_beginning first second same.0)) answers'))

@@ -2,7 +2,7 @@
 use Rattle.std.proofs.Common.{◌≡◌, ℕ, zero, suc, ◌+◌, ◌<◌, inl, inr, ◌⊎◌, List, [], ◌∷◌, ◌++◌, length, Option, Some}
 use Rattle.std.proofs.{Common.{None, refl, sym, ap, ◌∙◌, append-nil, arith, length-append}, lemmas.Option.none-some}
 use Rattle.cap_ops.specs.declared.refusal.Refusal.{Refusal, TheVariants.{LineTooLong, Misplaced, Truncated}}
-use Rattle.cap_log.specs.{declared.lines.Line.Line, Lines.{IsInRange, Spells, spelling}, Parts.Reads as Spelled}
+use Rattle.cap_log.specs.{declared.lines.Line.Line, Lines.{IsInRange, Spells, spelling}, Parts.ReadsAs as Spelled}
 use Rattle.cap_streams.specs.Front.{IsLine}
 use Rattle.cap_log.proofs.DecidedLines.{line_decided, front_decided}
 use Rattle.cap_judge.specs.{declared.verdict.Verdict.{Verdict, TheVariants.{Yes, No}}, Judgings.IsBehind}

@@ -5,7 +5,7 @@ use Rattle.std.proofs.Common.{length-append}
 use Rattle.cap_streams.specs.{declared.judge_faults.JudgeFault.{JudgeFault, TheVariants.{Pull, NoMemory}}, Front.IsCut}
 use Rattle.cap_log.specs.declared.lines.Line.{Line}
 use Rattle.cap_machine.specs.Helds.{Held}
-use Rattle.cap_judge.specs.declared.{faults.Fault.Fault, verdict.Verdict.{Verdict, TheVariants.{Yes, No}}}
+use Rattle.cap_judge.specs.declared.{faults.RefusedLine.RefusedLine, verdict.Verdict.{Verdict, TheVariants.{Yes, No}}}
 use Rattle.cap_judge.specs.{Judgings.{IsVerdictOf, BeginsLog, IsAnswerOf, JudgedBy, JudgedAll}, Logs.MayLackMemory}
 use Rattle.cap_judge.specs.{Logs.text_of, Readings.{EndsAs, EndsIn, EndsWith, Goes, IsAnswered, lines_read}}
 use Rattle.cap_judge.specs.{Turns.{Stage, unread}, Verdicts.{IsVerdict, NoVerdictIn}}
@@ -80,7 +80,7 @@ given_more gave {a} {b} {c} taken kept now {more} joined before after is =
     (joined a b c (taken ++ kept) more before after)
 
 -- a yes or a no, where a log ends
-pub ended_answer : (stage : Stage) (rest text : List ℕ) (end : Result Verdict Fault) (answer : Result Verdict JudgeFault)
+pub ended_answer : (stage : Stage) (rest text : List ℕ) (end : Result Verdict RefusedLine) (answer : Result Verdict JudgeFault)
     → IsAnswered end answer text → EndsAs stage rest end → (verdict : Verdict) × (answer ≡ Ok verdict) × EndsIn stage rest verdict text
 ended_answer stage rest text (Ok (Yes steps roots)) answer is ends = (Yes steps roots, is, ends)
 ended_answer stage rest text (Ok (No line refusal)) answer is ends = absurd ends

@@ -5,7 +5,7 @@ use Rattle.std.proofs.{Common.length-append, lemmas.{Bool.{false≢true}, List.l
 use Rattle.cap_ops.specs.declared.refusal.Refusal.{Refusal, TheVariants.{BadLine, LineTooLong, Misplaced, Truncated}}
 use Rattle.cap_ops.specs.Checks.{first_of}
 use Rattle.cap_log.specs.{declared.{kinds.Step.Step, lines.Line.Line}, Lines.{IsInRange, Spells, spelling}}
-use Rattle.cap_log.specs.Parts.{Reads as Spelled}
+use Rattle.cap_log.specs.Parts.{ReadsAs as Spelled}
 use Rattle.cap_streams.specs.Front.{IsCut}
 use Rattle.cap_streams.proofs.FrontLemmas.{IsLine-more, IsTooLong-more}
 use Rattle.cap_log.proofs.SpellingLemmas.{one_spelling}
@@ -22,7 +22,7 @@ use Rattle.cap_judge.specs.Readings.{Stands, due_at_end, lines_read, long_refusa
 use Rattle.cap_judge.specs.Turns.{Body, Due, Ended, Refused, Stage, refusal_at, unread}
 use Rattle.cap_judge.proofs.InTurn.{accepted_read, all_longer, due_after, stage_after, with_lines}
 use Rattle.cap_judge.proofs.JudgeLemmas.{no_form, IsUnended, behind_more, fault_behind, front_refused}
-use Rattle.cap_judge.proofs.{LogLemmas.accepted_in_range, OneVerdict.{Answers, answer_stops, one_reading}}
+use Rattle.cap_judge.proofs.{LogLemmas.accepted_in_range, OneVerdict.{IsAnswerFor, answer_stops, one_reading}}
 use Rattle.cap_judge.proofs.TurnLemmas.{faults_at, follows_more, allowed_form}
 
 -- What a stage says of a beginning
@@ -260,7 +260,7 @@ no_front text (inr (inr line)) = some_bytes line.0 line.1 line.2.whole
 
 -- of what begins a log, nothing is left where a verdict is
 pub nothing_left : (bytes : List ℕ) (beginning : Beginning) (rest : List ℕ) (verdict : Verdict) → BeginsWhole bytes
-    → IsBehind bytes beginning rest → Answers beginning rest verdict → [] ≡ rest
+    → IsBehind bytes beginning rest → IsAnswerFor beginning rest verdict → [] ≡ rest
 nothing_left bytes beginning rest verdict whole here answers =
     (one_reading unread (stage_after whole.beginning) (stage_after beginning) (lines_of whole.beginning) (lines_of beginning) [] rest
     (accepted_in_range _ whole.accepted) (accepted_in_range _ here.accepted) (accepted_read _ whole.accepted) (accepted_read _ here.accepted)

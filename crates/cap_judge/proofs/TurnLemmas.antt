@@ -18,15 +18,15 @@ use Rattle.cap_machine.specs.declared.{ends.StepEnd.StepEnd, rules.Rules.{Rules,
 use Rattle.cap_machine.specs.Accounts.{Account, root_checks}
 use Rattle.cap_machine.specs.Helds.{Held, account_of, AnswersStep, EndsRoot, EndsStep, Makes, TakesRoot}
 use Rattle.cap_machine.proofs.AccountLemmas.{first_of-none}
-use Rattle.cap_judge.specs.declared.{faults.Fault.Fault, judges.Stop.Stop, verdict.TakeFault.TakeFault}
+use Rattle.cap_judge.specs.declared.{faults.RefusedLine.RefusedLine, judges.Stop.Stop, verdict.TakeFault.TakeFault}
 use Rattle.cap_judge.specs.declared.verdict.{TakeFault.TheVariants.{NoLine, NoMemory}, Verdict.Verdict}
 use Rattle.cap_judge.specs.{declared.verdict.Verdict.TheVariants.{Yes, No}, Judgings.IsLastFront}
 use Rattle.cap_judge.specs.{Logs.{has_form, line_checks, text_of}, Readings.{AnswersLine, EndsAs, EndsText, EndsAt, EndsFor}}
 use Rattle.cap_judge.specs.Readings.{EndsIn, Follows, Goes, GoesOrStops, IsAtFault, IsNoLine, Known, Lacks, RefusesNext}
 use Rattle.cap_judge.specs.Readings.{StopsAt, Takes, TakesAll, TakesStep, at, due_of, due_at_end, lines_read, refused_at, Faults}
 use Rattle.cap_judge.specs.Turns.{Body, Ended, Reads, Stage, behind, refusal_at, Due, Refused}
-use Rattle.cap_judge.specs.declared.judges.Stage as code
-use Rattle.cap_judge.specs.declared.judges.Stage.TheVariants as stages
+use Rattle.cap_judge.specs.declared.judges.NextLine as code
+use Rattle.cap_judge.specs.declared.judges.NextLine.TheVariants as stages
 
 -- Lines that are read
 
@@ -158,10 +158,10 @@ step_answered old new bytes step (Err end) begins ends =
     let stop = step_ends old new step end ends in ((step, begins, stop.0), stop.1)
 
 -- what is known at a stage
-abbrev pub knowing : code.Stage → Held → Known
+abbrev pub knowing : code.NextLine → Held → Known
 knowing stage held = record { held = held; stage = stage }
 
-pub step_outcome : (stage : code.Stage) (old new : Held) (line : Line) (step : Step) (result : Result (Unit {0}) StepEnd)
+pub step_outcome : (stage : code.NextLine) (old new : Held) (line : Line) (step : Step) (result : Result (Unit {0}) StepEnd)
     → stage ≡ stages.Body → line ≡ Line.Step step → AnswersStep old step result new
     → AnswersLine (knowing stage old) line result (knowing stage new)
 step_outcome stage old new line step (Ok done) is same makes = rw (is, same) (makes_takes old new step makes)
@@ -175,7 +175,7 @@ root_checked held place word none =
     by_checks (account_of held) (Line.Root place word) refl
     ∙ ap (λ (n : ℕ). first_of ((nat_lt 0 n, Misplaced) ∷ root_checks (account_of held) place word)) none
 
-pub root_outcome : (stage : code.Stage) (old new : Held) (place : Place) (word : Word) (result : Result (Unit {0}) StepEnd)
+pub root_outcome : (stage : code.NextLine) (old new : Held) (place : Place) (word : Word) (result : Result (Unit {0}) StepEnd)
     → stage ≡ stages.Body → old.steps ≡ 0
     → MatchResult result (λ _. TakesRoot old place word new) (λ end. EndsRoot old place word end new)
     → AnswersLine (knowing stage old) (Line.Root place word) result (knowing stage new)
@@ -214,7 +214,7 @@ ends_at stage bytes rest line (StepEnd.Refused refusal) is refused =
     inl (spelling line, rest, Some line, line_is line bytes rest is, (is.0, refl), refused)
 ends_at stage bytes rest line StepEnd.NoMemory is names = (rest, record { line = line; begins = is; names = names })
 
-pub front_end : (stage : code.Stage) (held : Held) (rest : List ℕ) (end : Option StepEnd) → stage ≡ stages.Body
+pub front_end : (stage : code.NextLine) (held : Held) (rest : List ℕ) (end : Option StepEnd) → stage ≡ stages.Body
     → IfSome end (EndsAt (at stages.Body held) rest)
     → IfSome end (λ e. EndsAt (at stage held) rest e × (IsAtFault (due_of stage) → ⊥))
 front_end stage held rest None is ends_at = tt
@@ -265,7 +265,7 @@ stop_follows old new front rest stop = inr (front, rest, refl, stop.0, stop.1, s
 pub step_whole : (bytes : List ℕ) (step : Step) → Begins IsInRange spelling 10 bytes (Line.Step step) [] → IsWhole bytes
 step_whole bytes step begins = inl (spelling (Line.Step step), line_is (Line.Step step) bytes [] begins)
 
-pub step_follows : (stage : code.Stage) (old new : Held) (bytes : List ℕ) → stage ≡ stages.Body → TakesStep old bytes new []
+pub step_follows : (stage : code.NextLine) (old new : Held) (bytes : List ℕ) → stage ≡ stages.Body → TakesStep old bytes new []
     → Follows (at stage old) bytes (at stage new)
 step_follows stage old new bytes is (step, begins, takes) =
     rw (is, begins.1) (inl (one_goes (at stages.Body old) (at stages.Body new) (Line.Step step) begins.0 takes))
@@ -308,7 +308,7 @@ cut_text rest text cut (inr (inl is)) = is.1
 cut_text rest text cut (inr (inr whole)) = absurd (IsLine-not_cut rest whole.0 whole.1 whole.2 cut)
 
 -- the faulty line there
-pub ends_refused : (stage : Stage) (rest : List ℕ) (refusal : Refusal) (fault : Fault)
+pub ends_refused : (stage : Stage) (rest : List ℕ) (refusal : Refusal) (fault : RefusedLine)
     → due_at_end stage.account stage.due rest ≡ refused_at stage.account stage.due refusal rest → IsCut rest
     → fault.line ≡ lines_read stage.account stage.due + 1 → fault.refusal ≡ refusal → IsFrontText rest (bytes_of fault.text)
     → EndsAs stage rest (Err fault)
@@ -319,8 +319,8 @@ pub ended_some : (account : Account) (rest : List ℕ) → rest ≢ [] → due_a
 ended_some account [] some = absurd (some refl)
 ended_some account (b ∷ rest) some = refl
 
-pub unended : (stage : code.Stage) (account : Account) (rest : List ℕ) → (stage ≡ stages.Ended → ⊥)
-    → ((fault : Fault) → stage ≡ stages.Refused fault → ⊥)
+pub unended : (stage : code.NextLine) (account : Account) (rest : List ℕ) → (stage ≡ stages.Ended → ⊥)
+    → ((fault : RefusedLine) → stage ≡ stages.Refused fault → ⊥)
     → due_at_end account (due_of stage) rest ≡ refused_at account (due_of stage) Truncated rest
 unended stages.Ended account rest goes clear = absurd (goes refl)
 unended (stages.Refused fault) account rest goes clear = absurd (clear fault refl)

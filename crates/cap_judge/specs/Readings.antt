@@ -5,7 +5,7 @@ use Rattle.cap_ops.specs.declared.refusal.Refusal.{Refusal, TheVariants.{LineToo
 use Rattle.cap_streams.specs.{declared.judge_faults.JudgeFault.JudgeFault, FaultLines.bytes_of}
 use Rattle.cap_streams.specs.Front.{IsCut, IsLine, IsTooLong}
 use Rattle.cap_log.specs.{declared.{kinds.Step.Step, lines.Line.Line}, Lines.{IsInRange, Spells, spelling}}
-use Rattle.cap_log.specs.Parts.{Begins, Reads as Spelled}
+use Rattle.cap_log.specs.Parts.{Begins, ReadsAs as Spelled}
 use Rattle.cap_log.specs.declared.lines.Line.TheVariants as lines
 use Rattle.cap_machine.specs.{declared.ends.StepEnd.StepEnd, Accounts.{Account, is_new}, Helds.{Held, account_of}}
 use Rattle.cap_machine.specs.declared.ends.StepEnd.TheVariants as ends
@@ -14,22 +14,22 @@ use Rattle.cap_judge.specs.Judgings.{IsBehind, IsLastFront, IsVerdictOf, LeadsAf
 use Rattle.cap_judge.specs.Logs.{Beginning, lines_of, text_of, IsAccepted, Refuses, header_lines, named_by_line}
 use Rattle.cap_judge.specs.Turns.{Allows, Body, Due, Ended, First, Reads, Refused, Second, Stage, behind, refusal_at}
 use Rattle.cap_judge.specs.Turns.{unread}
-use Rattle.cap_judge.specs.declared.faults.Fault as faults
-use Rattle.cap_judge.specs.declared.judges.Stage as code
-use Rattle.cap_judge.specs.declared.judges.Stage.TheVariants as stages
+use Rattle.cap_judge.specs.declared.faults.RefusedLine as faults
+use Rattle.cap_judge.specs.declared.judges.NextLine as code
+use Rattle.cap_judge.specs.declared.judges.NextLine.TheVariants as stages
 use Rattle.cap_judge.specs.declared.judges.Stop.TheVariants as stops
 
 -- what a judge knows: what its machine holds, and what the next line has to be
 pub record Known : Type 0 where
   pub held : Held
-  pub stage : code.Stage
+  pub stage : code.NextLine
 
 -- what a judge knows, whatever its store
 abbrev pub known_of : {M : Type 0} → Judge M → Known
 known_of judge = record { held = judge.machine; stage = judge.stage }
 
 -- what the code's stage says
-abbrev pub due_of : code.Stage → Due
+abbrev pub due_of : code.NextLine → Due
 due_of stages.Version = First
 due_of stages.Mode = Second
 due_of stages.Body = Body
@@ -37,7 +37,7 @@ due_of stages.Ended = Ended
 due_of (stages.Refused fault) = Refused fault.line fault.refusal (bytes_of fault.text)
 
 -- how far a log is read, by what a machine holds and the code's stage
-abbrev pub at : code.Stage → Held → Stage
+abbrev pub at : code.NextLine → Held → Stage
 at stage held = record { account = account_of held; due = due_of stage }
 
 -- how far a judge has read
@@ -181,7 +181,7 @@ verdict_so_far (Refused line refusal text) = Some (No line refusal)
 verdict_so_far due = None
 
 -- which line is faulty, or that none is
-abbrev pub IsFaultOf : Due → Option faults.Fault → Type 0
+abbrev pub IsFaultOf : Due → Option faults.RefusedLine → Type 0
 IsFaultOf due (Some fault) = due ≡ Refused fault.line fault.refusal (bytes_of fault.text)
 IsFaultOf due None = IsAtFault due → ⊥
 
@@ -199,7 +199,7 @@ EndsIn stage rest (Yes steps roots) text =
 EndsIn stage rest (No line refusal) text = due_at_end stage.account stage.due rest ≡ Refused line refusal text
 
 -- a yes, or the faulty line
-abbrev pub EndsAs : Stage → List ℕ → Result Verdict faults.Fault → Type 0
+abbrev pub EndsAs : Stage → List ℕ → Result Verdict faults.RefusedLine → Type 0
 EndsAs stage rest (Ok (Yes steps roots)) = EndsIn stage rest (Yes steps roots) []
 EndsAs stage rest (Ok (No line refusal)) = ⊥
 EndsAs stage rest (Err fault) = EndsIn stage rest (No fault.line fault.refusal) (bytes_of fault.text)
@@ -238,6 +238,6 @@ Stands bytes None = BeginsWhole bytes
 Stands bytes (Some verdict) = IsVerdictOf bytes false verdict
 
 -- a yes or a no, and after a no the text of the line at fault
-abbrev pub IsAnswered : Result Verdict faults.Fault → Result Verdict JudgeFault → List ℕ → Type 0
+abbrev pub IsAnswered : Result Verdict faults.RefusedLine → Result Verdict JudgeFault → List ℕ → Type 0
 IsAnswered (Ok verdict) answer text = answer ≡ Ok verdict
 IsAnswered (Err fault) answer text = (answer ≡ Ok (No fault.line fault.refusal)) × (text ≡ bytes_of fault.text)

@@ -9,7 +9,7 @@ use cap_machine::Refusal;
 
 /// The faulty line of a log.
 #[derive(Clone, Copy)]
-pub struct Fault {
+pub struct RefusedLine {
     /// Its number, from 1 on.
     pub line: u64,
     /// The first test that it fails.
@@ -18,7 +18,7 @@ pub struct Fault {
     pub text: FaultLine,
 }
 
-impl Fault {
+impl RefusedLine {
     /// The verdict that names it.
     pub fn verdict(&self) -> Verdict
         ensures value { result ≡ No self.now.line self.now.refusal }

@@ -9,8 +9,8 @@ ghost use Rattle.cap_log.specs.Parts.{Begins};
 ghost use Rattle.cap_streams.specs.{FaultLines.bytes_of, Front.{IsCut, IsFront, IsFrontText, IsLine, IsTooLong}};
 ghost use Rattle.cap_log.specs.declared.lines.Line.TheVariants as lines;
 ghost use Rattle.cap_machine.specs.States.{granule_key, key_of};
-ghost use Rattle.cap_judge.specs.declared.{faults.Fault.Fault as FaultIn, judges.Stage.TheVariants.Body};
-ghost use Rattle.cap_judge.specs.declared.judges.Stage.TheVariants.{Refused as RefusedIn};
+ghost use Rattle.cap_judge.specs.declared.{faults.RefusedLine.RefusedLine as FaultIn, judges.NextLine.TheVariants.Body};
+ghost use Rattle.cap_judge.specs.declared.judges.NextLine.TheVariants.{Refused as RefusedIn};
 ghost use Rattle.cap_judge.specs.{declared.verdict.TakeFault.TheVariants.{NoLine, NoMemory}, Expectations.ExpectsAt};
 ghost use Rattle.cap_judge.specs.{Logs.{has_form, header_lines}, Readings.{AnswersLine, EndsAs, EndsAt, EndsIn, EndsLine}};
 ghost use Rattle.cap_judge.specs.Readings.{EndsText, Follows, Goes, GoesOrStops, IsAtFault, IsUnmade};
@@ -20,7 +20,7 @@ ghost use Rattle.cap_judge.specs.{Turns.{refusal_at, rules_of, unread}, Verdicts
 ghost use Rattle.cap_judge.specs.declared.judges.Stop.TheVariants as stops;
 
 use crate::expectation::expected_by;
-use crate::faults::Fault;
+use crate::faults::RefusedLine;
 use crate::steps::{take_alone, take_steps};
 use crate::verdict::{Expected, TakeFault, Verdict};
 use cap_log::{FaultLine, Front, Line, Mode, Operands, Place, Step, front, read_line, write_line};
@@ -31,7 +31,7 @@ use tagmem::{PageStore, TaggedStore};
 
 /// What the next line of a log has to be.
 #[derive(Drop)]
-pub enum Stage {
+pub enum NextLine {
     /// The version line.
     Version,
     /// The mode line.
@@ -41,7 +41,7 @@ pub enum Stage {
     /// None: the end line has come.
     Ended,
     /// None: this line is faulty.
-    Refused(Fault),
+    Refused(RefusedLine),
 }
 
 /// Why a judge stopped.
@@ -69,7 +69,7 @@ pub struct Taken {
 #[derive(Drop)]
 pub struct Judge<M: TaggedStore> {
     pub(crate) machine: Machine<M>,
-    pub(crate) stage: Stage,
+    pub(crate) stage: NextLine,
 }
 
 impl Judge<PageStore> {
@@ -89,7 +89,7 @@ impl<M: TaggedStore> Judge<M> {
     {
         Judge {
             machine: Machine::new(memory),
-            stage: Stage::Version,
+            stage: NextLine::Version,
         }
     }
 
@@ -124,7 +124,7 @@ impl<M: TaggedStore> Judge<M> {
         // Memory is wanted only where this very line, which no check refuses, names a granule for the first time.
         ensures no_memory { result ≡ Err NoMemory → Lacks (stage_of self.old) line.now [] }
     {
-        if let Stage::Body = self.stage {
+        if let NextLine::Body = self.stage {
             return match take_alone(&mut self.machine, line) {
                 Some(Ok(())) => Ok(()),
                 Some(Err(end)) => self.take_end(end, line),
@@ -141,7 +141,7 @@ impl<M: TaggedStore> Judge<M> {
         ensures escape { IfSome result NamesEscapes }
     {
         match &self.stage {
-            Stage::Refused(fault) => Some(fault.verdict()),
+            NextLine::Refused(fault) => Some(fault.verdict()),
             _ => None,
         }
     }
@@ -162,7 +162,7 @@ impl<M: TaggedStore> Judge<M> {
         ensures expects { ExpectsAt (stage_of self.now).account (stage_of self.now).due result }
     {
         match &self.stage {
-            Stage::Refused(fault) => match fault.refusal {
+            NextLine::Refused(fault) => match fault.refusal {
                 Refusal::WrongResult => expected_by(&self.machine, fault.text.as_slice()),
                 _ => None,
             },
@@ -233,13 +233,13 @@ impl<M: TaggedStore> Judge<M> {
     }
 
     /// The verdict if no other bytes follow than these, which are less than a line: a `yes`, or the faulty line.
-    pub fn ending(&self, rest: &[u8]) -> Result<Verdict, Fault>
+    pub fn ending(&self, rest: &[u8]) -> Result<Verdict, RefusedLine>
         ensures ends { IsCut rest.now → EndsAs (stage_of self.now) rest.now result }
         ensures fault { (fault : FaultIn) → self.now.stage ≡ RefusedIn fault → result ≡ Err fault }
     {
         match &self.stage {
-            Stage::Refused(fault) => Err(*fault),
-            Stage::Ended => {
+            NextLine::Refused(fault) => Err(*fault),
+            NextLine::Ended => {
                 if rest.is_empty() {
                     Ok(Verdict::Yes {
                         steps: self.machine.steps(),
@@ -261,11 +261,11 @@ impl<M: TaggedStore> Judge<M> {
     }
 
     /// The faulty line, where one is: its `no` stays whatever lines follow.
-    pub fn refused(&self) -> Option<Fault>
+    pub fn refused(&self) -> Option<RefusedLine>
         ensures fault { IsFaultOf (stage_of self.now).due result }
     {
         match &self.stage {
-            Stage::Refused(fault) => Some(*fault),
+            NextLine::Refused(fault) => Some(*fault),
             _ => None,
         }
     }
@@ -298,7 +298,7 @@ impl<M: TaggedStore> Judge<M> {
         ensures same { IfErr result (λ _. self.new ≡ self.old) }
         ensures unmade { IfErr result (λ end. IfSome end (IsUnmade self.old (I.step step))) }
     {
-        if let Stage::Body = self.stage {
+        if let NextLine::Body = self.stage {
             return match step.perform(&mut self.machine) {
                 Ok(()) => Ok(()),
                 Err(end) => Err(Some(end)),
@@ -354,7 +354,7 @@ impl<M: TaggedStore> Judge<M> {
             × (IsAtFault (stage_of self.new).due → ⊥)) }
     {
         match self.stage {
-            Stage::Body => take_steps(&mut self.machine, bytes),
+            NextLine::Body => take_steps(&mut self.machine, bytes),
             _ => (bytes, None),
         }
     }
@@ -379,7 +379,7 @@ impl<M: TaggedStore> Judge<M> {
         ensures err { IfErr result (λ stop. StopsAt (stage_of self.old) [] bytes.now stop (stage_of self.new)) }
         ensures same { IfErr result (λ stop. stop ≢ stops.Fault → known_of self.new ≡ known_of self.old) }
     {
-        if let Stage::Refused(_) = self.stage {
+        if let NextLine::Refused(_) = self.stage {
             return Err(Stop::Fault);
         }
         match found {
@@ -424,23 +424,23 @@ impl<M: TaggedStore> Judge<M> {
         match end {
             StepEnd::NoMemory => Stop::NoMemory,
             StepEnd::Refused(refusal) => {
-                self.stage = Stage::Refused(self.fault(refusal, found, bytes));
+                self.stage = NextLine::Refused(self.fault(refusal, found, bytes));
                 Stop::Fault
             }
         }
     }
 
     /// The next line, which these bytes begin with, as the faulty line.
-    fn fault(&self, refusal: Refusal, found: Front, bytes: &[u8]) -> Fault
+    fn fault(&self, refusal: Refusal, found: Front, bytes: &[u8]) -> RefusedLine
         requires found { IsFront bytes.now found }
         ensures line { result.line ≡ lines_read (stage_of self.now).account (stage_of self.now).due + 1 }
         ensures refusal { result.refusal ≡ refusal }
         ensures front { IsFrontText bytes.now (bytes_of result.text) }
     {
-        Fault {
+        RefusedLine {
             line: self.next_line(),
             refusal,
-            text: FaultLine::of(found, bytes),
+            text: FaultLine::of_front(found, bytes),
         }
     }
 
@@ -451,10 +451,10 @@ impl<M: TaggedStore> Judge<M> {
         let roots = u64::from(self.machine.roots());
         let behind = header_length(self.machine.rules()) + roots + u64::from(self.machine.steps());
         match self.stage {
-            Stage::Version => 1,
-            Stage::Mode => 2,
-            Stage::Body => behind + 1,
-            Stage::Ended | Stage::Refused(_) => behind + 2,
+            NextLine::Version => 1,
+            NextLine::Mode => 2,
+            NextLine::Body => behind + 1,
+            NextLine::Ended | NextLine::Refused(_) => behind + 2,
         }
     }
 
@@ -463,8 +463,8 @@ impl<M: TaggedStore> Judge<M> {
         ensures { result ≡ long_refusal (stage_of self.now).due }
     {
         match self.stage {
-            Stage::Version | Stage::Mode | Stage::Body => Refusal::LineTooLong,
-            Stage::Ended | Stage::Refused(_) => Refusal::Misplaced,
+            NextLine::Version | NextLine::Mode | NextLine::Body => Refusal::LineTooLong,
+            NextLine::Ended | NextLine::Refused(_) => Refusal::Misplaced,
         }
     }
 
@@ -473,10 +473,10 @@ impl<M: TaggedStore> Judge<M> {
         ensures { refusal_at (stage_of self.now).account (stage_of self.now).due None ≡ Some result }
     {
         match self.stage {
-            Stage::Version => Refusal::BadHeader,
-            Stage::Mode => Refusal::BadMode,
-            Stage::Body => Refusal::BadLine,
-            Stage::Ended | Stage::Refused(_) => Refusal::Misplaced,
+            NextLine::Version => Refusal::BadHeader,
+            NextLine::Mode => Refusal::BadMode,
+            NextLine::Body => Refusal::BadLine,
+            NextLine::Ended | NextLine::Refused(_) => Refusal::Misplaced,
         }
     }
 
@@ -486,27 +486,27 @@ impl<M: TaggedStore> Judge<M> {
         ensures { AnswersLine (known_of self.old) line.now result (known_of self.new) }
     {
         match self.stage {
-            Stage::Version => match *line {
+            NextLine::Version => match *line {
                 Line::Version(1) => {
-                    self.stage = Stage::Body;
+                    self.stage = NextLine::Body;
                     Ok(())
                 }
                 Line::Version(_) => {
-                    self.stage = Stage::Mode;
+                    self.stage = NextLine::Mode;
                     Ok(())
                 }
                 _ => Err(StepEnd::Refused(Refusal::BadHeader)),
             },
-            Stage::Mode => match *line {
+            NextLine::Mode => match *line {
                 Line::Mode(mode) => {
                     self.machine.follow(rules_of(mode));
-                    self.stage = Stage::Body;
+                    self.stage = NextLine::Body;
                     Ok(())
                 }
                 _ => Err(StepEnd::Refused(Refusal::BadMode)),
             },
-            Stage::Body => self.follow_body(line),
-            Stage::Ended | Stage::Refused(_) => Err(StepEnd::Refused(Refusal::Misplaced)),
+            NextLine::Body => self.follow_body(line),
+            NextLine::Ended | NextLine::Refused(_) => Err(StepEnd::Refused(Refusal::Misplaced)),
         }
     }
 
@@ -536,7 +536,7 @@ impl<M: TaggedStore> Judge<M> {
                 if count != self.machine.steps() {
                     return Err(StepEnd::Refused(Refusal::WrongCount));
                 }
-                self.stage = Stage::Ended;
+                self.stage = NextLine::Ended;
                 Ok(())
             }
         }

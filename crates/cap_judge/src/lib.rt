@@ -17,7 +17,7 @@ mod streams;
 mod verdict;
 mod verdict_lines;
 
-pub use crate::faults::Fault;
+pub use crate::faults::RefusedLine;
 pub use crate::judges::{Judge, Stop, Taken};
 pub use crate::laws::{
     accepted_in_turn, escapes_are_named_exactly, logs_are_guarded, logs_clear_exactly, one_verdict,
@@ -26,7 +26,7 @@ pub use crate::laws::{
 pub use crate::origins::origin_text;
 pub use crate::output::{judge_origins, judge_to, push_report, push_verdict};
 pub use crate::streams::{
-    Judging, judge, judge_bytes, judge_bytes_keeping, judge_in, judge_keeping,
+    Judged, judge, judge_bytes, judge_bytes_keeping, judge_in, judge_keeping,
 };
 pub use crate::verdict::{Expected, TakeFault, Verdict};
 pub use crate::verdict_lines::{verdict_status, verdict_text};

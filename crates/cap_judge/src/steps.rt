@@ -2,7 +2,7 @@
 
 ghost use Rattle.std.specs.Prelude.{◌≡◌, ℕ, List, ◌++◌, IfSome};
 ghost use Rattle.cap_machine.specs.Helds.{AnswersStep};
-ghost use Rattle.cap_judge.specs.declared.judges.Stage.TheVariants.{Body};
+ghost use Rattle.cap_judge.specs.declared.judges.NextLine.TheVariants.{Body};
 ghost use Rattle.cap_judge.specs.Readings.{EndsAt, Goes, TakesAll, TakesOne, at};
 
 use cap_log::{Head, Part};

@@ -3,15 +3,15 @@
 ghost use Rattle.std.specs.Prelude.{◌≡◌, ℕ, List, [], ◌++◌, Err, IsOk, IfOk, IfErr};
 ghost use Rattle.std.specs.FinMap as map;
 ghost use Rattle.cap_streams.specs.{declared.judge_faults.JudgeFault.TheVariants.Pull, FaultLines.bytes_of};
-ghost use Rattle.cap_streams.specs.{Pulled.items, Streams.CountsOnly};
+ghost use Rattle.cap_streams.specs.{ReadBuffers.items, Streams.CountsOnly};
 ghost use Rattle.cap_judge.specs.{Judgings.{Judged, JudgedAll, JudgedBy}, Logs.NamesNoGranules};
 ghost use Rattle.cap_judge.specs.{Readings.{IsAnswered, StopsAt, stage_of}, Turns.unread};
 ghost use Rattle.cap_judge.specs.Verdicts.{EscapesExactly, NoVerdictIn, IsGuarded, IsVerdict, NamesEscapes};
 
-use crate::faults::Fault;
+use crate::faults::RefusedLine;
 use crate::judges::{Judge, Stop};
 use crate::verdict::Verdict;
-use cap_log::{FaultLine, JudgeFault, PullFault, Pulled, SliceSource, Source};
+use cap_log::{FaultLine, JudgeFault, PullFault, ReadBuffer, SliceSource, Source};
 use cap_machine::Machine;
 use std::alloc::Global;
 use tagmem::{PageStore, TaggedStore};
@@ -68,7 +68,7 @@ pub fn judge_in<S: Source, M: TaggedStore>(source: &mut S, memory: M) -> Result<
 
 /// What a judge leaves: its answer, the machine, and after a `no` the line that was refused.
 #[derive(Drop)]
-pub struct Judging<M: TaggedStore> {
+pub struct Judged<M: TaggedStore> {
     /// The answer.
     pub answer: Result<Verdict, JudgeFault>,
     /// The machine, as the lines before the end or the refused line left it.
@@ -79,7 +79,7 @@ pub struct Judging<M: TaggedStore> {
 
 /// Judges as [`judge_in`] does, and gives the machine with the answer: after a `yes` it is as the log's steps
 /// left it, and after a `no` as those before the line left it that was refused.
-pub fn judge_keeping<S: Source, M: TaggedStore>(source: &mut S, memory: M) -> Judging<M>
+pub fn judge_keeping<S: Source, M: TaggedStore>(source: &mut S, memory: M) -> Judged<M>
     requires { map.len (M.contents memory) ≡ 0 }
     ensures judged { JudgedBy S.gave S.ended source.old source.new result.answer result.machine (bytes_of result.fault) }
     ensures counted { CountsOnly (Err Pull) (S.faults source.old) (S.faults source.new) result.answer }
@@ -87,7 +87,7 @@ pub fn judge_keeping<S: Source, M: TaggedStore>(source: &mut S, memory: M) -> Ju
     let mut judge = Judge::new(memory);
     let (answer, fault) = judge_source(&mut judge, source);
     let Judge { machine, .. } = judge;
-    Judging {
+    Judged {
         answer,
         machine,
         fault,
@@ -96,14 +96,14 @@ pub fn judge_keeping<S: Source, M: TaggedStore>(source: &mut S, memory: M) -> Ju
 
 /// Judges the bytes of a log as [`judge_bytes`] does, with the granules in a store that is empty,
 /// and gives the machine with the answer, as [`judge_keeping`] does.
-pub fn judge_bytes_keeping<M: TaggedStore>(bytes: &[u8], memory: M) -> Judging<M>
+pub fn judge_bytes_keeping<M: TaggedStore>(bytes: &[u8], memory: M) -> Judged<M>
     requires { map.len (M.contents memory) ≡ 0 }
     ensures judged { JudgedAll bytes.now result.answer result.machine (bytes_of result.fault) }
 {
     let mut judge = Judge::new(memory);
     let (answer, fault) = judge_all(&mut judge, bytes);
     let Judge { machine, .. } = judge;
-    Judging {
+    Judged {
         answer,
         machine,
         fault,
@@ -135,7 +135,7 @@ fn judge_source<S: Source, M: TaggedStore>(
     ensures judged { JudgedBy S.gave S.ended source.old source.new result.0 judge.new.machine (bytes_of result.1) }
     ensures counted { CountsOnly (Err Pull) (S.faults source.old) (S.faults source.new) result.0 }
 {
-    let mut pulled = Pulled::new();
+    let mut pulled = ReadBuffer::new();
     'pieces: loop {
         match pulled.fill(source) {
             Ok(0) => return answered(judge.ending(pulled.as_slice())),
@@ -151,7 +151,7 @@ fn judge_source<S: Source, M: TaggedStore>(
 }
 
 // Hands over the bytes that were pulled, and keeps those that were not taken.
-fn take_pulled<M: TaggedStore>(judge: &mut Judge<M>, pulled: &mut Pulled) -> Stop
+fn take_pulled<M: TaggedStore>(judge: &mut Judge<M>, pulled: &mut ReadBuffer) -> Stop
     ensures { (front : List ℕ) × (items pulled.old ≡ front ++ items pulled.new)
         × StopsAt (stage_of judge.old) front (items pulled.new) result (stage_of judge.new) }
 {
@@ -161,7 +161,7 @@ fn take_pulled<M: TaggedStore>(judge: &mut Judge<M>, pulled: &mut Pulled) -> Sto
 }
 
 // A `yes`, or a `no` and its line.
-fn answered(end: Result<Verdict, Fault>) -> (Result<Verdict, JudgeFault>, FaultLine)
+fn answered(end: Result<Verdict, RefusedLine>) -> (Result<Verdict, JudgeFault>, FaultLine)
     ensures { IsAnswered end result.0 (bytes_of result.1) }
 {
     match end {

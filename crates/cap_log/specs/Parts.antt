@@ -8,9 +8,9 @@ use Rattle.cap_log.specs.{declared.{kinds.{Head.Head, Step.Step}, lines.{Line.Li
 use Rattle.cap_log.specs.{Lines.{IsInRange, IsStepInRange, result_words, spelling}, Ranges.Datum}
 
 -- the value in range whose spelling the bytes are, or none where they are no such value's
-abbrev pub Reads : {A : Type 0} → (A → Type 0) → (A → List ℕ) → List ℕ → Option A → Type 0
-Reads {A} Fits spelled bytes None = (a : A) → Fits a → bytes ≡ spelled a → ⊥
-Reads {A} Fits spelled bytes (Some a) = Fits a × (bytes ≡ spelled a)
+abbrev pub ReadsAs : {A : Type 0} → (A → Type 0) → (A → List ℕ) → List ℕ → Option A → Type 0
+ReadsAs {A} Fits spelled bytes None = (a : A) → Fits a → bytes ≡ spelled a → ⊥
+ReadsAs {A} Fits spelled bytes (Some a) = Fits a × (bytes ≡ spelled a)
 
 -- each mode has a name
 abbrev pub IsMode : Mode → Type 0

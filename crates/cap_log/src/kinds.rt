@@ -29,7 +29,7 @@ pub use crate::kinds::operations::{
 };
 use crate::lines::{Line, Mode, Place};
 use crate::operands::{Operands, take_parts, take_step, write_parts};
-use crate::parts::fronts::behind;
+use crate::parts::fronts::strip_word;
 use crate::parts::headers::Version;
 use crate::parts::{Part, Single};
 use cap_word::Word;
@@ -147,7 +147,7 @@ fn one<'a, const N: usize>(bytes: &'a [u8], end: u8, head: Head, word: &[u8; N])
     ensures some { IfSome result (λ p. Begins IsHead head_spelling end bytes.now p.0 p.1.now) }
     ensures none { IfNone result (BeginsWithout (head_spelling head) end bytes.now) }
 {
-    let rest = behind(bytes, word, end)?;
+    let rest = strip_word(bytes, word, end)?;
     Some((head, rest))
 }
 

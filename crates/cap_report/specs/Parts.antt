@@ -4,9 +4,9 @@ use Rattle.cap_word.specs.{declared.word.Cap.Cap, Digits.hex_digits}
 use Rattle.cap_word.specs.Fields.{address_of, perms_of, reserved_of, flag_of, otype_of, ie_of, e_of, b_of, t_of}
 use Rattle.cap_ops.specs.{declared.refusal.Refusal.Refusal, Refusals.{refusal_number, refusal_name}}
 use Rattle.cap_texts.specs.{CapLines.{cap_lines, bounds_line, operand_lines}, TextLines.text_line}
-use Rattle.cap_report.specs.declared.parts.Part.{Part}
-use Rattle.cap_report.specs.declared.parts.Part.TheVariants.{Source, Authority, Request, Rounded, Moved, Representable}
-use Rattle.cap_report.specs.declared.parts.Part.TheVariants.{Access, Needs, Gives, Cleared, Recorded, Differs}
+use Rattle.cap_report.specs.declared.parts.ReportPart.{ReportPart}
+use Rattle.cap_report.specs.declared.parts.ReportPart.TheVariants.{Source, Authority, Request, Rounded, Moved, Representable}
+use Rattle.cap_report.specs.declared.parts.ReportPart.TheVariants.{Access, Needs, Gives, Cleared, Recorded, Differs}
 
 -- a field's name, where it differs
 abbrev pub where_different : Bool → List ℕ → List ℕ
@@ -35,7 +35,7 @@ unfoldable pub cleared_line : Refusal → List ℕ
 cleared_line refusal = codes "cleared " ++ decimal (refusal_number refusal) ++ codes " " ++ refusal_name refusal ++ codes "\n"
 
 -- the lines of a part
-abbrev pub part_lines : Part → List ℕ
+abbrev pub part_lines : ReportPart → List ℕ
 part_lines (Source place cap root) = operand_lines (codes "source") place cap root
 part_lines (Authority place cap root) = operand_lines (codes "authority") place cap root
 part_lines (Request base top) = bounds_line (codes "request") (codes " ") base top
@@ -50,5 +50,5 @@ part_lines (Recorded place cap) = cap_lines (codes "recorded") place cap
 part_lines (Differs given recorded) = differs_line given recorded
 
 -- the lines of parts, one after another
-abbrev pub lines_of_parts : List Part → List ℕ
+abbrev pub lines_of_parts : List ReportPart → List ℕ
 lines_of_parts parts = flat_map part_lines parts

@@ -11,50 +11,50 @@ use Rattle.cap_machine.specs.declared.shown.{Given.{Given, TheVariants.{Capabili
 use Rattle.cap_machine.specs.{declared.shown.{Request.Request, Shown.Shown}, Accounts.Account, Shown.shown_of}
 use Rattle.cap_machine.specs.States.{key_of}
 use Rattle.cap_machine.specs.declared.shown.Request.TheVariants as requests
-use Rattle.cap_report.specs.{declared.parts.Part.Part, Parts.lines_of_parts}
-use Rattle.cap_report.specs.declared.parts.Part.TheVariants as parts
+use Rattle.cap_report.specs.{declared.parts.ReportPart.ReportPart, Parts.lines_of_parts}
+use Rattle.cap_report.specs.declared.parts.ReportPart.TheVariants as parts
 
 -- what a place holds as a source, and the place of the root of that
-abbrev pub source_part : Account → Place → Part
+abbrev pub source_part : Account → Place → ReportPart
 source_part account place = let key = key_of place in parts.Source place (account.state key) (account.origin key)
 
 -- what a register holds as an authority, and the place of the root of that
-abbrev pub authority_part : Account → ℕ → Part
+abbrev pub authority_part : Account → ℕ → ReportPart
 authority_part account register = parts.Authority (Register register) (account.state register) (account.origin register)
 
 -- the representable range of a word, whose end is not reduced modulo 2 ^ 64: the word's window, and from the cut
 -- exponent 50 on, where each address keeps the bounds, the address space
-abbrev pub range_part : ℕ → Part
+abbrev pub range_part : ℕ → ReportPart
 range_part w =
     if nat_le 50 (cut_exponent_of w) then parts.Representable 0 (2 ^ 64)
     else parts.Representable (window_start w % 2 ^ 64) (window_start w % 2 ^ 64 + window_size w)
 
 -- the bounds of a length from a word's address on, and what they are rounded to
-abbrev pub bounds_parts : ℕ → ℕ → List Part
+abbrev pub bounds_parts : ℕ → ℕ → List ReportPart
 bounds_parts w length =
     let base = address_of w in
     parts.Request base (base + length) ∷ parts.Rounded (rounded_base base length) (rounded_top base length) ∷ []
 
 -- the bounds that a word has at an address, and the range of the addresses that keep its own
-abbrev pub moved_parts : ℕ → ℕ → List Part
+abbrev pub moved_parts : ℕ → ℕ → List ReportPart
 moved_parts w address =
     let moved = with_address w address in parts.Moved (base_of moved) (top_of moved) ∷ range_part w ∷ []
 
 -- what is asked for, of a source that holds a word
-abbrev pub request_parts : Account → ℕ → Request → List Part
+abbrev pub request_parts : Account → ℕ → Request → List ReportPart
 request_parts account w (requests.Length length) = bounds_parts w length
 request_parts account w (requests.Address address) = moved_parts w address
 request_parts account w (requests.Authority register needs) = authority_part account register ∷ parts.Needs needs ∷ []
 request_parts account w requests.Nothing = []
 
 -- what a result comes from or what is stored, and what an operation on registers asks for
-abbrev pub operand_parts : Account → Option Place → Request → List Part
+abbrev pub operand_parts : Account → Option Place → Request → List ReportPart
 operand_parts account None request = []
 operand_parts account (Some place) request =
     source_part account place ∷ request_parts account (account.state (key_of place)).word.0 request
 
 -- an access to memory and its authority
-abbrev pub access_parts : Account → Option Reached → List Part
+abbrev pub access_parts : Account → Option Reached → List ReportPart
 access_parts account None = []
 access_parts account (Some access) =
     authority_part account access.authority
@@ -62,11 +62,11 @@ access_parts account (Some access) =
     ∷ parts.Needs access.needs ∷ []
 
 -- what a step read and asked for
-abbrev pub asked_parts : Account → Shown → List Part
+abbrev pub asked_parts : Account → Shown → List ReportPart
 asked_parts account shown = operand_parts account shown.source shown.request ++ access_parts account shown.access
 
 -- the check for which a result is untagged, if there is one
-abbrev pub cleared_parts : Option Refusal → List Part
+abbrev pub cleared_parts : Option Refusal → List ReportPart
 cleared_parts None = []
 cleared_parts (Some fault) = parts.Cleared fault ∷ []
 

@@ -14,7 +14,7 @@ ghost use Rattle.cap_report.specs.{FaultReports.IsLineReport, Whys.{Explains, Ex
 
 use crate::fault_reports::put_report;
 use cap_judge::{
-    Fault, FaultLine, Judge, JudgeToFault, Judging, Verdict, judge_bytes_keeping, judge_keeping,
+    RefusedLine, FaultLine, Judge, JudgeToFault, Judged, Verdict, judge_bytes_keeping, judge_keeping,
     push_report, push_verdict, verdict_text,
 };
 use cap_log::buffers::put;
@@ -103,7 +103,7 @@ pub fn push_ending<M: TaggedStore, K: Sink>(
 // Pushes the line of the `no` for a faulty line, and its diagnosis.
 fn push_fault<M: TaggedStore, K: Sink>(
     machine: &Machine<M>,
-    fault: &Fault,
+    fault: &RefusedLine,
     sink: &mut K,
 ) -> Result<(), PushFault>
     ensures ok { OnOk result ((report : List ℕ)
@@ -125,7 +125,7 @@ fn push_fault<M: TaggedStore, K: Sink>(
 
 // Pushes the text of what a judge leaves, if it has a verdict.
 fn push_judging<M: TaggedStore, K: Sink>(
-    judging: &Judging<M>,
+    judging: &Judged<M>,
     origins: bool,
     sink: &mut K,
 ) -> Result<Verdict, JudgeToFault>
@@ -171,7 +171,7 @@ fn push_why<M: TaggedStore, K: Sink>(
             let text = *fault;
             push_fault(
                 machine,
-                &Fault {
+                &RefusedLine {
                     line,
                     refusal,
                     text,

@@ -4,7 +4,7 @@ ghost use Rattle.std.specs.Prelude.{◌≡◌};
 ghost use Rattle.cap_machine.specs.{Helds.{account_of, state_of}, Shown.IsRead, States.key_of};
 ghost use Rattle.cap_report.specs.StepLines.{authority_part};
 
-use crate::parts::Part;
+use crate::parts::ReportPart;
 use cap_log::{Place, Register};
 use cap_machine::Machine;
 use cap_word::Cap;
@@ -25,10 +25,10 @@ pub fn held_in<M: TaggedStore>(machine: &Machine<M>, place: Place) -> (Cap, Opti
 }
 
 /// What a register holds that is the authority.
-pub fn authority_in<M: TaggedStore>(machine: &Machine<M>, register: Register) -> Part
+pub fn authority_in<M: TaggedStore>(machine: &Machine<M>, register: Register) -> ReportPart
     ensures value { result ≡ authority_part (account_of machine.now) register }
 {
     let place = Place::Register(register.number());
     let (cap, root) = held_in(machine, place);
-    Part::Authority(place, cap, root)
+    ReportPart::Authority(place, cap, root)
 }

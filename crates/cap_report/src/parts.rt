@@ -13,7 +13,7 @@ use cap_word::{Cap, split};
 
 /// A part of the report on a step.
 #[derive(Clone, Copy)]
-pub enum Part {
+pub enum ReportPart {
     /// What the place holds that a result comes from, or that is stored, and the place of its root.
     Source(Place, Cap, Option<Place>),
     /// What the register holds that is the authority, and the place of its root.
@@ -43,7 +43,7 @@ pub enum Part {
 
 /// Writes the lines of parts at an index of the buffer, and returns the index after them. Nothing else of
 /// the buffer changes.
-pub fn put_parts(buffer: &mut [u8], at: usize, parts: &[Part]) -> usize
+pub fn put_parts(buffer: &mut [u8], at: usize, parts: &[ReportPart]) -> usize
     requires { at + 256 * length parts.now ≤ length buffer.old }
     ensures written { Writes at (lines_of_parts parts.now) buffer.old buffer.new result }
     ensures fits { result ≤ at + 256 * length parts.now }
@@ -56,30 +56,30 @@ pub fn put_parts(buffer: &mut [u8], at: usize, parts: &[Part]) -> usize
 }
 
 // Writes the lines of a part.
-fn put_part(buffer: &mut [u8], at: usize, part: &Part) -> usize
+fn put_part(buffer: &mut [u8], at: usize, part: &ReportPart) -> usize
     requires { at + 256 ≤ length buffer.old }
     ensures written { Writes at (part_lines part.now) buffer.old buffer.new result }
     ensures fits { result ≤ at + 256 }
 {
     match *part {
-        Part::Source(place, cap, root) => {
+        ReportPart::Source(place, cap, root) => {
             put_operand_lines(buffer, at, b"source", place, cap, root)
         }
-        Part::Authority(place, cap, root) => {
+        ReportPart::Authority(place, cap, root) => {
             put_operand_lines(buffer, at, b"authority", place, cap, root)
         }
-        Part::Request(base, top) => put_bounds_line(buffer, at, b"request", b" ", base, top),
-        Part::Rounded(base, top) => put_bounds_line(buffer, at, b"rounded", b" ", base, top),
-        Part::Moved(base, top) => put_bounds_line(buffer, at, b"moved", b" ", base, top),
-        Part::Representable(start, end) => {
+        ReportPart::Request(base, top) => put_bounds_line(buffer, at, b"request", b" ", base, top),
+        ReportPart::Rounded(base, top) => put_bounds_line(buffer, at, b"rounded", b" ", base, top),
+        ReportPart::Moved(base, top) => put_bounds_line(buffer, at, b"moved", b" ", base, top),
+        ReportPart::Representable(start, end) => {
             put_bounds_line(buffer, at, b"representable", b" ", start, end)
         }
-        Part::Access(start, end) => put_bounds_line(buffer, at, b"access", b" ", start, end),
-        Part::Needs(view) => put_hex_line(buffer, at, b"needs", 8, u128::from(view)),
-        Part::Gives(place, cap) => put_cap_lines(buffer, at, b"gives", place, cap),
-        Part::Cleared(fault) => put_cleared_line(buffer, at, fault),
-        Part::Recorded(place, cap) => put_cap_lines(buffer, at, b"recorded", place, cap),
-        Part::Differs(given, recorded) => put_differs_line(buffer, at, given, recorded),
+        ReportPart::Access(start, end) => put_bounds_line(buffer, at, b"access", b" ", start, end),
+        ReportPart::Needs(view) => put_hex_line(buffer, at, b"needs", 8, u128::from(view)),
+        ReportPart::Gives(place, cap) => put_cap_lines(buffer, at, b"gives", place, cap),
+        ReportPart::Cleared(fault) => put_cleared_line(buffer, at, fault),
+        ReportPart::Recorded(place, cap) => put_cap_lines(buffer, at, b"recorded", place, cap),
+        ReportPart::Differs(given, recorded) => put_differs_line(buffer, at, given, recorded),
     }
 }
 

@@ -8,10 +8,10 @@ ghost use Rattle.cap_machine.specs.{Helds.account_of, Shown.{IsRead, IsShown}};
 ghost use Rattle.cap_machine.specs.declared.shown.Given.TheVariants as givens;
 ghost use Rattle.cap_report.specs.{Parts.lines_of_parts, StepLines.{access_parts, asked_parts, given_lines}};
 ghost use Rattle.cap_report.specs.StepLines.{operand_parts, range_part, request_parts, step_lines};
-ghost use Rattle.cap_report.specs.declared.parts.Part.TheVariants as parts;
+ghost use Rattle.cap_report.specs.declared.parts.ReportPart.TheVariants as parts;
 
 use crate::operands::{authority_in, held_in};
-use crate::parts::{Part, put_parts};
+use crate::parts::{ReportPart, put_parts};
 use cap_bounds::{Interval, bounds, reach, round};
 use cap_log::{Place, Step};
 use cap_machine::{Given, Machine, Reached, Refusal, Request, Shown};
@@ -72,7 +72,7 @@ fn put_operands<M: TaggedStore>(
     match source {
         Some(place) => {
             let (held, root) = held_in(machine, place);
-            let at = put_parts(buffer, at, &[Part::Source(place, held, root)]);
+            let at = put_parts(buffer, at, &[ReportPart::Source(place, held, root)]);
             put_request(machine, held.word, request, buffer, at)
         }
         None => at,
@@ -95,11 +95,11 @@ fn put_request<M: TaggedStore>(
         Request::Length(length) => put_bounds(held.address(), length, buffer, at),
         Request::Address(address) => {
             let Interval { base, top } = bounds(Word(held.0 >> 64 << 64 | u128::from(address)));
-            put_parts(buffer, at, &[Part::Moved(base, top), range_of(held)])
+            put_parts(buffer, at, &[ReportPart::Moved(base, top), range_of(held)])
         }
         Request::Authority(register, needs) => {
             let authority = authority_in(machine, register);
-            put_parts(buffer, at, &[authority, Part::Needs(needs)])
+            put_parts(buffer, at, &[authority, ReportPart::Needs(needs)])
         }
         Request::Nothing => at,
     }
@@ -114,21 +114,21 @@ fn put_bounds(base: u64, span: u64, buffer: &mut [u8], at: usize) -> usize
 {
     let rounded = round(base, span);
     let top = u128::from(base) + u128::from(span);
-    let asked = Part::Request(base, top);
+    let asked = ReportPart::Request(base, top);
     put_parts(
         buffer,
         at,
-        &[asked, Part::Rounded(rounded.base, rounded.top)],
+        &[asked, ReportPart::Rounded(rounded.base, rounded.top)],
     )
 }
 
 // The representable range of a word: the address space where each address keeps its bounds.
-fn range_of(word: Word) -> Part
+fn range_of(word: Word) -> ReportPart
     ensures { result ≡ range_part word.0 }
 {
     match reach(word) {
-        Some((start, size)) => Part::Representable(start, u128::from(start) + u128::from(size)),
-        None => Part::Representable(0, 1 << 64),
+        Some((start, size)) => ReportPart::Representable(start, u128::from(start) + u128::from(size)),
+        None => ReportPart::Representable(0, 1 << 64),
     }
 }
 
@@ -147,8 +147,8 @@ fn put_access<M: TaggedStore>(
         Some(access) => {
             let authority = authority_in(machine, access.authority);
             let end = u128::from(access.address) + u128::from(access.size);
-            let bytes = Part::Access(access.address, end);
-            put_parts(buffer, at, &[authority, bytes, Part::Needs(access.needs)])
+            let bytes = ReportPart::Access(access.address, end);
+            put_parts(buffer, at, &[authority, bytes, ReportPart::Needs(access.needs)])
         }
         None => at,
     }
@@ -194,15 +194,15 @@ fn put_compared(
     ensures written { Writes at (given_lines (givens.Capability place given fault recorded)) buffer.old buffer.new result }
     ensures fits { result ≤ at + 1024 }
 {
-    let gives = Part::Gives(place, given);
-    let differs = Part::Differs(given, recorded);
-    let recorded = Part::Recorded(place, recorded);
+    let gives = ReportPart::Gives(place, given);
+    let differs = ReportPart::Differs(given, recorded);
+    let recorded = ReportPart::Recorded(place, recorded);
     match fault {
         None => put_parts(buffer, at, &[gives, recorded, differs]),
         Some(fault) => put_parts(
             buffer,
             at,
-            &[gives, Part::Cleared(fault), recorded, differs],
+            &[gives, ReportPart::Cleared(fault), recorded, differs],
         ),
     }
 }

@@ -1,4 +1,4 @@
 pub mod FrontLemmas
-mod PulledLemmas
+mod ReadBufferLemmas
 mod SliceLemmas
 mod TakingLemmas

@@ -3,7 +3,7 @@ pub mod FaultLines
 pub mod Front
 pub mod JudgeFaults
 pub mod Known
-pub mod Pulled
+pub mod ReadBuffers
 pub mod Slices
 pub mod Streams
 pub mod Takings

@@ -2,7 +2,7 @@
 use Rattle.std.specs.Prelude.{◌≡◌, ◌≢◌, ℕ, Bool, true, false, List, [], ◌++◌, Option, None, Some, Result, Ok, Err}
 use Rattle.cap_streams.specs.declared.{lines.{Front.Front, Lines.Lines, Next.Next}, sources.PullFault.PullFault}
 use Rattle.cap_streams.specs.declared.lines.{Next.TheVariants.{Line, LineTooLong, Truncated, Finished}, Over.Over}
-use Rattle.cap_streams.specs.{Front.{IsLine, IsTooLong, IsCut, IsFront}, Pulled.items}
+use Rattle.cap_streams.specs.{Front.{IsLine, IsTooLong, IsCut, IsFront}, ReadBuffers.items}
 use Rattle.cap_streams.specs.declared.lines.Over.TheVariants as overs
 
 -- the bytes that were pulled and not yet lent

@@ -29,7 +29,7 @@ impl FaultLine {
     /// The line that was found at the front of some bytes. It stays out of the loop over lines, which runs no slower
     /// for it.
     #[inline(never)]
-    pub fn of(found: Front, bytes: &[u8]) -> FaultLine
+    pub fn of_front(found: Front, bytes: &[u8]) -> FaultLine
         requires found { IsFront bytes.now found }
         ensures front { IsFrontText bytes.now (bytes_of result) }
     {

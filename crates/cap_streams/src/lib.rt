@@ -1,7 +1,7 @@
 //! Streams of bytes that hold lines: where the bytes come from, where a line ends, where a text goes, and what those
 //! who read lines report. Nothing here allocates.
 //!
-//! A [`Source`] gives bytes a piece at a time, and [`Pulled`] holds those not yet taken. [`front`] finds the line at
+//! A [`Source`] gives bytes a piece at a time, and [`ReadBuffer`] holds those not yet taken. [`front`] finds the line at
 //! the front of some bytes, and [`Lines`] are the lines of what a source gives, however it is cut. A [`Sink`] takes
 //! bytes a piece at a time, and [`push_all`] pushes a whole text.
 //!
@@ -13,7 +13,7 @@ mod fault_lines;
 mod fronts;
 mod judge_faults;
 mod lines;
-mod pulled;
+mod read_buffer;
 mod pushing;
 mod sinks;
 mod sources;
@@ -22,7 +22,7 @@ pub use crate::fault_lines::FaultLine;
 pub use crate::fronts::{LINE_LIMIT, front};
 pub use crate::judge_faults::{JudgeFault, JudgeToFault};
 pub use crate::lines::{Front, Lines, Next};
-pub use crate::pulled::Pulled;
+pub use crate::read_buffer::ReadBuffer;
 pub use crate::pushing::push_all;
 pub use crate::sinks::faults::FailingSink;
 pub use crate::sinks::slices::SliceSink;

@@ -5,7 +5,7 @@ ghost use Rattle.cap_streams.specs.{declared.lines.{Front.TheVariants.Cut, Over.
 ghost use Rattle.cap_streams.specs.Streams.{CountsFault, next_count};
 
 use crate::fronts::front;
-use crate::pulled::Pulled;
+use crate::read_buffer::ReadBuffer;
 use crate::sources::{PullFault, Source};
 
 /// What some bytes begin with.
@@ -48,7 +48,7 @@ pub enum Over {
 /// The lines of a source's bytes. It holds what was pulled and not yet lent.
 #[derive(Drop)]
 pub struct Lines {
-    pulled: Pulled,
+    pulled: ReadBuffer,
     over: Option<Over>,
 }
 
@@ -62,7 +62,7 @@ impl Lines {
         ensures begins { over_of result ≡ None }
     {
         Lines {
-            pulled: Pulled::new(),
+            pulled: ReadBuffer::new(),
             over: None,
         }
     }

@@ -9,8 +9,8 @@ use Rattle.capcheck_c.specs.{declared.values.{AccessAnswer.AccessAnswer, Made.Ma
 
 -- what an operation with these checks and this result answers: the result and 0 if no check fails, otherwise
 -- untagged NULL and the number of the first check that fails
-abbrev pub Answers : List (Bool × Refusal) → Cap → Made → Type 0
-Answers checks result made =
+abbrev pub IsMadeBy : List (Bool × Refusal) → Cap → Made → Type 0
+IsMadeBy checks result made =
     MatchOption (first_of checks)
     ((made.refusal ≡ 0) × (cap_of made.cap ≡ result))
     (λ refusal. (made.refusal ≡ refusal_number refusal) × (cap_of made.cap ≡ no_cap))

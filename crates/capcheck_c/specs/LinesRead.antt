@@ -19,8 +19,8 @@ pub record IsOfKind (kind target source authority number : ℕ) (cap : Cap) (rea
   pub cap_is : cap_of read.cap ≡ cap
 
 -- and it is of no access
-abbrev pub Reads : ℕ → ℕ → ℕ → ℕ → ℕ → Cap → LineRead → Type 0
-Reads kind target source authority number cap read =
+abbrev pub HasNumbers : ℕ → ℕ → ℕ → ℕ → ℕ → Cap → LineRead → Type 0
+HasNumbers kind target source authority number cap read =
     IsOfKind kind target source authority number cap read × (read.offset ≡ pos 0) × (read.size ≡ 0)
 
 -- or of one at this offset, of so many bytes
@@ -30,14 +30,14 @@ ReadsAt kind target source authority offset size number cap read =
 
 -- what was read is this step
 abbrev pub IsStepRead : Step → LineRead → Type 0
-IsStepRead (steps.Move step) read = Reads 5 step.target step.source 0 0 step.result read
-IsStepRead (steps.ClearTag step) read = Reads 6 step.target step.source 0 0 step.result read
-IsStepRead (steps.SetBounds step) read = Reads 7 step.target step.source 0 step.length step.result read
-IsStepRead (steps.SetBoundsExact step) read = Reads 8 step.target step.source 0 step.length step.result read
-IsStepRead (steps.SetAddr step) read = Reads 9 step.target step.source 0 step.address step.result read
-IsStepRead (steps.AndPerm step) read = Reads 10 step.target step.source 0 step.mask step.result read
-IsStepRead (steps.Seal step) read = Reads 11 step.target step.source step.authority 0 step.result read
-IsStepRead (steps.Unseal step) read = Reads 12 step.target step.source step.authority 0 step.result read
+IsStepRead (steps.Move step) read = HasNumbers 5 step.target step.source 0 0 step.result read
+IsStepRead (steps.ClearTag step) read = HasNumbers 6 step.target step.source 0 0 step.result read
+IsStepRead (steps.SetBounds step) read = HasNumbers 7 step.target step.source 0 step.length step.result read
+IsStepRead (steps.SetBoundsExact step) read = HasNumbers 8 step.target step.source 0 step.length step.result read
+IsStepRead (steps.SetAddr step) read = HasNumbers 9 step.target step.source 0 step.address step.result read
+IsStepRead (steps.AndPerm step) read = HasNumbers 10 step.target step.source 0 step.mask step.result read
+IsStepRead (steps.Seal step) read = HasNumbers 11 step.target step.source step.authority 0 step.result read
+IsStepRead (steps.Unseal step) read = HasNumbers 12 step.target step.source step.authority 0 step.result read
 IsStepRead (steps.LoadCap step) read = ReadsAt 13 step.target 0 step.authority step.offset 0 0 step.result read
 IsStepRead (steps.StoreCap step) read = ReadsAt 14 0 step.source step.authority step.offset 0 0 no_cap read
 IsStepRead (steps.Load step) read = ReadsAt 15 0 0 step.authority step.offset step.datum.size step.datum.value no_cap read
@@ -45,13 +45,13 @@ IsStepRead (steps.Store step) read = ReadsAt 16 0 0 step.authority step.offset s
 
 -- what was read is this line
 abbrev pub IsLineRead : Line → LineRead → Type 0
-IsLineRead (lines.Version version) read = Reads 1 0 0 0 version no_cap read
-IsLineRead (lines.Mode Strict) read = Reads 2 0 0 0 0 no_cap read
-IsLineRead (lines.Mode Clear) read = Reads 2 0 0 0 1 no_cap read
-IsLineRead (lines.Root (Register register) word) read = Reads 3 register 0 0 0 (record { tag = true; word = word }) read
-IsLineRead (lines.Root (Granule granule) word) read = Reads 4 0 0 0 (16 * granule) (record { tag = true; word = word }) read
+IsLineRead (lines.Version version) read = HasNumbers 1 0 0 0 version no_cap read
+IsLineRead (lines.Mode Strict) read = HasNumbers 2 0 0 0 0 no_cap read
+IsLineRead (lines.Mode Clear) read = HasNumbers 2 0 0 0 1 no_cap read
+IsLineRead (lines.Root (Register register) word) read = HasNumbers 3 register 0 0 0 (record { tag = true; word = word }) read
+IsLineRead (lines.Root (Granule granule) word) read = HasNumbers 4 0 0 0 (16 * granule) (record { tag = true; word = word }) read
 IsLineRead (lines.Step step) read = IsStepRead step read
-IsLineRead (lines.End steps) read = Reads 17 0 0 0 steps no_cap read
+IsLineRead (lines.End steps) read = HasNumbers 17 0 0 0 steps no_cap read
 
 -- what is read at the front of bytes: the line that they begin with, with its line feed, and its length; or that they
 -- begin with none
@@ -59,7 +59,7 @@ pub record ReadsFront (bytes : List ℕ) (read : LineRead) : Type 0 where
   pub line : (line : Line) (rest : List ℕ) → Begins IsInRange spelling 10 bytes line rest
       → IsLineRead line read × (read.length ≡ length (spelling line) + 1)
   pub kind : read.kind ≢ 0 → (line : Line) × (rest : List ℕ) × Begins IsInRange spelling 10 bytes line rest
-  pub none : BeginsWithNone IsInRange spelling 10 bytes → Reads 0 0 0 0 0 no_cap read × (read.length ≡ 0)
+  pub none : BeginsWithNone IsInRange spelling 10 bytes → HasNumbers 0 0 0 0 0 no_cap read × (read.length ≡ 0)
 
 -- what was read, line after line, from the front of bytes, before this rest
 abbrev pub ReadsLines : List ℕ → List LineRead → List ℕ → Type 0

@@ -7,7 +7,7 @@ ghost use Rattle.cap_halves.specs.Passed.{cap_of};
 ghost use Rattle.capcheck_c.specs.Answers.{AnswersAccess};
 
 use crate::values::AccessAnswer;
-use cap_halves::halves::taken;
+use cap_halves::halves::from_c;
 use cap_halves::values::Capability;
 use cap_ops::{Access, Kind, may_access};
 
@@ -28,7 +28,7 @@ fn is_size(kind: Kind, size: u64) -> bool
 fn access_through(authority: Capability, access: Access) -> AccessAnswer
     ensures { AnswersAccess (cap_of authority) access.kind access.offset access.size result }
 {
-    match may_access(taken(authority), access) {
+    match may_access(from_c(authority), access) {
         Ok(address) => AccessAnswer {
             address,
             refusal: 0,
@@ -97,5 +97,5 @@ pub extern "C" fn capcheck_may_store_cap(
 ) -> AccessAnswer
     ensures answer { AnswersAccess (cap_of authority) (kind.StoreCap (cap_of stored)) offset 16 result }
 {
-    access_from(authority, Kind::StoreCap(taken(stored)), offset, 16)
+    access_from(authority, Kind::StoreCap(from_c(stored)), offset, 16)
 }

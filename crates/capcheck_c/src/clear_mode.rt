@@ -8,7 +8,7 @@ ghost use Rattle.cap_ops.specs.{Accesses.loaded_result, Authority.StaysWithin, P
 ghost use Rattle.cap_ops.specs.Operations as ops;
 ghost use Rattle.cap_halves.specs.Passed.{cap_of, is_set, whole_of};
 
-use cap_halves::halves::{given, taken, word_of};
+use cap_halves::halves::{from_c, to_c, word_of};
 use cap_halves::values::{Capability, Halves};
 use cap_ops::{
     and_perm_clear, clear_tag, loaded, perm_view, seal_clear, sealed, set_addr_clear,
@@ -32,7 +32,7 @@ pub extern "C" fn capcheck_set_bounds_clear(
         → ((result.tag ≡ 0) ↔ (¬ IsInside (address_of (whole_of source.word))
         (address_of (whole_of source.word) + length) (base_of (whole_of source.word)) (top_of (whole_of source.word)))) }
 {
-    given(set_bounds_clear(taken(source), length, exact != 0))
+    to_c(set_bounds_clear(from_c(source), length, exact != 0))
 }
 
 /// [`capcheck_set_addr`](crate::operations::capcheck_set_addr) in clear mode.
@@ -45,7 +45,7 @@ pub extern "C" fn capcheck_set_addr_clear(source: Capability, address: u64) -> C
     ensures tag { result.tag ≤ 1 }
     ensures stays_within { StaysWithin (cap_of result) (cap_of source) }
 {
-    given(set_addr_clear(taken(source), address))
+    to_c(set_addr_clear(from_c(source), address))
 }
 
 /// [`capcheck_and_perm`](crate::operations::capcheck_and_perm) in clear mode.
@@ -58,7 +58,7 @@ pub extern "C" fn capcheck_and_perm_clear(source: Capability, mask: u64) -> Capa
     ensures tag { result.tag ≤ 1 }
     ensures stays_within { StaysWithin (cap_of result) (cap_of source) }
 {
-    given(and_perm_clear(taken(source), mask))
+    to_c(and_perm_clear(from_c(source), mask))
 }
 
 /// [`capcheck_seal`](crate::operations::capcheck_seal) in clear mode: the object type is the low 18 bits of
@@ -72,7 +72,7 @@ pub extern "C" fn capcheck_seal_clear(source: Capability, authority: Capability)
     ensures tag { result.tag ≤ 1 }
     ensures stays_within { StaysWithin (cap_of result) (cap_of source) }
 {
-    given(seal_clear(taken(source), taken(authority)))
+    to_c(seal_clear(from_c(source), from_c(authority)))
 }
 
 /// [`capcheck_unseal`](crate::operations::capcheck_unseal) in clear mode.
@@ -85,7 +85,7 @@ pub extern "C" fn capcheck_unseal_clear(source: Capability, authority: Capabilit
     ensures tag { result.tag ≤ 1 }
     ensures stays_within { StaysWithin (cap_of result) (cap_of source) }
 {
-    given(unseal_clear(taken(source), taken(authority)))
+    to_c(unseal_clear(from_c(source), from_c(authority)))
 }
 
 /// The capability without its tag.
@@ -95,7 +95,7 @@ pub extern "C" fn capcheck_clear_tag(source: Capability) -> Capability
     ensures tag { result.tag ≤ 1 }
     ensures stays_within { StaysWithin (cap_of result) (cap_of source) }
 {
-    given(clear_tag(taken(source)))
+    to_c(clear_tag(from_c(source)))
 }
 
 /// What a load of a stored capability gives: its tag goes where the authority lacks Load Capability.
@@ -105,7 +105,7 @@ pub extern "C" fn capcheck_loaded(authority: Capability, stored: Capability) -> 
     ensures tag { result.tag ≤ 1 }
     ensures stays_within { StaysWithin (cap_of result) (cap_of stored) }
 {
-    given(loaded(taken(authority), taken(stored)))
+    to_c(loaded(from_c(authority), from_c(stored)))
 }
 
 /// Whether a word is sealed: its object type is not `0x3ffff`.

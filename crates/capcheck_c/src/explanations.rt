@@ -4,7 +4,7 @@ ghost use Rattle.std.specs.Prelude.{◌≡◌, ◌<◌, ◌≤◌, ◌++◌, dro
 ghost use Rattle.cap_texts.specs.ExplainLines.{explain_lines};
 ghost use Rattle.cap_halves.specs.Passed.{cap_of};
 
-use cap_halves::halves::taken;
+use cap_halves::halves::from_c;
 use cap_halves::values::Capability;
 use cap_texts::explain_text;
 
@@ -18,7 +18,7 @@ pub extern "C" fn capcheck_explain(cap: Capability, text: &mut [u8]) -> u64
         → text.new ≡ explain_lines told.word.0 told.tag ++ drop result text.old }
     ensures unchanged { length text.old < result → text.new ≡ text.old }
 {
-    let cap = taken(cap);
+    let cap = from_c(cap);
     let mut lines = [0u8; 512];
     let length = explain_text(cap.word, cap.tag, &mut lines);
     if length <= text.len() {

@@ -7,10 +7,10 @@ ghost use Rattle.cap_ops.specs.{Authority.StaysWithin, Faults.fault_number};
 ghost use Rattle.cap_ops.specs.Permissions.{permit_global, has_permission, is_sealed, perm_view_of};
 ghost use Rattle.cap_ops.specs.Operations as ops;
 ghost use Rattle.cap_halves.specs.Passed.{cap_of, is_set, no_cap, whole_of};
-ghost use Rattle.capcheck_c.specs.Answers.{Answers};
+ghost use Rattle.capcheck_c.specs.Answers.{IsMadeBy};
 
 use crate::values::Made;
-use cap_halves::halves::{given, no_capability, taken};
+use cap_halves::halves::{from_c, no_capability, to_c};
 use cap_halves::values::Capability;
 use cap_ops::{OpFault, and_perm, seal, set_addr, set_bounds, unseal};
 use cap_word::Cap;
@@ -24,7 +24,7 @@ fn made_from(outcome: Result<Cap, OpFault>) -> Made
 {
     match outcome {
         Ok(cap) => Made {
-            cap: given(cap),
+            cap: to_c(cap),
             refusal: 0,
         },
         Err(fault) => Made {
@@ -40,14 +40,14 @@ fn made_from(outcome: Result<Cap, OpFault>) -> Made
 /// own (11), then where they are to be exact and are not (12).
 #[unsafe(no_mangle)]
 pub extern "C" fn capcheck_set_bounds(source: Capability, length: u64, exact: u8) -> Made
-    ensures outcome { Answers (ops.set_bounds_checks (cap_of source) length (is_set exact)) (ops.set_bounds_result (cap_of source) length) result }
+    ensures outcome { IsMadeBy (ops.set_bounds_checks (cap_of source) length (is_set exact)) (ops.set_bounds_result (cap_of source) length) result }
     ensures tag { result.cap.tag ≤ 1 }
     ensures stays_within { StaysWithin (cap_of result.cap) (cap_of source) }
     ensures escape { source.tag ≢ 0 → IsFalse (is_sealed (whole_of source.word)) → IsSound (whole_of source.word)
         → ((result.refusal ≡ 11) ↔ (¬ IsInside (address_of (whole_of source.word))
         (address_of (whole_of source.word) + length) (base_of (whole_of source.word)) (top_of (whole_of source.word)))) }
 {
-    made_from(set_bounds(taken(source), length, exact != 0))
+    made_from(set_bounds(from_c(source), length, exact != 0))
 }
 
 /// Gives the source another address.
@@ -55,7 +55,7 @@ pub extern "C" fn capcheck_set_bounds(source: Capability, length: u64, exact: u8
 /// A tagged source is refused where it is sealed (10), and then where the address does not keep its bounds (13).
 #[unsafe(no_mangle)]
 pub extern "C" fn capcheck_set_addr(source: Capability, address: u64) -> Made
-    ensures outcome { Answers (ops.set_addr_checks (cap_of source) address) (ops.set_addr_result (cap_of source) address) result }
+    ensures outcome { IsMadeBy (ops.set_addr_checks (cap_of source) address) (ops.set_addr_result (cap_of source) address) result }
     ensures tag { result.cap.tag ≤ 1 }
     ensures moved_so { result.refusal ≡ 0 → ((cap_of result.cap).tag ≡ is_set source.tag)
         × (address_of (whole_of result.cap.word) ≡ address) }
@@ -65,19 +65,19 @@ pub extern "C" fn capcheck_set_addr(source: Capability, address: u64) -> Made
     ensures near { base_of (whole_of source.word) ≤ address → address ≤ top_of (whole_of source.word)
         → result.refusal ≢ 13 }
 {
-    made_from(set_addr(taken(source), address))
+    made_from(set_addr(from_c(source), address))
 }
 
 /// Takes permissions away: those of the view that the mask lacks. A tagged source that is sealed is refused (10).
 #[unsafe(no_mangle)]
 pub extern "C" fn capcheck_and_perm(source: Capability, mask: u64) -> Made
-    ensures outcome { Answers (ops.and_perm_checks (cap_of source)) (ops.and_perm_result (cap_of source) mask) result }
+    ensures outcome { IsMadeBy (ops.and_perm_checks (cap_of source)) (ops.and_perm_result (cap_of source) mask) result }
     ensures tag { result.cap.tag ≤ 1 }
     ensures view { result.refusal ≡ 0
         → perm_view_of (whole_of result.cap.word) ≡ bit_and (perm_view_of (whole_of source.word)) mask }
     ensures stays_within { StaysWithin (cap_of result.cap) (cap_of source) }
 {
-    made_from(and_perm(taken(source), mask))
+    made_from(and_perm(from_c(source), mask))
 }
 
 /// Seals the source with the authority's address as its object type.
@@ -87,14 +87,14 @@ pub extern "C" fn capcheck_and_perm(source: Capability, mask: u64) -> Made
 /// untagged (9) or sealed (10).
 #[unsafe(no_mangle)]
 pub extern "C" fn capcheck_seal(source: Capability, authority: Capability) -> Made
-    ensures outcome { Answers (ops.seal_checks (cap_of source) (cap_of authority)) (ops.seal_result (cap_of source) (cap_of authority)) result }
+    ensures outcome { IsMadeBy (ops.seal_checks (cap_of source) (cap_of authority)) (ops.seal_result (cap_of source) (cap_of authority)) result }
     ensures tag { result.cap.tag ≤ 1 }
     ensures sealed_so { result.refusal ≡ 0 → (result.cap.tag ≡ 1) × IsTrue (is_sealed (whole_of result.cap.word))
         × (otype_of (whole_of result.cap.word) ≡ address_of (whole_of authority.word))
         × (address_of (whole_of result.cap.word) ≡ address_of (whole_of source.word)) }
     ensures stays_within { StaysWithin (cap_of result.cap) (cap_of source) }
 {
-    made_from(seal(taken(source), taken(authority)))
+    made_from(seal(from_c(source), from_c(authority)))
 }
 
 /// Unseals the source, which is sealed with the authority's address.
@@ -103,7 +103,7 @@ pub extern "C" fn capcheck_seal(source: Capability, authority: Capability) -> Ma
 /// hold its own address (17), and where the source is untagged (9) or has another object type or a reserved one (19).
 #[unsafe(no_mangle)]
 pub extern "C" fn capcheck_unseal(source: Capability, authority: Capability) -> Made
-    ensures outcome { Answers (ops.unseal_checks (cap_of source) (cap_of authority)) (ops.unseal_result (cap_of source) (cap_of authority)) result }
+    ensures outcome { IsMadeBy (ops.unseal_checks (cap_of source) (cap_of authority)) (ops.unseal_result (cap_of source) (cap_of authority)) result }
     ensures tag { result.cap.tag ≤ 1 }
     ensures unsealed_so { result.refusal ≡ 0 → (result.cap.tag ≡ 1) × IsFalse (is_sealed (whole_of result.cap.word))
         × (has_permission (whole_of result.cap.word) permit_global
@@ -111,5 +111,5 @@ pub extern "C" fn capcheck_unseal(source: Capability, authority: Capability) -> 
         × (address_of (whole_of result.cap.word) ≡ address_of (whole_of source.word)) }
     ensures stays_within { StaysWithin (cap_of result.cap) (cap_of source) }
 {
-    made_from(unseal(taken(source), taken(authority)))
+    made_from(unseal(from_c(source), from_c(authority)))
 }

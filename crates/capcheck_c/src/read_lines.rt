@@ -3,7 +3,7 @@
 ghost use Rattle.std.specs.Prelude.{◌≡◌, ◌≢◌, ◌<◌, ◌≤◌, ◌*◌, drop, length, take, true};
 ghost use Rattle.cap_log.specs.{Lines.{IsInRange, IsPlace, spelling}, Parts.BeginsWithNone};
 ghost use Rattle.cap_log.specs.declared.lines.Line.TheVariants as lines;
-ghost use Rattle.capcheck_c.specs.LinesRead.{IsLineRead, Reads, ReadsFront, ReadsLines};
+ghost use Rattle.capcheck_c.specs.LinesRead.{HasNumbers, IsLineRead, ReadsFront, ReadsLines};
 
 use crate::step_lines::step_read;
 use crate::values::{LineRead, LinesCount};

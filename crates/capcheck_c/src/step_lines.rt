@@ -9,7 +9,7 @@ ghost use Rattle.cap_halves.specs.PassedSteps as steps;
 ghost use Rattle.capcheck_c.specs.{LinesRead.IsStepRead, LinesWritten.AnswersLine};
 
 use crate::values::LineRead;
-use cap_halves::halves::taken;
+use cap_halves::halves::from_c;
 use cap_halves::values::Capability;
 use cap_log::kinds::{
     AndPerm, ClearTag, Load, LoadCap, Move, Seal, SetAddr, SetBounds, SetBoundsExact, Store,
@@ -52,7 +52,7 @@ pub extern "C" fn capcheck_line_move(
 ) -> usize
     ensures line { AnswersLine (line.Step (steps.move_passed target source recorded)) buffer.old buffer.new result }
 {
-    put_step::<Move>((target, source, taken(recorded)), buffer)
+    put_step::<Move>((target, source, from_c(recorded)), buffer)
 }
 
 /// Writes the line of a step `cleartag` into the buffer.
@@ -65,7 +65,7 @@ pub extern "C" fn capcheck_line_cleartag(
 ) -> usize
     ensures line { AnswersLine (line.Step (steps.cleartag_passed target source recorded)) buffer.old buffer.new result }
 {
-    put_step::<ClearTag>((target, source, taken(recorded)), buffer)
+    put_step::<ClearTag>((target, source, from_c(recorded)), buffer)
 }
 
 /// Writes the line of a step `setbounds` into the buffer.
@@ -79,7 +79,7 @@ pub extern "C" fn capcheck_line_setbounds(
 ) -> usize
     ensures line { AnswersLine (line.Step (steps.setbounds_passed target source length recorded)) buffer.old buffer.new result }
 {
-    put_step::<SetBounds>((target, source, length, taken(recorded)), buffer)
+    put_step::<SetBounds>((target, source, length, from_c(recorded)), buffer)
 }
 
 /// Writes the line of a step `setboundsexact` into the buffer.
@@ -93,7 +93,7 @@ pub extern "C" fn capcheck_line_setboundsexact(
 ) -> usize
     ensures line { AnswersLine (line.Step (steps.setboundsexact_passed target source length recorded)) buffer.old buffer.new result }
 {
-    put_step::<SetBoundsExact>((target, source, length, taken(recorded)), buffer)
+    put_step::<SetBoundsExact>((target, source, length, from_c(recorded)), buffer)
 }
 
 /// Writes the line of a step `setaddr` into the buffer.
@@ -107,7 +107,7 @@ pub extern "C" fn capcheck_line_setaddr(
 ) -> usize
     ensures line { AnswersLine (line.Step (steps.setaddr_passed target source address recorded)) buffer.old buffer.new result }
 {
-    put_step::<SetAddr>((target, source, address, taken(recorded)), buffer)
+    put_step::<SetAddr>((target, source, address, from_c(recorded)), buffer)
 }
 
 /// Writes the line of a step `andperm` into the buffer.
@@ -121,7 +121,7 @@ pub extern "C" fn capcheck_line_andperm(
 ) -> usize
     ensures line { AnswersLine (line.Step (steps.andperm_passed target source mask recorded)) buffer.old buffer.new result }
 {
-    put_step::<AndPerm>((target, source, mask, taken(recorded)), buffer)
+    put_step::<AndPerm>((target, source, mask, from_c(recorded)), buffer)
 }
 
 /// Writes the line of a step `seal` into the buffer.
@@ -135,7 +135,7 @@ pub extern "C" fn capcheck_line_seal(
 ) -> usize
     ensures line { AnswersLine (line.Step (steps.seal_passed target source authority recorded)) buffer.old buffer.new result }
 {
-    put_step::<Seal>((target, source, authority, taken(recorded)), buffer)
+    put_step::<Seal>((target, source, authority, from_c(recorded)), buffer)
 }
 
 /// Writes the line of a step `unseal` into the buffer.
@@ -149,7 +149,7 @@ pub extern "C" fn capcheck_line_unseal(
 ) -> usize
     ensures line { AnswersLine (line.Step (steps.unseal_passed target source authority recorded)) buffer.old buffer.new result }
 {
-    put_step::<Unseal>((target, source, authority, taken(recorded)), buffer)
+    put_step::<Unseal>((target, source, authority, from_c(recorded)), buffer)
 }
 
 /// Writes the line of a step `lc` into the buffer.
@@ -163,7 +163,7 @@ pub extern "C" fn capcheck_line_lc(
 ) -> usize
     ensures line { AnswersLine (line.Step (steps.lc_passed target authority offset recorded)) buffer.old buffer.new result }
 {
-    put_step::<LoadCap>((target, authority, offset, taken(recorded)), buffer)
+    put_step::<LoadCap>((target, authority, offset, from_c(recorded)), buffer)
 }
 
 /// Writes the line of a step `sc` into the buffer.

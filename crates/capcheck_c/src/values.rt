@@ -2,9 +2,9 @@
 
 ghost use Rattle.std.specs.Prelude.{◌≡◌, ◌≤◌};
 ghost use Rattle.cap_halves.specs.Passed.{no_cap};
-ghost use Rattle.capcheck_c.specs.LinesRead.{Reads};
+ghost use Rattle.capcheck_c.specs.LinesRead.{HasNumbers};
 
-use cap_halves::halves::{given, no_capability};
+use cap_halves::halves::{no_capability, to_c};
 use cap_halves::values::{Capability, Halves};
 use cap_log::{Register, Target};
 use cap_word::Cap;
@@ -173,7 +173,7 @@ impl LineRead {
         cap: Cap,
         count: usize,
     ) -> LineRead
-        ensures read { Reads kind target source 0 0 cap result }
+        ensures read { HasNumbers kind target source 0 0 cap result }
         ensures length { result.length ≡ count }
         ensures tag { result.cap.tag ≤ 1 }
     {
@@ -185,12 +185,12 @@ impl LineRead {
 
     /// What is read of a line with one capability: its kind and the register that gets it, or 0.
     pub(crate) fn written(kind: u8, target: u8, cap: Cap, count: usize) -> LineRead
-        ensures read { Reads kind target 0 0 0 cap result }
+        ensures read { HasNumbers kind target 0 0 0 cap result }
         ensures length { result.length ≡ count }
         ensures tag { result.cap.tag ≤ 1 }
     {
         LineRead {
-            cap: given(cap),
+            cap: to_c(cap),
             target,
             ..LineRead::numbered(kind, 0, count)
         }
@@ -198,7 +198,7 @@ impl LineRead {
 
     /// What is read of a line that records no capability: its kind and one number.
     pub(crate) fn numbered(kind: u8, number: u64, count: usize) -> LineRead
-        ensures read { Reads kind 0 0 0 number no_cap result }
+        ensures read { HasNumbers kind 0 0 0 number no_cap result }
         ensures length { result.length ≡ count }
         ensures tag { result.cap.tag ≤ 1 }
     {

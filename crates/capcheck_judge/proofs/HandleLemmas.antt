@@ -10,7 +10,7 @@ use Rattle.cap_judge.specs.Readings.{HasRead, Known, Stands, at, stage_of, verdi
 use Rattle.cap_judge.specs.{Turns.unread, contracts.judges.Judge.the_row as judge_row}
 use Rattle.cap_judge.proofs.{TurnLaws.{lacks_memory, none_so_far, reached, stands_so_far}, TurnLemmas.follows_on}
 use Rattle.cap_report.specs.declared.answers.Answer.{Answer}
-use Rattle.capcheck_judge.specs.Handles.{AnswersSoFar, Standing, HandsOver, Held, Holds, known_in, origin_behind}
+use Rattle.capcheck_judge.specs.Handles.{AnswersSoFar, Standing, HandsOver, HeldJudge, Holds, known_in, origin_behind}
 use Rattle.capcheck_judge.specs.{Handles.state_behind, Takings.TakesLine}
 
 -- a judge over pages
@@ -18,29 +18,29 @@ abbrev pub J : Type 0
 J = RattleType.Denot (judge_row store_row ghosts)
 
 -- a handle holds one judge
-one_held : (held : Held) (bytes : List ℕ) (holds : Holds held bytes) (judge : J) → held ≡ Some judge → judge ≡ holds.judge
+one_held : (held : HeldJudge) (bytes : List ℕ) (holds : Holds held bytes) (judge : J) → held ≡ Some judge → judge ≡ holds.judge
 one_held held bytes holds judge is = let e = holds.held_is in cc (is, e)
 
 -- it has taken what the handle's has
-pub held_taken : (held : Held) (bytes : List ℕ) → Holds held bytes → (judge : J) → held ≡ Some judge
+pub held_taken : (held : HeldJudge) (bytes : List ℕ) → Holds held bytes → (judge : J) → held ≡ Some judge
     → HasRead judge bytes
 held_taken held bytes holds judge is = subst (λ j. HasRead j bytes) (sym
     (one_held held bytes holds judge is)) holds.taken
 
 -- what its machine holds is what the handle's does
-pub held_state : (held : Held) (bytes : List ℕ) (holds : Holds held bytes) (judge : J) → held ≡ Some judge → (cap : Cap) (key : ℕ)
+pub held_state : (held : HeldJudge) (bytes : List ℕ) (holds : Holds held bytes) (judge : J) → held ≡ Some judge → (cap : Cap) (key : ℕ)
     → cap ≡ (stage_of judge).account.state key → cap ≡ state_behind holds key
 held_state held bytes holds judge is cap key told =
     told ∙ ap (λ (j : J). (stage_of j).account.state key) (one_held held bytes holds judge is)
 
 -- the origin of what a place of its machine holds is that in the handle's
-pub held_origin : (held : Held) (bytes : List ℕ) (holds : Holds held bytes) (judge : J) → held ≡ Some judge → (root : Option Place)
+pub held_origin : (held : HeldJudge) (bytes : List ℕ) (holds : Holds held bytes) (judge : J) → held ≡ Some judge → (root : Option Place)
     (key : ℕ) → root ≡ (stage_of judge).account.origin key → root ≡ origin_behind holds key
 held_origin held bytes holds judge is root key told =
     told ∙ ap (λ (j : J). (stage_of j).account.origin key) (one_held held bytes holds judge is)
 
 -- what holds a judge isn't without one
-pub there : (held : Held) (judge : J) → held ≡ Some judge → held ≡ None → ⊥
+pub there : (held : HeldJudge) (judge : J) → held ≡ Some judge → held ≡ None → ⊥
 there held judge is none = false≢true (ap is_some (sym none ∙ is))
 
 -- how the bytes stand that a judge has taken
@@ -53,14 +53,14 @@ held_stands judge bytes so_far read is =
       λ whole. is ∙ none_so_far bytes stage.account stage.due reached whole,
     )
 
-pub answered_so_far : (held : Held) (judge : J) (bytes : List ℕ) (so_far : Option Verdict) (answer : Answer) → held ≡ Some judge
+pub answered_so_far : (held : HeldJudge) (judge : J) (bytes : List ℕ) (so_far : Option Verdict) (answer : Answer) → held ≡ Some judge
     → so_far ≡ verdict_so_far (stage_of judge).due → Standing so_far answer → Holds held bytes → AnswersSoFar bytes answer
 answered_so_far held judge bytes so_far answer is told numbers holds =
     let stands = held_stands judge bytes so_far (held_taken held bytes holds judge is) told in
     record { verdict = so_far; numbers = numbers; stands = stands.0; none = stands.1 }
 
 -- a handle's judge was handed a line
-pub record HandsLine (text : List ℕ) (old new : Held) (state : ℕ) : Type 0 where
+pub record HandsLine (text : List ℕ) (old new : HeldJudge) (state : ℕ) : Type 0 where
   pub taken : state < 3 → (bytes : List ℕ) → Holds old bytes → Holds new (bytes ++ text)
   pub goes_on : state ≡ 0 → (bytes : List ℕ) → Holds old bytes → BeginsWhole (bytes ++ text)
   pub at_fault : state ≡ 2 → (bytes : List ℕ) → Holds old bytes → BeginsWhole (bytes ++ text) → ⊥
@@ -68,7 +68,7 @@ pub record HandsLine (text : List ℕ) (old new : Held) (state : ℕ) : Type 0 w
   pub still_holds : 2 < state → (bytes : List ℕ) → Holds old bytes → Holds new bytes
   pub no_memory : state ≡ 3 → (bytes : List ℕ) → Holds old bytes → MayLackMemory (bytes ++ text) []
 
-pub line_handed : (text : List ℕ) (held after : Held) (old new : J) (state : ℕ) → held ≡ Some old → after ≡ Some new
+pub line_handed : (text : List ℕ) (held after : HeldJudge) (old new : J) (state : ℕ) → held ≡ Some old → after ≡ Some new
     → TakesLine old text state new → HandsLine text held after state
 line_handed text held after old new state is now takes =
     let read : state < 3 → (bytes : List ℕ) → Holds held bytes → HasRead new (bytes ++ text) = λ below bytes holds.
@@ -100,7 +100,7 @@ not_one state (inr (inl two)) one = omega (arith, two, one)
 not_one state (inr (inr three)) one = omega (arith, three, one)
 
 -- so its answer is that of the line that spells the step
-pub handed : (line : Line) (held after : Held) (old new : J) (state : ℕ) → IsInRange line → held ≡ Some old → after ≡ Some new
+pub handed : (line : Line) (held after : HeldJudge) (old new : J) (state : ℕ) → IsInRange line → held ≡ Some old → after ≡ Some new
     → (state ≡ 0) ⊎ ((state ≡ 2) ⊎ (state ≡ 3)) → HandsLine (spelling line ++ 10 ∷ []) held after state → HandsOver line held after state
 handed line held after old new state range is now answers line_is =
     let small = few state answers in

@@ -27,7 +27,7 @@ use mir.Val.{Val, vptr, vstruct, vcons, vnil, of_list, has_ty, WT}
 use seplogic.Ra.Ura.{Ura}
 use types.Kit.{Item, Goal, Seq, Step, step, ‵, ◌$◌, move, drop, fsplit, fjoin, fpick, fpack, feq_i, feq_l}
 use types.Logic.{Logic, sem}
-use Rattle.capcheck_judge.specs.contracts.held.Held as held
+use Rattle.capcheck_judge.specs.contracts.held.KeptBox as held
 
 abbrev pub pair : Val → Val → Val
 pair u v = vstruct (vcons u (vcons v vnil))
@@ -38,8 +38,8 @@ runs_from 𝓤 run {values = values} same =
     subst (λ (it : List Val). ent 𝓤 (run (values ++ [])) (run it)) (sym (λ i. same i ++ [])) (id⊢ 𝓤 (run (values ++ [])))
 
 module _ (R Z : RattleType) (L : Laws Z) (g : Ghosts Z.Denot) where
-  abbrev pub Held : RattleType
-  Held = held.the_row R Z g
+  abbrev pub KeptBox : RattleType
+  KeptBox = held.the_row R Z g
 
   -- the value at an address, with the right to free it
   abbrev pub owns_value : Z.Denot → R.Denot → Ptr → Fml
@@ -55,10 +55,10 @@ module _ (R Z : RattleType) (L : Laws Z) (g : Ghosts Z.Denot) where
     owned_block t a x p k = in_a_block t p (owns_value a x) (fst∗ 𝓤 (never 𝓤) (sem 𝓛 (g.dealloc_token a (bare (lone R.mir)) null_ptr))) k
 
   module _ {M : Type 1} {𝓤 : Ura M} {𝓛 : Logic 𝓤} {K : Type 0} {Γ : List (Item 𝓤)} {G : Goal 𝓤 𝓛.H} where
-    pub held_out : K → (d : Held.Denot) (vs : List Val)
+    pub held_out : K → (d : KeptBox.Denot) (vs : List Val)
         → ((b o : ℕ) (h : Val) → d.at ≡ block_ptr b o → vs ≡ pair (vptr b o) h ∷ [] → Good (layout Z) h
         → Seq K 𝓛 (‵ (owns_value d.alloc d.value (block_ptr b o)) ∷ ‵ (Z.own_val d.alloc (h ∷ [])) ∷ Γ) G)
-        → Seq K 𝓛 (‵ (Held.own_val d vs) ∷ Γ) G
+        → Seq K 𝓛 (‵ (KeptBox.own_val d vs) ∷ Γ) G
     held_out t d vs k =
         let al : Al = record { row = Z; laws = L; g = g; d = impl [] tnil dnil; drops = impl [] tnil dnil } in
         fsplit t $ fpick t (λ fields. fsplit t $ feq_l t (λ whole. fsplit t $ feq_l t (λ address. fsplit t $
@@ -68,10 +68,10 @@ module _ (R Z : RattleType) (L : Laws Z) (g : Ghosts Z.Denot) where
         (λ p. pair (ptr_val p) h ∷ []) at) fits)))))
 
     pub held_in : K → (b o : ℕ) (h : Val) (a : Z.Denot) (x : R.Denot)
-        → Step K 𝓛 (‵ (Held.own_val (record { at = block_ptr b o; alloc = a; value = x }) (pair (vptr b o) h ∷ [])) ∷ Γ) G
+        → Step K 𝓛 (‵ (KeptBox.own_val (record { at = block_ptr b o; alloc = a; value = x }) (pair (vptr b o) h ∷ [])) ∷ Γ) G
         (‵ (owns_value a x (block_ptr b o)) ∷ ‵ (Z.own_val a (h ∷ [])) ∷ Γ) G
     held_in t b o h a x = step (λ rest.
-        let whole : Val = pair (vptr b o) h in let kept : Held.Denot = record { at = block_ptr b o; alloc = a; value = x } in
+        let whole : Val = pair (vptr b o) h in let kept : KeptBox.Denot = record { at = block_ptr b o; alloc = a; value = x } in
         nothing t $ move t (2 ∷ 0 ∷ []) $ fjoin t $ feq_i t (List Val) (vptr b o ∷ []) (vptr b o ∷ []) refl $ fjoin t $
         feq_i t (List Val) (whole ∷ []) (whole ∷ []) refl $ fjoin t $
         fpack t (Valss (RawPtr ∷ Z ∷ [])) (within (shape (held.the_type R Z g)) (to (held.the_type R Z g) kept) (whole ∷ []))

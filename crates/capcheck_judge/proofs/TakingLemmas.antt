@@ -7,7 +7,7 @@ use Rattle.cap_judge.specs.{Readings.{StopsAt, stage_of}, Turns.{Due, Stage, unr
 use Rattle.cap_judge.proofs.TurnLaws.{begins, clear_goes, fault_in, fault_reached, lacks_memory, never_faulty, reached}
 use Rattle.cap_judge.proofs.TurnLemmas.{faults_at, follows_on, goes_on, stop_follows}
 use Rattle.capcheck_judge.specs.declared.answers.LinesTaken.{LinesTaken}
-use Rattle.capcheck_judge.specs.{Handles.{HandsOverLines, Held, Holds, IsRefusedAfter}, Takings.{TakesLines, state_at}}
+use Rattle.capcheck_judge.specs.{Handles.{HandsOverLines, HeldJudge, Holds, IsRefusedAfter}, Takings.{TakesLines, state_at}}
 use Rattle.capcheck_judge.proofs.HandleLemmas.{J, held_taken, there}
 
 -- the faulty line begins the rest that a judge stopped at, where none was faulty before
@@ -41,7 +41,7 @@ front_read old new front rest Fault stops other = absurd (other refl)
 front_read old new front rest NoMemory stops other = stops.0
 
 -- the handle's judge took lines
-pub took_lines : (given : List ℕ) (held after : Held) (old new : J) (answer : LinesTaken) → held ≡ Some old → after ≡ Some new
+pub took_lines : (given : List ℕ) (held after : HeldJudge) (old new : J) (answer : LinesTaken) → held ≡ Some old → after ≡ Some new
     → TakesLines old given answer new → HandsOverLines given held after answer
 took_lines given held after old new answer is now takes =
     let front = take answer.bytes given in

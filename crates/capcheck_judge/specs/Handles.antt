@@ -16,35 +16,35 @@ use Rattle.cap_judge.specs.{Verdicts.{IsVerdict, IsGuarded}, contracts.judges.Ju
 use Rattle.cap_report.specs.{declared.answers.Answer.Answer, Answers.{numbers_of, without_verdict}, Texts.IsTold}
 use Rattle.cap_report.specs.Whys.{ExplainsEnd, ExplainsSoFar}
 use Rattle.cap_halves.specs.Passed.{cap_of, no_cap}
-use Rattle.capcheck_judge.specs.declared.answers.{Given.Given, LinesTaken.LinesTaken, PassedPlace.PassedPlace}
+use Rattle.capcheck_judge.specs.declared.answers.{PassedExpected.PassedExpected, LinesTaken.LinesTaken, PassedPlace.PassedPlace}
 use Rattle.capcheck_judge.specs.declared.handle.Handle.{Handle}
 
 -- what a handle holds: a judge, or none
-abbrev pub Held : Type 0
-Held = Option (RattleType.Denot (judge_row store_row ghosts))
+abbrev pub HeldJudge : Type 0
+HeldJudge = Option (RattleType.Denot (judge_row store_row ghosts))
 
 -- what this handle holds
-abbrev pub held_in : Handle → Held
+abbrev pub held_in : Handle → HeldJudge
 held_in handle = handle.judge
 
 -- all that the judge of a handle knows, where there is one
-abbrev pub known_in : Held → Option Known
+abbrev pub known_in : HeldJudge → Option Known
 known_in None = None
 known_in (Some judge) = Some (known_of judge)
 
 -- a handle holds a judge that has taken these bytes
-pub record Holds (held : Held) (bytes : List ℕ) : Type 0 where
+pub record Holds (held : HeldJudge) (bytes : List ℕ) : Type 0 where
   pub judge : RattleType.Denot (judge_row store_row ghosts)
   pub held_is : held ≡ Some judge
   pub taken : HasRead judge bytes
 
 -- what the machine holds behind these bytes, or before their line at fault
-abbrev pub state_behind : {held : Held} {bytes : List ℕ} → Holds held bytes → State
+abbrev pub state_behind : {held : HeldJudge} {bytes : List ℕ} → Holds held bytes → State
 state_behind holds = (stage_of holds.judge).account.state
 
 -- what a call answers that hands over a step: where the step's line is in range, what the call answers that hands over
 -- that line; else that it is none
-pub record HandsOver (line : Line) (old new : Held) (state : ℕ) : Type 0 where
+pub record HandsOver (line : Line) (old new : HeldJudge) (state : ℕ) : Type 0 where
   pub answers : state < 6
   pub never_yes : state ≢ 1
   pub taken : state < 3 → (bytes : List ℕ) → Holds old bytes → Holds new (bytes ++ (spelling line ++ 10 ∷ []))
@@ -67,7 +67,7 @@ IsRefusedAfter front rest =
 -- no line so far is faulty, and less than a line is left; that a line is faulty, the next one unless it was an earlier
 -- one; that memory ran out at the next line, which may be handed over again with all after it; or that there is no
 -- judge
-pub record HandsOverLines (given : List ℕ) (old new : Held) (answer : LinesTaken) : Type 0 where
+pub record HandsOverLines (given : List ℕ) (old new : HeldJudge) (answer : LinesTaken) : Type 0 where
   pub few : answer.bytes ≤ length given
   pub answers : answer.state < 5
   pub never_yes : answer.state ≢ 1
@@ -84,7 +84,7 @@ pub record HandsOverLines (given : List ℕ) (old new : Held) (answer : LinesTak
   pub held : (new ≡ None) ↔ (old ≡ None)
 
 -- the place of the root that a place's capability descends from, behind these bytes, or before their faulty line
-abbrev pub origin_behind : {held : Held} {bytes : List ℕ} → Holds held bytes → ℕ → Option Place
+abbrev pub origin_behind : {held : HeldJudge} {bytes : List ℕ} → Holds held bytes → ℕ → Option Place
 origin_behind holds = (stage_of holds.judge).account.origin
 
 -- a place in numbers: the kind 1 is a register, 2 the granule with this address, and 0 none
@@ -114,16 +114,16 @@ pub record AnswersEnd (bytes : List ℕ) (answer : Answer) : Type 0 where
   pub authority : IsGuarded bytes
 
 -- what the rules give, in numbers: the kind 1 is a capability, 2 a number, and 0 none
-abbrev pub IsGivenAs : Cap → ℕ → ℕ → ℕ → Given → Type 0
+abbrev pub IsGivenAs : Cap → ℕ → ℕ → ℕ → PassedExpected → Type 0
 IsGivenAs cap number size kind given = (cap_of given.cap ≡ cap) × (given.number ≡ number) × (given.size ≡ size) × (given.kind ≡ kind)
 
-abbrev pub IsGiven : Option Expected → Given → Type 0
+abbrev pub IsGiven : Option Expected → PassedExpected → Type 0
 IsGiven None given = IsGivenAs no_cap 0 0 0 given
 IsGiven (Some (Capability cap)) given = IsGivenAs cap 0 0 1 given
 IsGiven (Some (Number value size)) given = IsGivenAs no_cap value size 2 given
 
 -- C learns what the rules give for the first fault of these bytes, where it is refused for its result
-pub record AnswersExpected (bytes : List ℕ) (given : Given) : Type 0 where
+pub record AnswersExpected (bytes : List ℕ) (given : PassedExpected) : Type 0 where
   pub expected : Option Expected
   pub numbers : IsGiven expected given
   pub expects : Expects bytes expected

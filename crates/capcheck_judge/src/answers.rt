@@ -36,7 +36,7 @@ pub struct PassedPlace {
 /// What the rules give for a step (in C `capcheck_expected`).
 #[repr(C)]
 #[derive(Debug, Clone, Copy, PartialEq, Eq)]
-pub struct Given {
+pub struct PassedExpected {
     /// The capability that the step's register gets; NULL without a tag where there is none.
     pub cap: Capability,
     /// The number that the step loads, else 0.

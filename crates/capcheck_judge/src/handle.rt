@@ -6,7 +6,7 @@ ghost use Rattle.tagmem.specs.contracts.page_store.{PageStore.the_row as pages, 
 ghost use Rattle.cap_judge.specs.contracts.judges.Judge.{the_row as judge_row};
 ghost use Rattle.capcheck_judge.specs.Holding.{held_by};
 
-use crate::held::{Held, keep, own};
+use crate::held::{KeptBox, keep, own};
 use cap_judge::Judge;
 use std::alloc::{Allocator, Global};
 use std::marker::Model;
@@ -60,10 +60,10 @@ impl Handle {
     }
 
     // A handle of a judge.
-    fn of(judge: Held<Judge<PageStore>, Global>) -> Handle
+    fn of(judge: KeptBox<Judge<PageStore>, Global>) -> Handle
         ensures { result.judge ≡ Some judge.value }
     {
-        let Held { at, alloc } = judge;
+        let KeptBox { at, alloc } = judge;
         Handle {
             at: at as *mut u8,
             held: true,
@@ -72,12 +72,12 @@ impl Handle {
     }
 
     // The judge of a handle, where there is one.
-    fn into_held(self) -> Option<Held<Judge<PageStore>, Global>>
+    fn into_held(self) -> Option<KeptBox<Judge<PageStore>, Global>>
         ensures { MatchOption result (self.judge ≡ None) (λ judge. self.judge ≡ Some judge.value) }
     {
         let Handle { at, held, alloc } = self;
         if held {
-            Some(Held {
+            Some(KeptBox {
                 at: at as *mut Judge<PageStore>,
                 alloc,
             })

@@ -7,9 +7,9 @@ ghost use Rattle.cap_halves.specs.Passed.{cap_of, no_cap};
 ghost use Rattle.capcheck_judge.specs.Handles.{AnswersExpected, Holds, IsGiven, IsPassed, held_in, origin_behind};
 ghost use Rattle.capcheck_judge.specs.Handles.{state_behind};
 
-use crate::answers::{Given, OptionalCap, PassedPlace};
+use crate::answers::{PassedExpected, OptionalCap, PassedPlace};
 use crate::handle::Handle;
-use cap_halves::halves::{given, no_capability};
+use cap_halves::halves::{no_capability, to_c};
 use cap_judge::Expected;
 use cap_log::Place;
 use cap_word::Cap;
@@ -140,7 +140,7 @@ fn passed(place: Option<Place>) -> PassedPlace
 /// What the rules give for the faulty step, where its line records another result. There is none after any other
 /// fault, where no line is faulty so far, and where the handle holds no judge.
 #[unsafe(no_mangle)]
-pub extern "C" fn capcheck_judge_expected(alloc: Global, judge: &mut Handle) -> Given
+pub extern "C" fn capcheck_judge_expected(alloc: Global, judge: &mut Handle) -> PassedExpected
     ensures expected { (bytes : List ℕ) → Holds (held_in judge.old) bytes → AnswersExpected bytes result }
     ensures tag { result.cap.tag ≤ 1 }
     ensures none { held_in judge.old ≡ None → IsGiven None result }
@@ -157,13 +157,13 @@ pub extern "C" fn capcheck_judge_expected(alloc: Global, judge: &mut Handle) -> 
 }
 
 /// What the rules give, as C gets it.
-fn given_of(expected: Option<Expected>) -> Given
+fn given_of(expected: Option<Expected>) -> PassedExpected
     ensures given { IsGiven expected result }
     ensures tag { result.cap.tag ≤ 1 }
 {
     match expected {
         Some(expected) => given_by(expected),
-        None => Given {
+        None => PassedExpected {
             cap: no_capability(),
             number: 0,
             size: 0,
@@ -173,18 +173,18 @@ fn given_of(expected: Option<Expected>) -> Given
 }
 
 /// A capability or a number that the rules give, as C gets it.
-fn given_by(expected: Expected) -> Given
+fn given_by(expected: Expected) -> PassedExpected
     ensures given { IsGiven (Some expected) result }
     ensures tag { result.cap.tag ≤ 1 }
 {
     match expected {
-        Expected::Capability(cap) => Given {
-            cap: given(cap),
+        Expected::Capability(cap) => PassedExpected {
+            cap: to_c(cap),
             number: 0,
             size: 0,
             kind: 1,
         },
-        Expected::Number { value, size } => Given {
+        Expected::Number { value, size } => PassedExpected {
             cap: no_capability(),
             number: value,
             size: size.bytes(),
@@ -200,7 +200,7 @@ fn there(cap: Cap) -> OptionalCap
     ensures tag { result.cap.tag ≤ 1 }
 {
     OptionalCap {
-        cap: given(cap),
+        cap: to_c(cap),
         present: 1,
     }
 }

@@ -11,7 +11,7 @@ ghost use Rattle.cap_halves.specs.PassedSteps as steps;
 ghost use Rattle.capcheck_judge.specs.{Handles.{HandsOver, held_in}, Takings.TakesLine};
 
 use crate::handle::Handle;
-use cap_halves::halves::taken;
+use cap_halves::halves::from_c;
 use cap_halves::values::Capability;
 use cap_judge::{Judge, TakeFault};
 use cap_log::kinds::{
@@ -34,7 +34,7 @@ pub extern "C" fn capcheck_judge_move(
 ) -> u8
     ensures step { HandsOver (line.Step (steps.move_passed target source recorded)) (held_in judge.old) (held_in judge.new) result }
 {
-    hand_over::<Move>(alloc, judge, (target, source, taken(recorded)))
+    hand_over::<Move>(alloc, judge, (target, source, from_c(recorded)))
 }
 
 /// Hands over a step `cleartag`.
@@ -48,7 +48,7 @@ pub extern "C" fn capcheck_judge_cleartag(
 ) -> u8
     ensures step { HandsOver (line.Step (steps.cleartag_passed target source recorded)) (held_in judge.old) (held_in judge.new) result }
 {
-    hand_over::<ClearTag>(alloc, judge, (target, source, taken(recorded)))
+    hand_over::<ClearTag>(alloc, judge, (target, source, from_c(recorded)))
 }
 
 /// Hands over a step `setbounds`.
@@ -63,7 +63,7 @@ pub extern "C" fn capcheck_judge_setbounds(
 ) -> u8
     ensures step { HandsOver (line.Step (steps.setbounds_passed target source length recorded)) (held_in judge.old) (held_in judge.new) result }
 {
-    hand_over::<SetBounds>(alloc, judge, (target, source, length, taken(recorded)))
+    hand_over::<SetBounds>(alloc, judge, (target, source, length, from_c(recorded)))
 }
 
 /// Hands over a step `setboundsexact`.
@@ -78,7 +78,7 @@ pub extern "C" fn capcheck_judge_setboundsexact(
 ) -> u8
     ensures step { HandsOver (line.Step (steps.setboundsexact_passed target source length recorded)) (held_in judge.old) (held_in judge.new) result }
 {
-    hand_over::<SetBoundsExact>(alloc, judge, (target, source, length, taken(recorded)))
+    hand_over::<SetBoundsExact>(alloc, judge, (target, source, length, from_c(recorded)))
 }
 
 /// Hands over a step `setaddr`.
@@ -93,7 +93,7 @@ pub extern "C" fn capcheck_judge_setaddr(
 ) -> u8
     ensures step { HandsOver (line.Step (steps.setaddr_passed target source address recorded)) (held_in judge.old) (held_in judge.new) result }
 {
-    hand_over::<SetAddr>(alloc, judge, (target, source, address, taken(recorded)))
+    hand_over::<SetAddr>(alloc, judge, (target, source, address, from_c(recorded)))
 }
 
 /// Hands over a step `andperm`.
@@ -108,7 +108,7 @@ pub extern "C" fn capcheck_judge_andperm(
 ) -> u8
     ensures step { HandsOver (line.Step (steps.andperm_passed target source mask recorded)) (held_in judge.old) (held_in judge.new) result }
 {
-    hand_over::<AndPerm>(alloc, judge, (target, source, mask, taken(recorded)))
+    hand_over::<AndPerm>(alloc, judge, (target, source, mask, from_c(recorded)))
 }
 
 /// Hands over a step `seal`.
@@ -123,7 +123,7 @@ pub extern "C" fn capcheck_judge_seal(
 ) -> u8
     ensures step { HandsOver (line.Step (steps.seal_passed target source authority recorded)) (held_in judge.old) (held_in judge.new) result }
 {
-    hand_over::<Seal>(alloc, judge, (target, source, authority, taken(recorded)))
+    hand_over::<Seal>(alloc, judge, (target, source, authority, from_c(recorded)))
 }
 
 /// Hands over a step `unseal`.
@@ -138,7 +138,7 @@ pub extern "C" fn capcheck_judge_unseal(
 ) -> u8
     ensures step { HandsOver (line.Step (steps.unseal_passed target source authority recorded)) (held_in judge.old) (held_in judge.new) result }
 {
-    hand_over::<Unseal>(alloc, judge, (target, source, authority, taken(recorded)))
+    hand_over::<Unseal>(alloc, judge, (target, source, authority, from_c(recorded)))
 }
 
 /// Hands over a step `lc`.
@@ -153,7 +153,7 @@ pub extern "C" fn capcheck_judge_lc(
 ) -> u8
     ensures step { HandsOver (line.Step (steps.lc_passed target authority offset recorded)) (held_in judge.old) (held_in judge.new) result }
 {
-    hand_over::<LoadCap>(alloc, judge, (target, authority, offset, taken(recorded)))
+    hand_over::<LoadCap>(alloc, judge, (target, authority, offset, from_c(recorded)))
 }
 
 /// Hands over a step `sc`.

@@ -6,7 +6,7 @@ ghost use Rattle.cap_log.specs.Parts.{BeginsWithout};
 /// What follows a text at the front of some bytes and the byte that ends it, or `None` where they
 /// do not stand there.
 #[inline(always)]
-pub fn behind<'a, const N: usize>(bytes: &'a [u8], text: &[u8; N], end: u8) -> Option<&'a [u8]>
+pub fn strip_word<'a, const N: usize>(bytes: &'a [u8], text: &[u8; N], end: u8) -> Option<&'a [u8]>
     ensures some { IfSome result (λ rest. bytes.now ≡ text.now ++ end ∷ rest.now) }
     ensures none { IfNone result (BeginsWithout (text.now) end bytes.now) }
 {

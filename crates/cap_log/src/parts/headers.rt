@@ -6,7 +6,7 @@ ghost use Rattle.cap_log.specs.{Lines.{IsVersion, mode_spelling}, Parts.IsMode};
 use crate::buffers::{put, put_few};
 use crate::lines::Mode;
 use crate::parts::Part;
-use crate::parts::fronts::behind;
+use crate::parts::fronts::strip_word;
 
 /// The version of a log, 1 or 2.
 #[derive(Clone, Copy)]
@@ -18,10 +18,10 @@ impl Part for Version {
     ghost spelled = { λ version. decimal version.0 };
 
     fn take(bytes: &[u8], end: u8) -> Option<(Version, &[u8])> {
-        if let Some(rest) = behind(bytes, b"1", end) {
+        if let Some(rest) = strip_word(bytes, b"1", end) {
             return Some((Version(1), rest));
         }
-        let rest = behind(bytes, b"2", end)?;
+        let rest = strip_word(bytes, b"2", end)?;
         Some((Version(2), rest))
     }
 
@@ -36,10 +36,10 @@ impl Part for Mode {
     ghost spelled = { mode_spelling };
 
     fn take(bytes: &[u8], end: u8) -> Option<(Mode, &[u8])> {
-        if let Some(rest) = behind(bytes, b"strict", end) {
+        if let Some(rest) = strip_word(bytes, b"strict", end) {
             return Some((Mode::Strict, rest));
         }
-        let rest = behind(bytes, b"clear", end)?;
+        let rest = strip_word(bytes, b"clear", end)?;
         Some((Mode::Clear, rest))
     }
 

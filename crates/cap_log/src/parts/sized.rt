@@ -9,7 +9,7 @@ ghost use Rattle.cap_streams.specs.Written.{Writes};
 
 use crate::buffers::{put, put_few};
 use crate::parts::Part;
-use crate::parts::fronts::behind;
+use crate::parts::fronts::strip_word;
 use cap_word::{number_text, take_bytes, take_u64};
 use std::marker::Model;
 
@@ -202,7 +202,7 @@ fn take_value(bytes: &[u8], size: Size, end: u8) -> Option<(u64, &[u8])>
     ensures none { IfNone result (BeginsWithNone (IsDataValue size) (hex_digits (2 * size)) end bytes.now) }
 {
     let (value, others) = take_digits(bytes, size)?;
-    let rest = behind(others, b"", end)?;
+    let rest = strip_word(others, b"", end)?;
     Some((value, rest))
 }
 

@@ -11,7 +11,7 @@ const GREATEST_TOP: u128 = 1 << 64;
 
 /// A request for bounds.
 #[derive(Debug, Clone, Copy, PartialEq, Eq)]
-pub struct Request {
+pub struct BoundsRequest {
     /// The lowest address.
     pub base: u64,
     /// How many addresses.
@@ -21,7 +21,7 @@ pub struct Request {
 /// Reads a request for bounds from its two words, each of sixteen lower-case hexadecimal digits. It is
 /// refused as a bad word where one of them is not of this form, and as a bad request where the request
 /// ends above 2^64.
-pub fn read_request(base: &str, length: &str) -> Result<Request, Fault>
+pub fn read_request(base: &str, length: &str) -> Result<BoundsRequest, Fault>
     ensures ok { IfOk result (λ request. SpellsRequest base.now length.now request.base request.length
         × (request.base + request.length ≤ 2 ^ 64)) }
     ensures err { IfErr result (λ fault. RefusesRequest base.now length.now fault) }
@@ -35,7 +35,7 @@ pub fn read_request(base: &str, length: &str) -> Result<Request, Fault>
     if u128::from(base) + u128::from(length) > GREATEST_TOP {
         return Err(Fault::BadRequest);
     }
-    Ok(Request { base, length })
+    Ok(BoundsRequest { base, length })
 }
 
 /// Reads a capability's word from 32 lower-case hexadecimal digits: those of its register layout or, with

@@ -19,15 +19,15 @@ pub returns-in-Ok-Truncated-clause-judged : goal.returns-in-Ok-Truncated-clause-
 returns-in-Ok-Truncated-clause-judged g c =
     let p = stands g.S.Source.gave g.S.Source.ended c.args.source.now c.lines.source c.next.new.source c.lines.progress c.lines.line _ _ _ _
     g.met.S.Source.joined c.lines.invariant.here (c.next.follows.holds-at-none.0 c.lines.invariant.more) (c.in-Ok-Truncated.is ∙ ap Ok c.in-Ok-Truncated.field-0-is) in
-    let front = subst (λ (b : List ℕ). IsFrontText b (bytes_of c.of.result)) c.kept-kept.ensures.value c.of.ensures.front in
-    rw (c.refused-verdict.ensures) (at_cut c.lines.line (bytes_of c.of.result) front p)
+    let front = subst (λ (b : List ℕ). IsFrontText b (bytes_of c.of_front.result)) c.kept-kept.ensures.value c.of_front.ensures.front in
+    rw (c.refused-verdict.ensures) (at_cut c.lines.line (bytes_of c.of_front.result) front p)
 
 pub returns-in-Ok-LineTooLong-clause-judged : goal.returns-in-Ok-LineTooLong-clause-judged
 returns-in-Ok-LineTooLong-clause-judged g c =
     let p = stands g.S.Source.gave g.S.Source.ended c.args.source.now c.lines.source c.next.new.source c.lines.progress c.lines.line _ _ _ _
     g.met.S.Source.joined c.lines.invariant.here (c.next.follows.holds-at-none.0 c.lines.invariant.more) (c.in-Ok-LineTooLong.is ∙ ap Ok c.in-Ok-LineTooLong.field-0-is) in
-    let held = bytes_of c.of-in-Ok-LineTooLong.result in
-    let front = subst (λ (b : List ℕ). IsFrontText b held) c.kept-kept-in-Ok-LineTooLong.ensures.value c.of-in-Ok-LineTooLong.ensures.front in
+    let held = bytes_of c.of_front-in-Ok-LineTooLong.result in
+    let front = subst (λ (b : List ℕ). IsFrontText b held) c.kept-kept-in-Ok-LineTooLong.ensures.value c.of_front-in-Ok-LineTooLong.ensures.front in
     rw (c.refused-verdict-in-Ok-LineTooLong.ensures) (at_long c.lines.line held front p)
 
 pub returns-in-Err-take_line-clause-judged : goal.returns-in-Err-take_line-clause-judged
@@ -35,7 +35,7 @@ returns-in-Err-take_line-clause-judged g c =
     let p = stands g.S.Source.gave g.S.Source.ended c.args.source.now c.lines.source c.next.new.source c.lines.progress c.lines.line _ _ _ _
     g.met.S.Source.joined c.lines.invariant.here (c.next.follows.holds-at-none.0 c.lines.invariant.more) (c.in-Ok-Line.is ∙ ap Ok c.in-Ok-Line.field-0-is) in
     rw (c.answer_at.ensures)
-    (at_line c.lines.line c.in-Ok-Line.text p (bytes_of c.of-in-Err-take_line.result) c.of-in-Err-take_line.ensures.front c.in-Err-take_line.end c.in-Err-take_line.ensures.err _ c.in-Err-take_line.ensures.stays)
+    (at_line c.lines.line c.in-Ok-Line.text p (bytes_of c.of_front-in-Err-take_line.result) c.of_front-in-Err-take_line.ensures.front c.in-Err-take_line.end c.in-Err-take_line.ensures.err _ c.in-Err-take_line.ensures.stays)
 
 pub overflow_add-line : goal.overflow_add-line
 overflow_add-line g c = omega (arith, few _ c.lines.progress _ c.lines.line c.lines.invariant.here.2)

@@ -1,6 +1,6 @@
 use Rattle.std.proofs.Common.{[], ℕ, List, Bor, Option, Ok, refl, subst}
 use Rattle.cap_log.specs.declared.lines.Line.{Line}
-use Rattle.cap_judge.specs.{declared.judges.Stage.TheVariants.Body, Readings.{TakesOne, at}}
+use Rattle.cap_judge.specs.{declared.judges.NextLine.TheVariants.Body, Readings.{TakesOne, at}}
 use Rattle.cap_judge.proofs.TurnLemmas.{goes_line, goes_none}
 use Rattle.cap_judge.proofs.steps.take_usual.Goals as goal
 

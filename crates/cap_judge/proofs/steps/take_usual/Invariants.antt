@@ -1,5 +1,5 @@
 use Rattle.std.proofs.Common.{◌≡◌, ◌++◌, ℕ, List, length}
-use Rattle.cap_judge.specs.{declared.judges.Stage.TheVariants.Body, Readings.{Goes, at}}
+use Rattle.cap_judge.specs.{declared.judges.NextLine.TheVariants.Body, Readings.{Goes, at}}
 use Rattle.cap_judge.proofs.steps.take_usual.Given as goal
 
 -- the steps so far are the front of the bytes

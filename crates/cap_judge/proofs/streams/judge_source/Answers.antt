@@ -1,6 +1,6 @@
 use Rattle.std.proofs.Common.{◌≡◌, ◌≢◌, ◌++◌, [], ℕ, List, append-nil, append_assoc, arith, inl, length, refl, rules}
 use Rattle.std.proofs.{Common.{subst, sym, true, ◌∙◌}, lemmas.List.Elements.All-nil}
-use Rattle.cap_streams.specs.{FaultLines.bytes_of, Front.IsCut, Pulled.items}
+use Rattle.cap_streams.specs.{FaultLines.bytes_of, Front.IsCut, ReadBuffers.items}
 use Rattle.cap_judge.specs.{Readings.{EndsAs, stage_of}, Turns.unread}
 use Rattle.cap_judge.proofs.SourceLemmas.{closer, ended_answer, given_more, lacking_judged, nothing_more, pull_judged}
 use Rattle.cap_judge.proofs.{SourceLemmas.verdict_judged, TurnLaws.{lacks_memory, reached, refused_told, told}}

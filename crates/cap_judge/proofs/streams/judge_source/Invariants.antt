@@ -1,5 +1,5 @@
 use Rattle.std.proofs.Common.{◌≡◌, ◌+◌, ◌-◌, ◌*◌, ◌++◌, ℕ, List, length}
-use Rattle.cap_streams.specs.{Front.IsCut, Pulled.items}
+use Rattle.cap_streams.specs.{Front.IsCut, ReadBuffers.items}
 use Rattle.cap_judge.specs.{Readings.{Goes, lines_read, stage_of}, Turns.unread}
 use Rattle.cap_judge.proofs.streams.judge_source.Given as goal
 

@@ -31,7 +31,7 @@ use types.Kit.{fjoin, pick, suffices, use1, await, rewrite, feq_i}
 use types.Part.{sub, whole}
 use types.Run.{stop, fld, of_opd, no_more, and_then, first, blocks, exec, returns, enter}
 use Rattle.capcheck_judge.specs.contracts.held.own.{ended, clauses, Key.name as #self}
-use Rattle.capcheck_judge.proofs.{HeldFields.{Held, pair, runs_from, held_good, held_out}, held.own.Statement.statement}
+use Rattle.capcheck_judge.proofs.{HeldFields.{KeptBox, pair, runs_from, held_good, held_out}, held.own.Statement.statement}
 use Rattle.capcheck_judge.proofs.held.own.Code as code
 
 pub own_spec : {M : Type 1} → statement M
@@ -42,9 +42,9 @@ own_spec 𝓤 𝓛 𝓜 𝓡 wired T A LT LA g dict drop_T drop_A allocates drop
     let En = ended T A g dict drop_T drop_A in let c = clauses T A g dict drop_T drop_A 𝓛 𝓜.mem 𝓡.returns in
     let at_types = bounded (a_type ∷ a_type ∷ []) (T, (A, tt)) (dcons dict (dcons drop_T (dcons drop_A dnil))) in
     let fn = inst_fn at_types code.function in
-    let stays : Stays En.signature.params En.kept = (stay_dropped (plain (λ _. Held R Z LZ g)) no, tt) in
+    let stays : Stays En.signature.params En.kept = (stay_dropped (plain (λ _. KeptBox R Z LZ g)) no, tt) in
     let call = triple_of 𝓛 (from_raw.signature T A g dict drop_A) (from_raw.spec T A g dict drop_A 𝓛 𝓜.mem 𝓡.returns) in
-    proved_at 𝓛 En stays c 𝓜 𝓡 (Goes-blank 𝓛 2 (plain (λ _. Held R Z LZ g)) no (λ κs x f. tt), tt) (#self at_types) fn
+    proved_at 𝓛 En stays c 𝓜 𝓡 (Goes-blank 𝓛 2 (plain (λ _. KeptBox R Z LZ g)) no (λ κs x f. tt), tt) (#self at_types) fn
     (code.unfolded 𝓤 𝓛.H 𝓜 𝓡 wired (T, (A, tt)) dict drop_T drop_A) (λ z are.
     let κs = z.0.0 in let qs = z.0.1 in let kept = z.0.3.0 in let a = kept.alloc in let x = kept.value in
     let end : Val → SProp 𝓤 = (walk_of 𝓛 En stays c).post z in let run : List Val → SProp 𝓤 = λ ws. WpFn 𝓤 𝓛.H 𝓣.C 𝓣.Λ fn ws end in

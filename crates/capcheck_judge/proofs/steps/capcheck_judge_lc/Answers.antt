@@ -4,4 +4,4 @@ use Rattle.capcheck_judge.proofs.steps.capcheck_judge_lc.Goals as goal
 pub returns : goal.returns
 returns c =
     let same = to_z-of_z w64 c.args.offset c.ranges.offset in
-    record { step = rw c.taken.ensures.value at (rw same at c.hand_over.ensures) }
+    record { step = rw c.from_c.ensures.value at (rw same at c.hand_over.ensures) }

@@ -1,6 +1,6 @@
 use Rattle.std.proofs.Common.{[], ◌≡◌, ◌≢◌, ◌⊎◌, inl, inr, refl, subst}
 use Rattle.cap_log.specs.declared.lines.Line.{Line}
-use Rattle.cap_judge.specs.declared.judges.{Stage.TheVariants.Body, Stop.{Stop, TheVariants.{Cut, Fault}}}
+use Rattle.cap_judge.specs.declared.judges.{NextLine.TheVariants.Body, Stop.{Stop, TheVariants.{Cut, Fault}}}
 use Rattle.cap_judge.specs.Readings.{Known, Lacks, at, stage_of}
 use Rattle.cap_judge.proofs.TurnLemmas.{ends_at, step_whole, stop_follows, whole_lacks}
 use Rattle.cap_judge.proofs.judges.Judge.take_end.Goals as goal

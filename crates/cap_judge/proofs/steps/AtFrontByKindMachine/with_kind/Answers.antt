@@ -1,7 +1,7 @@
 use Rattle.std.proofs.Common.{◌∷◌, ◌++◌, rules}
 use Rattle.cap_log.specs.{declared.lines.Line.TheVariants.Step, Heads.head_spelling}
 use Rattle.cap_machine.specs.Helds.{EndsStep, Makes}
-use Rattle.cap_judge.specs.{declared.judges.Stage.TheVariants.Body, Readings.{TakesStep, at}}
+use Rattle.cap_judge.specs.{declared.judges.NextLine.TheVariants.Body, Readings.{TakesStep, at}}
 use Rattle.cap_judge.proofs.TurnLemmas.{ends_at, makes_takes, step_ends}
 use Rattle.cap_judge.proofs.steps.AtFrontByKindMachine.with_kind.Goals as goal
 

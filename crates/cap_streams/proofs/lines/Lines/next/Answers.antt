@@ -1,6 +1,6 @@
 use Rattle.std.proofs.Common.{◌≡◌, ◌≢◌, ℕ, ◌-◌, ◌≤◌, List, [], Ok, length, take, drop, true, refl, sym, ap, subst, ◌∙◌}
 use Rattle.std.proofs.{Common.{rules, arith, length-take, length-drop}, lemmas.List.nil_from_length}
-use Rattle.cap_streams.specs.{Front.IsFront, Pulled.items}
+use Rattle.cap_streams.specs.{Front.IsFront, ReadBuffers.items}
 use Rattle.cap_streams.proofs.TakingLemmas.{answered, not_again, take_front}
 use Rattle.cap_streams.proofs.lines.Lines.next.Goals as goal
 

@@ -2,4 +2,4 @@ use Rattle.std.proofs.Common.{arith}
 use Rattle.capcheck_c.proofs.values.LineRead.written.Goals as goal
 
 pub returns-clause-tag : goal.returns-clause-tag
-returns-clause-tag c = omega (arith, c.given.ensures.tag)
+returns-clause-tag c = omega (arith, c.to_c.ensures.tag)

@@ -27,14 +27,14 @@ use types.Part.{agg, sub, whole}
 use types.Run.{stop, fld, lit, of_opd, no_more, and_then, first, branches, exec, returns, enter}
 use Rattle.capcheck_judge.specs.contracts.handle.Handle.into_held.{ended, clauses, Key.name as #self}
 use Rattle.capcheck_judge.proofs.HandleFields.{J, Z, H, three, ptr_good, handle_good, handle_out, either_held}
-use Rattle.capcheck_judge.proofs.{HandleFields.owns_judge, HeldFields.{pair, runs_from, Held, held_good, held_in}}
+use Rattle.capcheck_judge.proofs.{HandleFields.owns_judge, HeldFields.{pair, runs_from, KeptBox, held_good, held_in}}
 use Rattle.capcheck_judge.proofs.handle.Handle.into_held.Statement.{statement}
 use Rattle.capcheck_judge.proofs.handle.Handle.into_held.Code as code
 
 pub into_held_spec : {M : Type 1} → statement M
 into_held_spec 𝓤 𝓛 𝓜 𝓡 wired =
     let 𝓗 = 𝓛.H in let 𝓣 = tables 𝓤 𝓗 𝓜 𝓡 𝓡.env in let En = ended in let c = clauses 𝓛 𝓜.mem 𝓡.returns in let fn = code.function in
-    let LZ = heap_laws.the_row_laws in let Lr : RattleType = Held J Z LZ ghosts in
+    let LZ = heap_laws.the_row_laws in let Lr : RattleType = KeptBox J Z LZ ghosts in
     let hs : Stays En.signature.params En.kept = (stay_dropped (plain (λ _. H)) yes, tt) in
     proved_at 𝓛 En hs c 𝓜 𝓡 (Goes-dropped 𝓛 0 (plain (λ _. H)) yes (λ κs x f. refl), tt) #self fn (code.unfolded 𝓤 𝓗 𝓜 𝓡 wired) (λ z are.
     let κs = z.0.0 in let v = z.0.3.0 in let a = v.alloc in let Post : Val → SProp 𝓤 = (walk_of 𝓛 En hs c).post z in

@@ -21,13 +21,13 @@ use types.Part.{agg, sub, whole}
 use types.Run.{stop, fld, of_opd, true_lit, no_more, and_then, returns, enter}
 use Rattle.capcheck_judge.specs.contracts.handle.Handle.of.{ended, clauses, Key.name as #self}
 use Rattle.capcheck_judge.proofs.{HandleFields.{J, Z, three, handle_good, handle_in}, HeldFields.{pair, runs_from}}
-use Rattle.capcheck_judge.proofs.{HeldFields.{Held, held_good, held_out}, handle.Handle.of.Statement.statement}
+use Rattle.capcheck_judge.proofs.{HeldFields.{KeptBox, held_good, held_out}, handle.Handle.of.Statement.statement}
 use Rattle.capcheck_judge.proofs.handle.Handle.of.Code as code
 
 pub of_spec : {M : Type 1} → statement M
 of_spec 𝓤 𝓛 𝓜 𝓡 wired =
     let 𝓗 = 𝓛.H in let 𝓣 = tables 𝓤 𝓗 𝓜 𝓡 𝓡.env in let En = ended in let c = clauses 𝓛 𝓜.mem 𝓡.returns in let fn = code.function in
-    let LZ = heap_laws.the_row_laws in let Lr : RattleType = Held J Z LZ ghosts in
+    let LZ = heap_laws.the_row_laws in let Lr : RattleType = KeptBox J Z LZ ghosts in
     let hs : Stays En.signature.params En.kept = (stay_dropped (plain (λ _. Lr)) yes, tt) in
     proved_at 𝓛 En hs c 𝓜 𝓡 (Goes-dropped 𝓛 0 (plain (λ _. Lr)) yes (λ κs x f. refl), tt) #self fn (code.unfolded 𝓤 𝓗 𝓜 𝓡 wired) (λ z are.
     let κs = z.0.0 in let v = z.0.3.0 in let a = v.alloc in let Post : Val → SProp 𝓤 = (walk_of 𝓛 En hs c).post z in

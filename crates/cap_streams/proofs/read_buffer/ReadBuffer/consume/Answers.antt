@@ -1,6 +1,6 @@
 use Rattle.std.proofs.Common.{ℕ, arith, length-take, length-drop}
-use Rattle.cap_streams.proofs.PulledLemmas.{consumed}
-use Rattle.cap_streams.proofs.pulled.Pulled.consume.Goals as goal
+use Rattle.cap_streams.proofs.ReadBufferLemmas.{consumed}
+use Rattle.cap_streams.proofs.read_buffer.ReadBuffer.consume.Goals as goal
 
 pub returns-clause-items : goal.returns-clause-items
 returns-clause-items c =

@@ -10,7 +10,7 @@ pub(crate) const SIZE: usize = 32768;
 
 /// The bytes of a source that were pulled and not yet taken, and room after them.
 #[derive(Drop)]
-pub struct Pulled {
+pub struct ReadBuffer {
     bytes: [u8; SIZE],
     start: usize,
     end: usize,
@@ -18,14 +18,14 @@ pub struct Pulled {
     ghost within: { end ≤ 32768 },
 }
 
-impl Pulled {
-    ghost use Rattle.cap_streams.specs.Pulled.{buffer_of, items, room, start_of};
+impl ReadBuffer {
+    ghost use Rattle.cap_streams.specs.ReadBuffers.{buffer_of, items, room, start_of};
 
     /// Nothing was pulled yet.
-    pub fn new() -> Pulled
+    pub fn new() -> ReadBuffer
         ensures empty { items result ≡ [] }
     {
-        Pulled {
+        ReadBuffer {
             bytes: [0; SIZE],
             start: 0,
             end: 0,

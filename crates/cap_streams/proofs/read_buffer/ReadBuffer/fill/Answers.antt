@@ -1,6 +1,6 @@
 use Rattle.std.proofs.Common.{◌≤◌, ℕ, List, ◌++◌, length, take, ap, ◌∙◌, arith, length-take-le}
-use Rattle.cap_streams.proofs.PulledLemmas.{grown, is_end-room}
-use Rattle.cap_streams.proofs.pulled.Pulled.fill.Goals as goal
+use Rattle.cap_streams.proofs.ReadBufferLemmas.{grown, is_end-room}
+use Rattle.cap_streams.proofs.read_buffer.ReadBuffer.fill.Goals as goal
 
 pub returns-clause-ok : goal.returns-clause-ok
 returns-clause-ok g c =

@@ -1,6 +1,6 @@
 use Rattle.std.proofs.Common.{◌≡◌, ◌∷◌, ap, take, ◌∙◌, rules, take_at}
 use Rattle.cap_log.proofs.Cuts.{text_in_front}
-use Rattle.cap_log.proofs.parts.fronts.behind.Goals as goal
+use Rattle.cap_log.proofs.parts.fronts.strip_word.Goals as goal
 
 pub returns-then-ne-clause-none : goal.returns-then-ne-clause-none
 returns-then-ne-clause-none g c = λ rest e.

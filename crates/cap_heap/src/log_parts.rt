@@ -2,7 +2,7 @@
 
 /// How far a log was read.
 #[derive(Clone, Copy, Debug, PartialEq, Eq)]
-pub(crate) enum Stage {
+pub(crate) enum LogPart {
     /// Nothing of it.
     Start,
     /// Its header.

@@ -1,5 +1,5 @@
 use Rattle.std.proofs.Common.{◌≡◌, ℕ, List, ◌++◌, sym, ap, take, drop, ◌∙◌, rules, take_at, take-append-drop}
-use Rattle.cap_heap.proofs.readers.behind.Goals as goal
+use Rattle.cap_heap.proofs.readers.strip_text.Goals as goal
 
 pub returns-then-eq-clause-some : goal.returns-then-eq-clause-some
 returns-then-eq-clause-some g c =
