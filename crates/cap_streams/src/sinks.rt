@@ -1,6 +1,6 @@
 //! Where bytes go.
 
-ghost use Rattle.std.specs.Prelude.{ℕ, ◌≤◌, ◌<◌, ◌^◌, List, [], ◌++◌, length, take, IfOk, OnErr};
+ghost use Rattle.std.specs.Prelude.{ℕ, ◌≤◌, ◌<◌, ◌^◌, List, [], ◌++◌, length, take, IfOk, OnErr, OnOk};
 ghost use Rattle.cap_streams.specs.Streams.{CountsFault};
 
 pub mod faults;
@@ -36,4 +36,20 @@ pub trait Sink {
 
     /// What is taken in two calls in a row.
     ghost joined: { (a b c : Self) (xs ys : List ℕ) → took a b xs → took b c ys → took a c (xs ++ ys) };
+}
+
+/// Pushes a text until the sink has taken all of it. After a fault the sink took a beginning.
+pub fn push_all<K: Sink>(sink: &mut K, text: &[u8]) -> Result<(), PushFault>
+    ensures ok { OnOk result (K.took sink.old sink.new text.now) }
+    ensures err { OnErr result ((n : ℕ) × K.took sink.old sink.new (take n text.now)) }
+    ensures counted { CountsFault (K.faults sink.old) (K.faults sink.new) result }
+{
+    let mut done = 0;
+    while done < text.len() {
+        match sink.push(&text[done..]) {
+            Ok(count) => done += count,
+            Err(PushFault) => return Err(PushFault),
+        }
+    }
+    Ok(())
 }

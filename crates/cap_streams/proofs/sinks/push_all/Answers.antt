@@ -1,7 +1,7 @@
 use Rattle.std.proofs.Common.{◌≡◌, ◌-◌, ℕ, List, [], take, drop, length, sym, subst, ap, ◌∙◌, append-nil, rules, arith}
 use Rattle.std.proofs.{Common.length-drop, Math.Seq.take-length}
 use lib.Seq.{take-add}
-use Rattle.cap_streams.proofs.pushing.push_all.Goals as goal
+use Rattle.cap_streams.proofs.sinks.push_all.Goals as goal
 
 pub loop-done-preserved : goal.loop-done-preserved
 loop-done-preserved g c =

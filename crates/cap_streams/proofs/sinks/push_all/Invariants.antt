@@ -1,5 +1,5 @@
 use Rattle.std.proofs.Common.{◌≡◌, ◌-◌, ◌≤◌, length, take}
-use Rattle.cap_streams.proofs.pushing.push_all.Given as goal
+use Rattle.cap_streams.proofs.sinks.push_all.Given as goal
 
 -- the sink took what is done
 abbrev pub invariant-loop-done : goal.invariant-loop-done
