@@ -7,9 +7,9 @@ ghost use Rattle.cap_heap.specs.{declared.log_parts.LogPart.TheVariants.Start, H
 ghost use Rattle.cap_heap.specs.Judgings.{JudgedBy, answer_at, finished_in, refused_in};
 
 use crate::events::EventEnd;
+use crate::log_parts::LogPart;
 use crate::progress::Progress;
 use crate::refusal::HeapRefusal;
-use crate::log_parts::LogPart;
 use crate::verdict::HeapVerdict;
 use cap_log::{FaultLine, JudgeFault, Lines, Next, PullFault, Source, front};
 use std::alloc::Global;

@@ -9,10 +9,10 @@ ghost use Rattle.cap_heap.specs.declared.log_parts.LogPart.TheVariants as stages
 use crate::events::{Event, EventEnd};
 use crate::heap::Heap;
 use crate::lines::HeapLine;
+use crate::log_parts::LogPart;
 use crate::readers::{is_header, read_heap_line};
 use crate::refusal::HeapRefusal;
 use crate::report::HeapReport;
-use crate::log_parts::LogPart;
 use cap_bounds::Interval;
 use std::alloc::Global;
 

@@ -11,11 +11,11 @@ ghost use Rattle.cap_heap.specs.{Heaps.objects_in, Progresses.{AreEventDetailsIn
 use crate::bad_lines::{put_bad_header, put_bad_line};
 use crate::events::Event;
 use crate::heap::Heap;
+use crate::log_parts::LogPart;
 use crate::progress::Progress;
 use crate::readers::read_event;
 use crate::refusal::HeapRefusal;
 use crate::report::alignment;
-use crate::log_parts::LogPart;
 use cap_bounds::{Interval, round, round_length};
 use cap_texts::cap_lines::put_bounds_line;
 use cap_texts::text_lines::{put_decimal_line, put_hex_line, put_line};

@@ -37,6 +37,6 @@ pub use crate::readers::{read_line, spellings_are_distinct, take_line};
 pub use crate::writers::{write_line, write_place, write_step};
 pub use cap_streams::{
     FailingSink, FailingSource, FaultLine, Front, JudgeFault, JudgeToFault, Lines, Next, PullFault,
-    ReadBuffer, PushFault, ReadSource, Sink, SliceSink, SliceSource, Source, WriteSink, front,
+    PushFault, ReadBuffer, ReadSource, Sink, SliceSink, SliceSource, Source, WriteSink, front,
     push_all,
 };

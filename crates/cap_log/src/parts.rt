@@ -4,8 +4,8 @@ ghost use Rattle.std.specs.Prelude.{ℕ, List, ◌+◌, ◌≤◌, length, IfSom
 ghost use Rattle.cap_log.specs.Parts.{Begins, BeginsWithNone, FitBoth, HasNoSpace, IsEnd, spaced};
 ghost use Rattle.cap_streams.specs.Written.{Writes};
 
-pub mod fronts;
 pub mod decimals;
+pub mod fronts;
 pub mod headers;
 pub mod hexadecimals;
 pub mod offsets;

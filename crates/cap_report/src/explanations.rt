@@ -14,8 +14,8 @@ ghost use Rattle.cap_report.specs.{FaultReports.IsLineReport, Whys.{Explains, Ex
 
 use crate::fault_reports::put_report;
 use cap_judge::{
-    RefusedLine, FaultLine, Judge, JudgeToFault, Judged, Verdict, judge_bytes_keeping, judge_keeping,
-    push_report, push_verdict, verdict_text,
+    FaultLine, Judge, JudgeToFault, Judged, RefusedLine, Verdict, judge_bytes_keeping,
+    judge_keeping, push_report, push_verdict, verdict_text,
 };
 use cap_log::buffers::put;
 use cap_log::{PushFault, Sink, Source, push_all};

@@ -127,7 +127,10 @@ fn range_of(word: Word) -> ReportPart
     ensures { result ≡ range_part word.0 }
 {
     match reach(word) {
-        Some((start, size)) => ReportPart::Representable(start, u128::from(start) + u128::from(size)),
+        Some((start, size)) => ReportPart::Representable(
+            start,
+            u128::from(start) + u128::from(size),
+        ),
         None => ReportPart::Representable(0, 1 << 64),
     }
 }
@@ -148,7 +151,11 @@ fn put_access<M: TaggedStore>(
             let authority = authority_in(machine, access.authority);
             let end = u128::from(access.address) + u128::from(access.size);
             let bytes = ReportPart::Access(access.address, end);
-            put_parts(buffer, at, &[authority, bytes, ReportPart::Needs(access.needs)])
+            put_parts(
+                buffer,
+                at,
+                &[authority, bytes, ReportPart::Needs(access.needs)],
+            )
         }
         None => at,
     }

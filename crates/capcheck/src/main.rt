@@ -3,11 +3,11 @@
 #![tactic(auto)]
 
 mod checks;
+mod explanations;
 mod judges;
 #[cfg(test)]
 mod rows;
 mod runs;
-mod explanations;
 #[cfg(test)]
 mod surface;
 #[cfg(test)]

@@ -5,8 +5,8 @@ ghost use Rattle.cap_program.specs.{Doings.{IsFollowed, TellsFaultLine, known_by
 ghost use Rattle.capcheck.specs.Doings.{order_meaning};
 
 use crate::checks::check_source;
-use crate::judges::judge_input;
 use crate::explanations::{show_explanation, show_rounding};
+use crate::judges::judge_input;
 use crate::words::Order;
 use cap_log::{Sink, Source};
 use cap_program::{Command, Fault, Output};

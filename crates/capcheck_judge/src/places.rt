@@ -7,7 +7,7 @@ ghost use Rattle.cap_halves.specs.Passed.{cap_of, no_cap};
 ghost use Rattle.capcheck_judge.specs.Handles.{AnswersExpected, Holds, IsGiven, IsPassed, held_in, origin_behind};
 ghost use Rattle.capcheck_judge.specs.Handles.{state_behind};
 
-use crate::answers::{PassedExpected, OptionalCap, PassedPlace};
+use crate::answers::{OptionalCap, PassedExpected, PassedPlace};
 use crate::handle::Handle;
 use cap_halves::halves::{no_capability, to_c};
 use cap_judge::Expected;

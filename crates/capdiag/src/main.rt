@@ -3,11 +3,11 @@
 #![tactic(auto)]
 
 mod complaints;
+mod help;
 mod judges;
 #[cfg(test)]
 mod rows;
 mod runs;
-mod help;
 #[cfg(test)]
 mod tests;
 mod words;
