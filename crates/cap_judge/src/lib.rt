@@ -26,7 +26,7 @@ pub use crate::laws::{
 pub use crate::origins::origin_text;
 pub use crate::output::{judge_origins, judge_to, push_report, push_verdict};
 pub use crate::streams::{
-    Judged, judge, judge_bytes, judge_bytes_keeping, judge_in, judge_keeping,
+    JudgeEnd, judge, judge_bytes, judge_bytes_keeping, judge_in, judge_keeping,
 };
 pub use crate::verdict::{Expected, TakeFault, Verdict};
 pub use crate::verdict_lines::{verdict_status, verdict_text};

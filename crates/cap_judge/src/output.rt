@@ -7,7 +7,7 @@ ghost use Rattle.cap_judge.specs.{OriginLists.report_text, Reports.{Reported, Te
 ghost use Rattle.cap_judge.specs.Verdicts.{NamesEscapes};
 
 use crate::origins::push_origins;
-use crate::streams::{Judged, judge_in, judge_keeping};
+use crate::streams::{JudgeEnd, judge_in, judge_keeping};
 use crate::verdict::Verdict;
 use crate::verdict_lines::verdict_text;
 use cap_log::{JudgeToFault, PushFault, Sink, Source, push_all};
@@ -52,7 +52,7 @@ pub fn judge_origins<S: Source, K: Sink>(
     ensures pulls_counted { CountsOnly (Err Pull) (S.faults source.old) (S.faults source.new) result }
     ensures pushes_counted { CountsOnly (Err Push) (K.faults sink.old) (K.faults sink.new) result }
 {
-    let Judged {
+    let JudgeEnd {
         answer,
         machine,
         ..

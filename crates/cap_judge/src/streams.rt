@@ -68,7 +68,7 @@ pub fn judge_in<S: Source, M: TaggedStore>(source: &mut S, memory: M) -> Result<
 
 /// What a judge leaves: its answer, the machine, and after a `no` the line that was refused.
 #[derive(Drop)]
-pub struct Judged<M: TaggedStore> {
+pub struct JudgeEnd<M: TaggedStore> {
     /// The answer.
     pub answer: Result<Verdict, JudgeFault>,
     /// The machine, as the lines before the end or the refused line left it.
@@ -79,7 +79,7 @@ pub struct Judged<M: TaggedStore> {
 
 /// Judges as [`judge_in`] does, and gives the machine with the answer: after a `yes` it is as the log's steps
 /// left it, and after a `no` as those before the line left it that was refused.
-pub fn judge_keeping<S: Source, M: TaggedStore>(source: &mut S, memory: M) -> Judged<M>
+pub fn judge_keeping<S: Source, M: TaggedStore>(source: &mut S, memory: M) -> JudgeEnd<M>
     requires { map.len (M.contents memory) ≡ 0 }
     ensures judged { JudgedBy S.gave S.ended source.old source.new result.answer result.machine (bytes_of result.fault) }
     ensures counted { CountsOnly (Err Pull) (S.faults source.old) (S.faults source.new) result.answer }
@@ -87,7 +87,7 @@ pub fn judge_keeping<S: Source, M: TaggedStore>(source: &mut S, memory: M) -> Ju
     let mut judge = Judge::new(memory);
     let (answer, fault) = judge_source(&mut judge, source);
     let Judge { machine, .. } = judge;
-    Judged {
+    JudgeEnd {
         answer,
         machine,
         fault,
@@ -96,14 +96,14 @@ pub fn judge_keeping<S: Source, M: TaggedStore>(source: &mut S, memory: M) -> Ju
 
 /// Judges the bytes of a log as [`judge_bytes`] does, with the granules in a store that is empty,
 /// and gives the machine with the answer, as [`judge_keeping`] does.
-pub fn judge_bytes_keeping<M: TaggedStore>(bytes: &[u8], memory: M) -> Judged<M>
+pub fn judge_bytes_keeping<M: TaggedStore>(bytes: &[u8], memory: M) -> JudgeEnd<M>
     requires { map.len (M.contents memory) ≡ 0 }
     ensures judged { JudgedAll bytes.now result.answer result.machine (bytes_of result.fault) }
 {
     let mut judge = Judge::new(memory);
     let (answer, fault) = judge_all(&mut judge, bytes);
     let Judge { machine, .. } = judge;
-    Judged {
+    JudgeEnd {
         answer,
         machine,
         fault,

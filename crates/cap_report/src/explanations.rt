@@ -14,7 +14,7 @@ ghost use Rattle.cap_report.specs.{FaultReports.IsLineReport, Whys.{Explains, Ex
 
 use crate::fault_reports::put_report;
 use cap_judge::{
-    FaultLine, Judge, JudgeToFault, Judged, RefusedLine, Verdict, judge_bytes_keeping,
+    FaultLine, Judge, JudgeEnd, JudgeToFault, RefusedLine, Verdict, judge_bytes_keeping,
     judge_keeping, push_report, push_verdict, verdict_text,
 };
 use cap_log::buffers::put;
@@ -125,7 +125,7 @@ fn push_fault<M: TaggedStore, K: Sink>(
 
 // Pushes the text of what a judge leaves, if it has a verdict.
 fn push_judging<M: TaggedStore, K: Sink>(
-    judging: &Judged<M>,
+    judging: &JudgeEnd<M>,
     origins: bool,
     sink: &mut K,
 ) -> Result<Verdict, JudgeToFault>
