@@ -4,7 +4,7 @@ use Rattle.std.proofs.Common.{◌≡◌, ◌≢◌, ◌↔◌, ℕ, Bool, true, 
 use Rattle.std.proofs.Common.{refl, sym, append-nil}
 use Rattle.cap_streams.specs.declared.judge_faults.{JudgeFault.JudgeFault, JudgeToFault.JudgeToFault}
 use Rattle.cap_streams.specs.{declared.judge_faults.JudgeToFault.TheVariants.{Pull, NoMemory, Push}, Streams.next_count}
-use Rattle.cap_program.specs.{declared.faults.RefusedLine.RefusedLine, Doings.IsCounted, Faults.status_of}
+use Rattle.cap_program.specs.{declared.faults.Fault.Fault, Doings.IsCounted, Faults.status_of}
 use Rattle.cap_program.specs.Judging.{StopsJudging, judged}
 
 module _ {V : Type 0} (status : V → ℕ) (before after : ℕ) where

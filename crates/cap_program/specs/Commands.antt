@@ -1,6 +1,6 @@
 -- What the orders of a program mean. All of it is this profile's own.
 use Rattle.std.specs.{Prelude.{◌≡◌, ◌≤◌, ◌↔◌, ℕ, Bool, true, List, [], Option, Some}, Io.KnownBytes.Consumes}
-use Rattle.cap_program.specs.{declared.faults.RefusedLine.RefusedLine, Faults.status_of}
+use Rattle.cap_program.specs.{declared.faults.Fault.Fault, Faults.status_of}
 
 -- the program's name, and for an order, or none: the text that belongs to it and the bytes given for it, with its
 -- status; the fault that belongs to them, but for one of the output; the text that it prints for an input, with its

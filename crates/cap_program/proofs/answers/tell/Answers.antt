@@ -1,5 +1,5 @@
 use Rattle.std.proofs.Common.{ℕ, Result, rules, subst, sym}
-use Rattle.cap_program.specs.{declared.faults.RefusedLine.RefusedLine, Doings.{IsPushed, TellsFaultLine}, Faults.fault_line}
+use Rattle.cap_program.specs.{declared.faults.Fault.Fault, Doings.{IsPushed, TellsFaultLine}, Faults.fault_line}
 use Rattle.cap_program.proofs.Doing.{begun}
 use Rattle.cap_program.proofs.answers.tell.Goals as goal
 
