@@ -18,7 +18,7 @@ import time
 TOP = os.path.dirname(os.path.dirname(os.path.abspath(__file__)))
 FILE, PAGE = f"{TOP}/bench/out/cost.tsv", f"{TOP}/CONTRIBUTING.md"
 UNIT = ("cap_word", "proof")
-HEAD = "| Crate | Units | Proof | Tests | Base of the edits | Edits |\n|---|---|---|---|---|---|\n"
+HEAD = "| Crate | Units | Proof | Building | Tests | Base of the edits | Edits |\n|---|---|---|---|---|---|---|\n"
 TICK, PAUSE = os.sysconf("SC_CLK_TCK"), 0.5
 
 
@@ -131,7 +131,6 @@ def measured(path):
         if what == "edit":
             edits.setdefault(crate, {}).setdefault(edit, []).append(float(seconds))
         else:
-            what = "proof" if what == "compiling" else what
             crates.setdefault(crate, {}).setdefault(what, 0.0)
             crates[crate][what] += float(seconds)
     for crate, own in edits.items():
@@ -149,11 +148,11 @@ def rows(crates, edits, unit):
     """The table's rows, the dearest first: units, and how many edits there are."""
     shown = []
     for crate, taken in sorted(crates.items(), key=lambda it: -sum(it[1].values())):
-        parts = [f"{taken[it] / unit:.1f}" if taken.get(it) else "" for it in ("proof", "tests", "base", "edits")]
-        parts[3] += f" ({len(edits[crate])})" if crate in edits else ""
+        parts = [f"{taken[it] / unit:.1f}" if taken.get(it) else "" for it in ("proof", "compiling", "tests", "base", "edits")]
+        parts[4] += f" ({len(edits[crate])})" if crate in edits else ""
         shown.append(f"| `{crate}` | {sum(taken.values()) / unit:.1f} | {' | '.join(parts)} |".replace("|  |", "| |").replace("|  |", "| |"))
     total = sum(sum(it.values()) for it in crates.values())
-    return [*shown, f"| all | {total / unit:.1f} | | | | |"]
+    return [*shown, f"| all | {total / unit:.1f} | | | | | |"]
 
 
 def table_in(page):
