@@ -8,7 +8,7 @@ use Rattle.cap_log.specs.{declared.lines.Place.{Place, TheVariants.{Register, Gr
 use Rattle.cap_streams.specs.declared.sinks.PushFault.{PushFault}
 use Rattle.tagmem.specs.Granules.{Entry, NonePut, IsNextPut, blank, code_at}
 use Rattle.cap_machine.specs.{Helds.{Held, account_of}, Places.place_at, States.key_of}
-use Rattle.cap_judge.specs.{OriginLines.origin_line, OriginLists.{place_of, listed, origins_from, lines_from}}
+use Rattle.cap_judge.specs.{VerdictLines.origin_line, OriginLists.{place_of, listed, origins_from, lines_from}}
 use Rattle.cap_judge.specs.{OriginLists.held_lines, Origins.{Origin, origin_lines}}
 
 -- the lines of two lists

@@ -8,7 +8,7 @@ use Rattle.std.proofs.lemmas.List.Elements.{All-nil, Contains-append_left, Conta
 use Rattle.std.proofs.lemmas.Option.{none-some, same_Some}
 use Rattle.cap_word.specs.declared.word.Cap.{Cap}
 use Rattle.cap_streams.specs.declared.judge_faults.JudgeFault.{JudgeFault, TheVariants.{NoMemory, Pull}}
-use Rattle.cap_streams.specs.JudgeFaults.{told_fault}
+use Rattle.cap_streams.specs.FaultLines.{told_fault}
 use Rattle.cap_log.specs.{declared.lines.Place.{Place, TheVariants.{Register, Granule}}, Lines.IsPlace}
 use Rattle.tagmem.specs.Granules.{AreStored, Entry}
 use Rattle.cap_machine.specs.{Accounts.Account, Helds.{Held, account_of, state_of, code_in}}

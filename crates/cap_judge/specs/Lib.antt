@@ -1,6 +1,5 @@
 pub mod Logs
 pub mod VerdictLines
-pub mod OriginLines
 pub mod Turns
 pub mod Verdicts
 pub mod Judgings

@@ -5,7 +5,7 @@ use Rattle.std.specs.{List.Sorted.IsStrictlySortedBy, Ordering.nat_cmp}
 use Rattle.cap_log.specs.{declared.{kinds.Step.Step, lines.Place.Place}, Lines.IsPlace}
 use Rattle.cap_machine.specs.{declared.rules.Rules.Rules, Runs.{IsRun, DescendsFrom, last_of}}
 use Rattle.cap_machine.specs.States.{State, DeclaredRoot, key_of, start}
-use Rattle.cap_judge.specs.{Logs.IsLogOf, OriginLines.origin_line}
+use Rattle.cap_judge.specs.{Logs.IsLogOf, VerdictLines.origin_line}
 
 -- a place, and the place of a root
 pub record Origin : Type 0 where

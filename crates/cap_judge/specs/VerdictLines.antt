@@ -1,6 +1,7 @@
--- The line of a verdict, and its exit status.
+-- The line of a verdict, its exit status, and the line of an origin.
 use Rattle.std.specs.Prelude.{ℕ, List, ◌++◌, codes, decimal}
 use Rattle.cap_ops.specs.Refusals.{refusal_number, refusal_name}
+use Rattle.cap_log.specs.{declared.lines.Place.Place, Lines.place_spelling}
 use Rattle.cap_judge.specs.declared.verdict.Verdict.{Verdict, TheVariants.{Yes, No}}
 
 -- the verdict as a line (this profile's own)
@@ -13,3 +14,7 @@ verdict_line (No line refusal) =
 abbrev pub verdict_status : Verdict → ℕ
 verdict_status (Yes steps roots) = 0
 verdict_status (No line refusal) = 1
+
+-- a place and the place of its root, as a log spells them, with a line feed (this profile's own)
+abbrev pub origin_line : Place → Place → List ℕ
+origin_line place root = codes "origin " ++ place_spelling place ++ codes " " ++ place_spelling root ++ codes "\n"

@@ -4,7 +4,7 @@ ghost use Rattle.std.specs.Prelude.{◌≡◌, ◌≤◌, ℕ, ◌+◌, ◌^◌,
 ghost use Rattle.cap_log.specs.Lines.{IsPlace};
 ghost use Rattle.cap_streams.specs.Streams.{CountsFault};
 ghost use Rattle.cap_machine.specs.States.{key_of};
-ghost use Rattle.cap_judge.specs.{OriginLines.origin_line, OriginLists.held_lines};
+ghost use Rattle.cap_judge.specs.{OriginLists.held_lines, VerdictLines.origin_line};
 
 use cap_log::buffers::{put, put_place};
 use cap_log::{Place, PushFault, Sink, push_all};

@@ -1,7 +1,6 @@
 pub mod Accesses
 pub mod Authority
 pub mod Checks
-pub mod Faults
 pub mod Operations
 pub mod Permissions
 pub mod Refusals

@@ -82,3 +82,7 @@ refusal_of faults.TypeMismatch = TypeMismatch
 refusal_of faults.Misaligned = Misaligned
 refusal_of faults.StoreCapPermission = StoreCapPermission
 refusal_of faults.StoreLocalPermission = StoreLocalPermission
+
+-- the number of a fault, which is its refusal's (this profile's own)
+abbrev pub fault_number : OpFault → ℕ
+fault_number fault = refusal_number (refusal_of fault)

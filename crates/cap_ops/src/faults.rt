@@ -38,7 +38,7 @@ pub enum OpFault {
 
 impl OpFault {
     ghost use Rattle.std.specs.Prelude.{◌≡◌};
-    ghost use Rattle.cap_ops.specs.Faults.{fault_number};
+    ghost use Rattle.cap_ops.specs.Refusals.{fault_number};
 
     /// The number of the refusal, 9 to 22.
     pub fn number(&self) -> u8

@@ -1,7 +1,5 @@
-pub mod Failings
 pub mod FaultLines
 pub mod Front
-pub mod JudgeFaults
 pub mod Known
 pub mod ReadBuffers
 pub mod Slices

@@ -1,7 +1,7 @@
 //! Why a judge of lines gave no verdict, or did not write it.
 
 ghost use Rattle.std.specs.Prelude.{◌≡◌};
-ghost use Rattle.cap_streams.specs.{declared.judge_faults.JudgeToFault.TheVariants.Push, JudgeFaults.told_fault};
+ghost use Rattle.cap_streams.specs.{declared.judge_faults.JudgeToFault.TheVariants.Push, FaultLines.told_fault};
 
 use crate::sinks::PushFault;
 

@@ -1,6 +1,5 @@
 pub mod TextLines
 pub mod WrongLines
-pub mod RoundLines
 pub mod ExplainLines
 pub mod Fields
 pub mod ShownBytes

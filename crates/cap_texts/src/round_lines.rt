@@ -1,7 +1,7 @@
 //! The text of a rounding.
 
 ghost use Rattle.std.specs.Prelude.{◌≡◌, ◌≤◌, length, take, drop};
-ghost use Rattle.cap_texts.specs.RoundLines.{round_lines};
+ghost use Rattle.cap_texts.specs.TextLines.{round_lines};
 
 use crate::text_lines::{put_answer_line, put_decimal_line, put_hex_line};
 use cap_bounds::Rounded;

@@ -11,7 +11,7 @@ use Rattle.std.proofs.lemmas.Simd.{Each1-get_or, splat_is_map, zip2_splat, zip2_
 use lib.Bits.{bit_or}
 use lib.Lanes.{Each1, sel_l, mask_l, zip2, top}
 use Rattle.hex.specs.Hex.{encode_with, encode_lower}
-use Rattle.cap_word.specs.{Digits.{hex_digit, hex_digits}, Lanes.IsLaneOf}
+use Rattle.cap_word.specs.Digits.{hex_digit, hex_digits, IsLaneOf}
 
 -- a lane is a byte
 below_256 : (v : List ℕ) → (length v ≡ 16) × Each1 (Fits w8) v → (i : ℕ) → i < 16 → get_or v i 0 < 256

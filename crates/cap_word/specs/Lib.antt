@@ -2,4 +2,3 @@ pub mod Fields
 pub mod Memory
 pub mod Word
 pub mod Digits
-pub mod Lanes

@@ -2,7 +2,7 @@
 use Rattle.std.specs.Prelude.{◌≡◌, ◌↔◌, ℕ, ◌+◌, ◌^◌, ◌≤◌, Bool, List, Option, Some, None, IfSome, IsTrue}
 use Rattle.cap_bounds.specs.declared.rounding.Rounded.{Rounded}
 use Rattle.cap_bounds.specs.Rounding.{rounded_base, rounded_top, rounded_ie, rounded_exponent, IsExact}
-use Rattle.cap_texts.specs.{ExplainLines.explain_lines, RoundLines.round_lines}
+use Rattle.cap_texts.specs.{ExplainLines.explain_lines, TextLines.round_lines}
 use Rattle.cap_vectors.specs.declared.files.VectorVerdict.{VectorVerdict, TheVariants.{Pass, Fail}}
 use Rattle.cap_vectors.specs.VectorFiles.{IsVectorVerdict, vector_line}
 use Rattle.cap_judge.specs.{declared.verdict.Verdict.Verdict, Reports.Tells, VerdictLines.verdict_status}

@@ -3,7 +3,7 @@
 ghost use Rattle.std.specs.Prelude.{◌≡◌, ◌≢◌, ◌≤◌, ◌+◌, ◌&&◌, ◌↔◌, MatchResult, IsFalse, IsTrue, bit_and};
 ghost use Rattle.cap_word.specs.Fields.{address_of, otype_of};
 ghost use Rattle.cap_bounds.specs.{Bounds.{IsInside, IsSound, base_of, top_of}, Range.IsRepresentable};
-ghost use Rattle.cap_ops.specs.{Authority.StaysWithin, Faults.fault_number};
+ghost use Rattle.cap_ops.specs.{Authority.StaysWithin, Refusals.fault_number};
 ghost use Rattle.cap_ops.specs.Permissions.{permit_global, has_permission, is_sealed, perm_view_of};
 ghost use Rattle.cap_ops.specs.Operations as ops;
 ghost use Rattle.cap_halves.specs.Passed.{cap_of, is_set, no_cap, whole_of};

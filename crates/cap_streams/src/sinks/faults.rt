@@ -3,7 +3,7 @@
 ghost use Rattle.std.specs.Prelude.{◌≡◌, ◌≢◌, ◌+◌, ◌-◌, ◌%◌, ◌^◌, ◌≤◌, ◌<◌, [], length, take, None, Some, option_map};
 ghost use Rattle.std.specs.Prelude.{IfOk, IsErr, OnErr};
 ghost use Rattle.std.proofs.{Math.Nat.mod-lt, lemmas.Nat.pow_pos};
-ghost use Rattle.cap_streams.specs.{Failings.{inner_sink, own_faults, pushes_left}, Streams.{CountsFault, next_count}};
+ghost use Rattle.cap_streams.specs.{Streams.{CountsFault, next_count}, Wrapped.{inner_sink, own_faults, pushes_left}};
 
 use crate::sinks::{PushFault, Sink};
 

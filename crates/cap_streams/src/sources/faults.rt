@@ -3,7 +3,7 @@
 ghost use Rattle.std.specs.Prelude.{◌≡◌, ◌≢◌, ◌+◌, ◌-◌, ◌%◌, ◌^◌, ◌≤◌, [], false, length, take, if◌then◌else◌, None};
 ghost use Rattle.std.specs.Prelude.{Some, option_map, IfOk, IsErr, OnErr};
 ghost use Rattle.std.proofs.{Math.Nat.mod-lt, lemmas.Nat.pow_pos};
-ghost use Rattle.cap_streams.specs.Failings.{has_just_failed, inner_source, own_faults, pulls_left};
+ghost use Rattle.cap_streams.specs.Wrapped.{has_just_failed, inner_source, own_faults, pulls_left};
 ghost use Rattle.cap_streams.specs.Streams.{CountsFault, is_end, next_count};
 
 use crate::sources::{PullFault, Source};

@@ -4,7 +4,7 @@ use Rattle.std.proofs.{Common.{cond, ◌-◌, ◌/◌, ◌^◌, Fits, w8, w64}, 
 use Rattle.std.proofs.lemmas.Simd.{Each1-from_get_or}
 use lib.Lanes.{Each1}
 use Rattle.hex.specs.Hex.{encode_lower}
-use Rattle.cap_word.specs.{Digits.hex_digits, Lanes.IsLaneOf}
+use Rattle.cap_word.specs.Digits.{hex_digits, IsLaneOf}
 use Rattle.cap_word.proofs.DigitLemmas.{front-small, front_digits, hex_of_bytes}
 use Rattle.cap_word.proofs.LaneLemmas.{all_low, digit_at, lane_at, lanes_fit, not_all_low, pair_spelled, pairs}
 use Rattle.cap_word.proofs.LaneLemmas.{pairs_at, pairs_fit, spelled}
