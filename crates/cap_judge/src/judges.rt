@@ -18,6 +18,7 @@ ghost use Rattle.cap_judge.specs.Readings.{IsFaultOf, IsNoLine, Lacks, StopsAt, 
 ghost use Rattle.cap_judge.specs.Readings.{lines_read, long_refusal, stage_of, verdict_so_far};
 ghost use Rattle.cap_judge.specs.{Turns.{refusal_at, rules_of, unread}, Verdicts.NamesEscapes};
 ghost use Rattle.cap_judge.specs.declared.judges.Stop.TheVariants as stops;
+ghost use Rattle.cap_judge.specs.Turns as turns;
 
 use crate::expectation::expected_by;
 use crate::faults::RefusedLine;
@@ -270,24 +271,6 @@ impl<M: TaggedStore> Judge<M> {
         }
     }
 
-    /// Takes a step by its numbers, as [`Judge::take_line`] takes the line that spells it, with its line feed. The
-    /// line is only written if the step isn't made: it is refused, memory runs out, or a step doesn't belong there.
-    /// If memory runs out, nothing has changed, and the step may be handed over again.
-    #[inline(always)]
-    pub fn take_step<I: Instruction>(&mut self, step: I) -> Result<(), TakeFault>
-        ensures taken { OnOk result (Follows (stage_of self.old) (spelling (lines.Step (I.step step)) ++ 10 ∷ [])
-            (stage_of self.new)) }
-        ensures unchanged { IfErr result (λ _. known_of self.new ≡ known_of self.old) }
-        ensures line { result ≢ Err NoLine }
-        ensures no_memory { result ≡ Err NoMemory
-            → Lacks (stage_of self.old) (spelling (lines.Step (I.step step)) ++ 10 ∷ []) [] }
-    {
-        match self.make_step(step) {
-            Ok(()) => Ok(()),
-            Err(end) => self.take_unmade(step.into_step(), end),
-        }
-    }
-
     /// Makes a step by its numbers, if a step may come next. If it isn't made, nothing has changed:
     /// [`Judge::take_unmade`] takes it, with the reason at which it ended, if it was tried.
     #[inline(always)]
@@ -297,6 +280,7 @@ impl<M: TaggedStore> Judge<M> {
         ensures goes_on { OnOk result (verdict_so_far (stage_of self.new).due ≡ None) }
         ensures same { IfErr result (λ _. self.new ≡ self.old) }
         ensures unmade { IfErr result (λ end. IfSome end (IsUnmade self.old (I.step step))) }
+        ensures untried { result ≡ Err None → (stage_of self.old).due ≢ turns.Body }
     {
         if let NextLine::Body = self.stage {
             return match step.perform(&mut self.machine) {
