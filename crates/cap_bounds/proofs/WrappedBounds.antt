@@ -1,8 +1,10 @@
 -- What the code computes of bounds in 64 bits: the window's start, the base, and the top that hangs on no address.
 use Rattle.std.proofs.Common.{◌≡◌, ℕ, ◌+◌, ◌-◌, ◌*◌, ◌/◌, ◌%◌, ◌^◌, ◌<◌, ◌≤◌, sym, ap, ◌∙◌, arith, pow_pos, shr-shr}
+use Rattle.std.proofs.Common.{mul-le-mul_right}
 use Rattle.std.proofs.{Math.Nat.add-mul-div_right, lemmas.Nat.{shl_whole, shl_below}}
-use Rattle.cap_bounds.specs.Bounds.{raw_base_at, top_at, window_start_at}
-use Rattle.cap_bounds.proofs.{Decoded.top_at-uncorrected, Powers.{pow_split, pow_le, eighth_is, size_covers}}
+use Rattle.cap_word.specs.Fields.{address_of, b_of, ie_of, t_of}
+use Rattle.cap_bounds.specs.Bounds.{IsSound, base_of, cut_exponent_of, raw_base_at, span_at, top_at, top_of, window_start_at}
+use Rattle.cap_bounds.proofs.{Decoded.{decoded, top_at-uncorrected}, Powers.{pow_split, pow_le, eighth_is, size_covers}}
 use Rattle.cap_bounds.proofs.Windows.{eighth_of, eighth-le, eighth-gt, eighth-mod}
 
 -- a wrapped difference from a multiple of 2048 below 2 ^ 14, modulo 2 ^ 14
@@ -112,17 +114,13 @@ top_without_address e b a d h =
     sym (far_sum (((a + 2 ^ 66) / 2 ^ (e + 11) + 1 - b / 2 ^ 11) / 8) b d (2 ^ e) (2 ^ (e - 51)) windows)
     ∙ sym (top_at-uncorrected e (raw_base_at e b a) (d * 2 ^ e) h)
 
--- bytes in the bounds of a sound word, by how far the first of them and the last byte in bounds lie above the base
-pub in_bounds : (base length top address count first last : ℕ) → base + length ≡ top → top ≤ 2 ^ 64
-    → address < 2 ^ 64 → 0 < count → 0 < length
-    → first ≡ (address + (2 ^ 64 - base)) % 2 ^ 64 → last ≡ (length % 2 ^ 64 + (2 ^ 64 - 1)) % 2 ^ 64
-    → first ≤ last → count - 1 ≤ last - first → (base ≤ address) × (address + count ≤ top)
-in_bounds base length top address count first last whole fits small some long first_is last_is order room = (omega arith, omega arith)
-
-pub bounds_in : (base length top address count first last : ℕ) → base + length ≡ top → top ≤ 2 ^ 64 → address < 2 ^ 64 → 0 < count
-    → first ≡ (address + (2 ^ 64 - base)) % 2 ^ 64 → last ≡ (length % 2 ^ 64 + (2 ^ 64 - 1)) % 2 ^ 64
-    → base ≤ address → address + count ≤ top → (first ≤ last) × (count - 1 ≤ last - first)
-bounds_in base length top address count first last whole fits small some first_is last_is from until = (omega arith, omega arith)
+-- the base of a sound word that holds some address, and its last address, from what it decodes to
+pub extent_is : (w e b d a base : ℕ) → IsSound w → e ≡ cut_exponent_of w → b ≡ b_of w → d ≡ span_at (b_of w) (t_of w) (ie_of w)
+    → a ≡ address_of w → base ≡ raw_base_at e b a % 2 ^ 64 → 0 < d
+    → (base ≡ base_of w) × (base + ((d * 2 ^ e % 2 ^ 64 + (2 ^ 64 - 1)) % 2 ^ 64 + 1) ≡ top_of w)
+extent_is w e b d a base is_sound e_is b_is d_is a_is base_is some =
+    let is = decoded w e b d a e_is b_is d_is a_is in
+    (base_is ∙ is.0, omega (arith, is_sound, is.0, is.1, base_is, mul-le-mul_right (2 ^ e) some, pow_pos e))
 
 pub short_shifted : (e d : ℕ) → e ≤ 50 → d < 2 ^ 13 → d * 2 ^ e % 2 ^ 64 ≡ d * 2 ^ e
 short_shifted e d he hd = shl_whole d 13 e 64 hd (omega arith)

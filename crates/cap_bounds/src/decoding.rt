@@ -1,6 +1,6 @@
 //! The bounds that a word has.
 
-ghost use Rattle.std.specs.Prelude.{◌≡◌, ◌<◌, ◌≤◌, ◌+◌, ◌*◌, ◌%◌, ◌^◌, ◌↔◌, ℕ, IsTrue};
+ghost use Rattle.std.specs.Prelude.{◌≡◌, ◌<◌, ◌≤◌, ◌+◌, ◌*◌, ◌%◌, ◌^◌, ◌↔◌, ℕ, IsTrue, IfSome, None};
 ghost use Rattle.cap_word.specs.Fields.{b_of, ie_of, t_of};
 ghost use Rattle.cap_bounds.specs.Bounds.{AreBounds, IsInside, IsMantissa, IsSound, base_of, cut_exponent_of};
 ghost use Rattle.cap_bounds.specs.Bounds.{length_of, mantissa_of, raw_base_at, span_at, span_of, top_of, unit_of};
@@ -203,15 +203,49 @@ pub fn bounds(word: Word) -> Interval
     Interval { base, top }
 }
 
-/// Whether `count` bytes from an address, at least one, lie in the bounds of a sound word. The result is that of
-/// [`bounds`], computed in 64 bits.
+/// The addresses that a sound word holds, at least one.
+#[derive(Clone, Copy)]
+pub struct Extent {
+    /// The lowest address.
+    pub base: u64,
+    /// How far the highest address lies above it.
+    pub last: u64,
+    pub ghost fits: { base + last < 2 ^ 64 },
+}
+
+impl Extent {
+    /// Whether an address and the `more` addresses after it are among them.
+    #[inline(always)]
+    pub fn holds(self, address: u64, more: u64) -> bool
+        ensures inside { IsTrue result ↔ IsInside address (address + (more + 1)) self.base (self.base + (self.last + 1)) }
+    {
+        let first = address.wrapping_sub(self.base);
+        if first > self.last {
+            return false;
+        }
+        self.last - first >= more
+    }
+}
+
+/// The addresses that a sound word holds, computed in 64 bits, or `None` if it holds none.
 #[inline(always)]
-pub fn sound_word_holds(word: Word, address: u64, count: u8) -> bool
+pub fn extent_of(word: Word) -> Option<Extent>
     requires sound { IsSound word.0 }
-    requires some { 0 < count }
-    ensures inside { IsTrue result ↔ IsInside address (address + count) (base_of word.0) (top_of word.0) }
+    ensures some { IfSome result (λ extent. (extent.base ≡ base_of word.0) × (extent.base + (extent.last + 1) ≡ top_of word.0)) }
+    ensures none { result ≡ None → base_of word.0 ≡ top_of word.0 }
 {
-    sound_word_holds_more(word, address, u64::from(count - 1))
+    let Scale {
+        cut_exponent,
+        b,
+        span,
+    } = scale_of(word);
+    if span == 0 {
+        return None;
+    }
+    Some(Extent {
+        base: base_from(cut_exponent, b, word.address()),
+        last: (span << cut_exponent).wrapping_sub(1),
+    })
 }
 
 /// Whether an address and the `more` addresses after it lie in the bounds of a sound word, computed in 64 bits.
@@ -220,21 +254,10 @@ pub fn sound_word_holds_more(word: Word, address: u64, more: u64) -> bool
     requires sound { IsSound word.0 }
     ensures inside { IsTrue result ↔ IsInside address (address + (more + 1)) (base_of word.0) (top_of word.0) }
 {
-    let Scale {
-        cut_exponent,
-        b,
-        span,
-    } = scale_of(word);
-    if span == 0 {
-        return false;
+    match extent_of(word) {
+        Some(extent) => extent.holds(address, more),
+        None => false,
     }
-    // How far the first address and the last one in bounds lie above the base.
-    let first = address.wrapping_sub(base_from(cut_exponent, b, word.address()));
-    let last = (span << cut_exponent).wrapping_sub(1);
-    if first > last {
-        return false;
-    }
-    last - first >= more
 }
 
 /// Whether a word is sound: its top is its base plus its length, and is at most 2^64.

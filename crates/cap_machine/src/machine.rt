@@ -25,7 +25,7 @@ use crate::rules::Rules;
 use crate::shown::{Reached, Shown};
 use cap_bounds::sound;
 use cap_log::{Datum, Offset, Operands, Place, Register, Size, Step, Target};
-use cap_ops::{Access, Kind, OpFault, Refusal, may_access_soundly};
+use cap_ops::{Access, Kind, OpFault, RecentAuthority, Refusal, may_access_soundly};
 use cap_word::{Cap, Word, from_memory, null, to_memory};
 use std::marker::Model;
 use tagmem::{NoMemory, TaggedStore};
@@ -49,6 +49,7 @@ pub struct Machine<M: TaggedStore> {
     memory: M,
     roots: u32,
     pub(crate) steps: u32,
+    recent: RecentAuthority,
 }
 
 impl<M: TaggedStore> Model for Machine<M> {
@@ -96,6 +97,7 @@ impl<M: TaggedStore> Machine<M> {
             memory,
             roots: 0,
             steps: 0,
+            recent: RecentAuthority::new(),
         }
     }
 
@@ -373,10 +375,11 @@ impl<M: TaggedStore> Machine<M> {
         Ok(())
     }
 
-    // The address of a step's access through a register, or how the step ends that this doesn't allow.
+    // The address of a step's access through a register, or how the step ends that this doesn't allow. Only the recent
+    // authority changes.
     #[inline(always)]
     pub(crate) fn reach<O: Operands>(
-        &self,
+        &mut self,
         step: &O,
         authority: Register,
         kind: Kind,
@@ -384,15 +387,16 @@ impl<M: TaggedStore> Machine<M> {
         size: u8,
     ) -> Result<u64, StepEnd>
         requires size { IsTrue (size_fits kind size) }
-        requires row { let state = state_of self.now in
+        requires row { let state = state_of self.old in
             IsAccess (row_of state (O.step step.now)) authority kind offset size state }
-        ensures outcome { let held = self.now in
+        ensures outcome { let held = self.old in
             MatchResult result
             (λ address. let row = row_of (state_of held) (O.step step.now) in
             (first_of row.checks ≡ None) × (address ≡ address_in row.access))
             (λ end. EndsStep held (O.step step.now) end held) }
         ensures in_one_granule { IfOk result (λ address. address % 16 + size ≤ 16) }
         ensures range { IsStepInRange (O.step step.now) }
+        ensures same { self.new ≡ self.old }
     {
         step.in_range();
         let access = Access {
@@ -400,9 +404,10 @@ impl<M: TaggedStore> Machine<M> {
             offset: offset.number(),
             size,
         };
-        match may_access_soundly(self.register(authority.number()), access) {
+        let authority = self.register(authority.number());
+        match may_access_soundly(authority, access, &mut self.recent) {
             Ok(address) => Ok(address),
-            Err(fault) => Err(StepEnd::from(fault)),
+            Err(fault) => return Err(StepEnd::from(fault)),
         }
     }
 

@@ -1,6 +1,7 @@
 -- What follows where no test refuses an access.
-use Rattle.std.proofs.Common.{◌≡◌, ℕ, ◌+◌, ◌%◌, ◌≤◌, ℤ, true, ◌==◌, None, ◌||◌, inl, inr, sym, subst, arith, eqb-true}
-use Rattle.std.proofs.lemmas.Bool.{not-false, or_cases}
+use Rattle.std.proofs.Common.{◌≡◌, ℕ, ◌+◌, ◌%◌, ◌≤◌, ◌-◌, ◌^◌, ℤ, pos, negsuc, neg_ℤ, ◌≤ℤ◌, true, ◌==◌, None, ◌||◌, inl, inr, sym, subst, arith, eqb-true}
+use Rattle.std.proofs.lemmas.{Bool.{not-false, or_cases}, Int.{ints}}
+use Rattle.cap_word.specs.Fields.{address_of}
 use Rattle.cap_word.specs.declared.word.Cap.{Cap}
 use Rattle.cap_ops.specs.declared.kinds.Kind.{Kind, TheVariants.{LoadData, StoreData, LoadCap, StoreCap}}
 use Rattle.cap_ops.specs.{Accesses.{IsAllowed, access_address, access_checks, permission_for}, Checks.first_of}
@@ -40,3 +41,10 @@ in_granule LoadData address size h aligned = data_in_granule address size h alig
 in_granule StoreData address size h aligned = data_in_granule address size h aligned
 in_granule LoadCap address size h aligned = one_granule address size 16 (eqb-true _ _ h) aligned (λ a. omega arith)
 in_granule (StoreCap stored) address size h aligned = one_granule address size 16 (eqb-true _ _ h) aligned (λ a. omega arith)
+
+-- the authority's address lies at most 2048 below that of an access, or 2047 above it: both are given 2 ^ 64 higher
+pub authority_near : (w address : ℕ) (offset : ℤ) → neg_ℤ (pos 2048) ≤ℤ offset → offset ≤ℤ pos 2047 → address ≡ access_address w offset
+    → (x : ℕ) × (x % 2 ^ 64 ≡ address_of w) × (address + 2 ^ 64 ≤ x + 2 ^ 11) × (x ≤ address + 2 ^ 64 + 2 ^ 11)
+unfolding access_address
+authority_near w address (pos n) from until at = (address + 2 ^ 64 - n, omega (arith, ints), omega (arith, ints), omega (arith, ints))
+authority_near w address (negsuc n) from until at = (address + 2 ^ 64 + n + 1, omega (arith, ints), omega (arith, ints), omega (arith, ints))

@@ -14,8 +14,8 @@ use crate::bits::{
 use crate::faults::OpFault;
 use crate::kinds::Kind;
 use crate::narrowing::covers;
+use crate::recent::RecentAuthority;
 use crate::sealing::sealed;
-use cap_bounds::sound_word_holds;
 use cap_word::{Cap, Word};
 
 /// The number of the permission that a kind of access needs.
@@ -27,21 +27,6 @@ fn needed(kind: Kind) -> u32
     match kind {
         Kind::LoadData | Kind::LoadCap => PERMIT_LOAD,
         Kind::StoreData | Kind::StoreCap(_) => PERMIT_STORE,
-    }
-}
-
-/// Whether `size` bytes from an address on lie in a word's bounds. Those of a sound word need 64 bits only.
-#[tactic(auto, unfolding(crate::specs::Operations::covers))]
-#[inline(always)]
-fn holds_bytes<const SOUND: bool>(word: Word, address: u64, size: u8) -> bool
-    requires sound { SOUND ≡ true → IsSound word.0 }
-    requires some { 0 < size }
-    ensures { result ≡ covers word.0 address (address + size) }
-{
-    if SOUND {
-        sound_word_holds(word, address, size)
-    } else {
-        covers(word, address, u128::from(address) + u128::from(size))
     }
 }
 
@@ -84,8 +69,7 @@ fn target_of(authority: Word, offset: i16) -> u64
 /// The first test that refuses an access at an address.
 #[tactic(auto, unfolding(crate::specs::Accesses::access_checks))]
 #[inline(always)]
-fn access_fault<const SOUND: bool>(authority: Cap, access: Access, address: u64) -> Option<OpFault>
-    requires sound { SOUND ≡ true → IsTrue authority.tag → IsSound authority.word.0 }
+fn access_fault(authority: Cap, access: Access, address: u64) -> Option<OpFault>
     requires address { address ≡ access_address authority.word.0 access.offset }
     ensures { option_map refusal_of result ≡ first_of (access_checks authority access.kind access.offset access.size) }
 {
@@ -96,13 +80,41 @@ fn access_fault<const SOUND: bool>(authority: Cap, access: Access, address: u64)
         Some(OpFault::AuthoritySealed)
     } else if !permits(word, needed(access.kind)) {
         Some(OpFault::AuthorityPermission)
-    } else if !holds_bytes::<SOUND>(word, address, access.size) {
+    } else if !covers(word, address, u128::from(address) + u128::from(access.size)) {
         Some(OpFault::AuthorityBounds)
     } else if !is_aligned(address, access) {
         Some(OpFault::Misaligned)
     } else {
         stored_fault(word, access.kind)
     }
+}
+
+/// The first test that refuses an access at an address through an authority that is sound if it is tagged. Most accesses
+/// are through the recent authority.
+#[tactic(auto, unfolding(crate::specs::Accesses::access_checks))]
+#[inline(always)]
+fn sound_access_fault(
+    authority: Cap,
+    access: Access,
+    address: u64,
+    recent: &mut RecentAuthority,
+) -> Option<OpFault>
+    requires sound { IsTrue authority.tag → IsSound authority.word.0 }
+    requires address { address ≡ access_address authority.word.0 access.offset }
+    ensures { option_map refusal_of result ≡ first_of (access_checks authority access.kind access.offset access.size) }
+{
+    let word = authority.word;
+    if authority.tag
+        && recent.holds(word, access, address)
+        && permits(word, needed(access.kind))
+        && is_aligned(address, access)
+    {
+        return stored_fault(word, access.kind);
+    }
+    if authority.tag && !sealed(word) {
+        recent.keep(word);
+    }
+    access_fault(authority, access, address)
 }
 
 /// Whether an authority permits an access. If it does, returns the address: the authority's plus the offset, modulo
@@ -118,35 +130,53 @@ pub fn may_access(authority: Cap, access: Access) -> Result<u64, OpFault>
     ensures allowed { IfOk result (λ address. IsAllowed authority.word.0 address access.size (permission_for access.kind)) }
     ensures in_one_granule { IfOk result (λ address. address % 16 + access.size ≤ 16) }
 {
-    access_by::<false>(authority, access)
+    let address = target_of(authority.word, access.offset);
+    answer(
+        authority,
+        access,
+        address,
+        access_fault(authority, access, address),
+    )
 }
 
 /// Answers as [`may_access`] does for an authority whose word is sound where it is tagged, as each that a machine
-/// holds is, by numbers of 64 bits alone.
+/// holds is. The authority is kept: the next access through it decodes no bounds.
 #[inline(always)]
-pub fn may_access_soundly(authority: Cap, access: Access) -> Result<u64, OpFault>
+pub fn may_access_soundly(
+    authority: Cap,
+    access: Access,
+    recent: &mut RecentAuthority,
+) -> Result<u64, OpFault>
     requires sound { IsTrue authority.tag → IsSound authority.word.0 }
     ensures outcome { Ends result (access_checks authority access.kind access.offset access.size)
         (λ address. address ≡ access_address authority.word.0 access.offset) }
     ensures allowed { IfOk result (λ address. IsAllowed authority.word.0 address access.size (permission_for access.kind)) }
     ensures in_one_granule { IfOk result (λ address. address % 16 + access.size ≤ 16) }
 {
-    access_by::<true>(authority, access)
+    let address = target_of(authority.word, access.offset);
+    let fault = sound_access_fault(authority, access, address, recent);
+    answer(authority, access, address, fault)
 }
 
-/// The answer to both, for an authority that is known to be sound where it is tagged, or for any.
+/// The answer to both, by the first test that refuses the access.
 #[inline(always)]
-fn access_by<const SOUND: bool>(authority: Cap, access: Access) -> Result<u64, OpFault>
-    requires sound { SOUND ≡ true → IsTrue authority.tag → IsSound authority.word.0 }
+fn answer(
+    authority: Cap,
+    access: Access,
+    address: u64,
+    fault: Option<OpFault>,
+) -> Result<u64, OpFault>
+    requires address { address ≡ access_address authority.word.0 access.offset }
+    requires fault { option_map refusal_of fault ≡ first_of (access_checks authority access.kind access.offset access.size) }
     ensures outcome { Ends result (access_checks authority access.kind access.offset access.size)
         (λ address. address ≡ access_address authority.word.0 access.offset) }
     ensures allowed { IfOk result (λ address. IsAllowed authority.word.0 address access.size (permission_for access.kind)) }
     ensures in_one_granule { IfOk result (λ address. address % 16 + access.size ≤ 16) }
 {
-    let target = target_of(authority.word, access.offset);
-    match access_fault::<SOUND>(authority, access, target) {
+    let _ = (authority, access);
+    match fault {
         Some(fault) => Err(fault),
-        None => Ok(target),
+        None => Ok(address),
     }
 }
 

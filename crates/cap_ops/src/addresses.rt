@@ -20,6 +20,7 @@ fn is_kept(word: Word, address: u64) -> bool
 }
 
 /// The word with another address.
+#[inline(always)]
 fn replace_address(word: Word, address: u64) -> Word
     ensures { result.0 ≡ with_address word.0 address }
 {
@@ -28,6 +29,7 @@ fn replace_address(word: Word, address: u64) -> Word
 
 /// The first test that refuses a new address.
 #[tactic(auto, unfolding(crate::specs::Operations::set_addr_checks))]
+#[inline(always)]
 fn set_addr_fault(source: Cap, address: u64) -> Option<OpFault>
     ensures { option_map refusal_of result ≡ first_of (set_addr_checks source address) }
 {
@@ -44,6 +46,7 @@ fn set_addr_fault(source: Cap, address: u64) -> Option<OpFault>
 
 /// The source with another address.
 #[tactic(auto, unfolding(crate::specs::Operations::set_addr_result))]
+#[inline(always)]
 pub(crate) fn moved(source: Cap, address: u64) -> Cap
     ensures { result ≡ set_addr_result source address }
 {
@@ -57,6 +60,8 @@ pub(crate) fn moved(source: Cap, address: u64) -> Cap
 ///
 /// A tagged source is refused where it is sealed, and then where the address does not keep its bounds:
 /// exactly outside its representable range, and so never from its base to its top.
+// Inlined, since a result in memory is copied with the bytes between its fields.
+#[inline(always)]
 pub fn set_addr(source: Cap, address: u64) -> Result<Cap, OpFault>
     ensures outcome { Ends result (set_addr_checks source address) (λ cap. cap ≡ set_addr_result source address) }
     ensures moved_so { IfOk result (λ cap. (cap.tag ≡ source.tag) × (address_of cap.word.0 ≡ address)) }

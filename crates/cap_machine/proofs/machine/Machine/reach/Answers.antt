@@ -11,5 +11,5 @@ returns-in-Err-clause-outcome g c =
     let fits : FitsSigned w16 c.args.offset = search rules in
     let found : first_of (access_checks (state_of old c.args.authority) c.args.kind c.args.offset c.args.size) ≡ Some (refusal_of fault) =
     subst (λ (z : ℤ). first_of (access_checks (state_of old c.args.authority) c.args.kind z c.args.size) ≡ Some (refusal_of fault))
-    (to_z-of_z w16 c.args.offset fits) (rw (c.register.ensures.holds, c.number-2.ensures.number, c.number.ensures.number) at c.in-Err.ensures.outcome) in
+    (to_z-of_z w16 c.args.offset fits) (rw (c.register-authority.ensures.holds, c.number-2.ensures.number, c.number.ensures.number) at c.in-Err.ensures.outcome) in
     rw c.from.ensures (faulted_as old (g.O.Operands.step c.args.step.now) _ fault c.requires.row.1 (rw (c.requires.row.0) found))
