@@ -2,7 +2,7 @@
 
 #![tactic(auto, using(crate::proofs::Shapes::behind_each), unfolding(crate::specs::Lines::spelling))]
 
-ghost use Rattle.std.specs.Prelude.{◌≡◌, ◌≤◌, ◌∷◌, ◌++◌, length, IfSome, IfNone};
+ghost use Rattle.std.specs.Prelude.{◌≡◌, ◌≤◌, [], ◌∷◌, ◌++◌, length, take, IfSome, IfNone};
 ghost use Rattle.cap_log.specs.{Heads.{IsHead, head_spelling}, Lines.{IsInRange, spelling}};
 ghost use Rattle.cap_log.specs.{Parts.{Begins, BeginsWithNone, BeginsWithout}, Spaceless.head-spaceless};
 ghost use Rattle.cap_streams.specs.Written.{Writes};
@@ -19,6 +19,16 @@ macro_rules! taken {
     };
 }
 
+// The first of these heads that stands there.
+macro_rules! first_found {
+    ($($found:expr),* $(,)?) => {{
+        $(if let Some(found) = $found {
+            return Some(found);
+        })*
+        None
+    }};
+}
+
 mod accesses;
 mod operations;
 
@@ -29,7 +39,7 @@ pub use crate::kinds::operations::{
 };
 use crate::lines::{Line, Mode, Place};
 use crate::operands::{Operands, take_parts, take_step, write_parts};
-use crate::parts::fronts::strip_word;
+use crate::parts::fronts::{are_four, strip_word};
 use crate::parts::headers::Version;
 use crate::parts::{Part, Single};
 use cap_word::Word;
@@ -76,54 +86,29 @@ impl Part for Head {
 
     ghost spelled = { head_spelling };
 
-    // The second byte tells heads apart best: four share it at most.
+    // The usual kinds of steps come first, told apart by four bytes at once.
     #[inline(always)]
     fn take(bytes: &[u8], end: u8) -> Option<(Head, &[u8])> {
-        match *bytes.get(1)? {
-            b'o' => {
-                if let Some(found) = one(bytes, end, Head::Move, b"move") {
-                    return Some(found);
-                }
-                if let Some(found) = one(bytes, end, Head::Load, b"load") {
-                    return Some(found);
-                }
-                if let Some(found) = one(bytes, end, Head::Root, b"root") {
-                    return Some(found);
-                }
-                one(bytes, end, Head::Mode, b"mode")
-            }
-            b'e' => {
-                if let Some(found) = one(bytes, end, Head::SetAddr, b"setaddr") {
-                    return Some(found);
-                }
-                if let Some(found) = one(bytes, end, Head::SetBounds, b"setbounds") {
-                    return Some(found);
-                }
-                if let Some(found) = one(bytes, end, Head::SetBoundsExact, b"setboundsexact") {
-                    return Some(found);
-                }
-                one(bytes, end, Head::Seal, b"seal")
-            }
-            b'c' => {
-                if let Some(found) = one(bytes, end, Head::LoadCap, b"lc") {
-                    return Some(found);
-                }
-                one(bytes, end, Head::StoreCap, b"sc")
-            }
-            b'n' => {
-                if let Some(found) = one(bytes, end, Head::AndPerm, b"andperm") {
-                    return Some(found);
-                }
-                if let Some(found) = one(bytes, end, Head::Unseal, b"unseal") {
-                    return Some(found);
-                }
-                one(bytes, end, Head::End, b"end")
-            }
-            b't' => one(bytes, end, Head::Store, b"store"),
-            b'l' => one(bytes, end, Head::ClearTag, b"cleartag"),
-            b'a' => one(bytes, end, Head::Version, b"capcheck"),
-            _ => None,
-        }
+        first_found!(
+            long(bytes, end, Head::Move, b"move", b""),
+            by_register(bytes, end, Head::LoadCap, b"lc c"),
+            by_register(bytes, end, Head::StoreCap, b"sc c"),
+            long(bytes, end, Head::Load, b"load", b""),
+            long(bytes, end, Head::Store, b"stor", b"e"),
+            long(bytes, end, Head::SetAddr, b"seta", b"ddr"),
+            long(bytes, end, Head::AndPerm, b"andp", b"erm"),
+            long(bytes, end, Head::ClearTag, b"clea", b"rtag"),
+            long(bytes, end, Head::SetBounds, b"setb", b"ounds"),
+            short(bytes, end, Head::LoadCap, b"lc"),
+            short(bytes, end, Head::StoreCap, b"sc"),
+            long(bytes, end, Head::SetBoundsExact, b"setb", b"oundsexact"),
+            long(bytes, end, Head::Seal, b"seal", b""),
+            long(bytes, end, Head::Unseal, b"unse", b"al"),
+            long(bytes, end, Head::Root, b"root", b""),
+            long(bytes, end, Head::Mode, b"mode", b""),
+            long(bytes, end, Head::Version, b"capc", b"heck"),
+            short(bytes, end, Head::End, b"end"),
+        )
     }
 
     #[inline(always)]
@@ -141,14 +126,48 @@ type Found<'a> = Option<(Head, &'a [u8])>;
 
 // Takes this head, whose word this is.
 #[inline(always)]
-fn one<'a, const N: usize>(bytes: &'a [u8], end: u8, head: Head, word: &[u8; N]) -> Found<'a>
+fn short<'a, const N: usize>(bytes: &'a [u8], end: u8, head: Head, word: &[u8; N]) -> Found<'a>
     requires { word.now ≡ head_spelling head }
-    ensures head { IfSome result (λ p. p.0 ≡ head) }
     ensures some { IfSome result (λ p. Begins IsHead head_spelling end bytes.now p.0 p.1.now) }
     ensures none { IfNone result (BeginsWithout (head_spelling head) end bytes.now) }
 {
     let rest = strip_word(bytes, word, end)?;
     Some((head, rest))
+}
+
+// Takes this head, whose word is these four bytes and these others. The four are compared as one number.
+#[inline(always)]
+fn long<'a, const N: usize>(
+    bytes: &'a [u8],
+    end: u8,
+    head: Head,
+    four: &[u8; 4],
+    others: &[u8; N],
+) -> Found<'a>
+    requires { four.now ++ others.now ≡ head_spelling head }
+    ensures some { IfSome result (λ p. Begins IsHead head_spelling end bytes.now p.0 p.1.now) }
+    ensures none { IfNone result (BeginsWithout (head_spelling head) end bytes.now) }
+{
+    let (first, more) = bytes.split_first_chunk::<4>()?;
+    if !are_four(first, four) {
+        return None;
+    }
+    let rest = strip_word(more, others, end)?;
+    Some((head, rest))
+}
+
+// Takes this head, whose word has two bytes, before a register: four bytes again. `None` where no register follows.
+#[inline(always)]
+fn by_register<'a>(bytes: &'a [u8], end: u8, head: Head, start: &[u8; 4]) -> Found<'a>
+    requires { take 3 start.now ≡ head_spelling head ++ 32 ∷ [] }
+    ensures some { IfSome result (λ p. Begins IsHead head_spelling end bytes.now p.0 p.1.now) }
+{
+    let (first, _) = bytes.split_first_chunk::<4>()?;
+    if end == b' ' && are_four(first, start) {
+        Some((head, &bytes[3..]))
+    } else {
+        None
+    }
 }
 
 // The first word of a line.
