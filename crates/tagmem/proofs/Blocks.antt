@@ -3,17 +3,16 @@ use Rattle.std.specs.{Cmp.{nat_cmp_total, unsigned_tied}, FinMap.{find, get-from
 use Rattle.std.specs.{FinMap.same_map, Option.option_or, Ordering.eq_by_cmp}
 use Rattle.std.specs.FinMap as map
 use Rattle.std.proofs.Common.{◌≡◌, ℕ, zero, suc, ◌+◌, ◌-◌, ◌*◌, ◌/◌, ◌%◌, ◌<◌, ◌≤◌, ◌≢◌, Bool, true, false, cond, eqb}
-use Rattle.std.proofs.Common.{leb, List, [], ◌∷◌, ◌++◌, length, get_or, set, Option, Some, None, sym, refl, ap, subst}
-use Rattle.std.proofs.Common.{◌∙◌, arith, MatchOption, nat_cmp, eqb-true, get_or-set_same, get_or-set_other}
+use Rattle.std.proofs.Common.{leb, List, [], ◌∷◌, ◌++◌, length, get_or, set, Option, Some, None, sym, refl, ap}
+use Rattle.std.proofs.Common.{◌∙◌, arith, nat_cmp, eqb-true, get_or-set_same, get_or-set_other}
 use Rattle.std.proofs.{Math.ListN.get_or-eq_default, lemmas.{Bool.Decides.nat_tests, List.length-map}}
-use Rattle.std.proofs.lemmas.Option.{none-some, same_Some}
 use Rattle.tagmem.specs.{declared.block.Block.Block, Blocks.{slots_of, slot_with, with_slot, entries_from, entries_of}}
-use Rattle.tagmem.specs.Blocks.{contents_of, block_number_at, numbers_of, IsBlockAt, IsAbsent, IsNextBlock, IsDirectory}
-use Rattle.tagmem.specs.{Chains.{IsMissing, IsThere}, Granules.Entry, Pages.IsLeast}
+use Rattle.tagmem.specs.Blocks.{contents_of, block_number_at, numbers_of, IsBlockAt, IsAbsent, AreDistinct}
+use Rattle.tagmem.specs.Granules.{Entry}
 use Rattle.tagmem.proofs.{Granules.get-put, Slots.{length-slots_with, get_or-slots_with}}
 
--- a block has 16 slots
-pub length-slots_of : (block : Block) → length (slots_of block) ≡ 16
+-- a block has eight slots
+pub length-slots_of : (block : Block) → length (slots_of block) ≡ 8
 length-slots_of block =
     length-slots_with block.tags block.rows block.codes (block.each_has_tag ∙ sym block.each_has_row)
     (block.each_has_tag ∙ sym block.each_has_code)
@@ -28,7 +27,7 @@ get_or-slots_of block slot =
 
 -- what a block says of a granule
 abbrev pub in_block : Block → ℕ → Option Entry
-in_block block q = cond (eqb block.number (q / 16)) (get_or (slots_of block) (q % 16) None) None
+in_block block q = cond (eqb block.number (q / 8)) (get_or (slots_of block) (q % 8) None) None
 
 -- what the first block that has a granule says
 abbrev pub found : List Block → ℕ → Option Entry
@@ -75,20 +74,20 @@ find-entries_from g (slot ∷ slots) q =
     find-with_slot g slot _ q ∙ ap (λ o. cond (eqb q g) (option_or slot o) o) (find-entries_from (suc g) slots q)
     ∙ in_slots-cons g q slot slots
 
--- a block has the 16 granules from 16 times its number on
-in_slots-block : (block : Block) (q : ℕ) → in_slots (16 * block.number) (slots_of block) q ≡ in_block block q
+-- a block has the eight granules from 8 times its number on
+in_slots-block : (block : Block) (q : ℕ) → in_slots (8 * block.number) (slots_of block) q ≡ in_block block q
 in_slots-block block q =
-    let past : 16 * block.number + 16 ≤ q → get_or (slots_of block) (q - 16 * block.number) None ≡ None =
+    let past : 8 * block.number + 8 ≤ q → get_or (slots_of block) (q - 8 * block.number) None ≡ None =
     λ le. get_or-eq_default (slots_of block) None (let wide = length-slots_of block in omega arith) in
-    let own : block.number ≡ q / 16 → get_or (slots_of block) (q - 16 * block.number) None ≡ get_or (slots_of block) (q % 16) None =
-    λ is. let same : q - 16 * block.number ≡ q % 16 = omega arith in ap (λ n. get_or (slots_of block) n None) same in
+    let own : block.number ≡ q / 8 → get_or (slots_of block) (q - 8 * block.number) None ≡ get_or (slots_of block) (q % 8) None =
+    λ is. let same : q - 8 * block.number ≡ q % 8 = omega arith in ap (λ n. get_or (slots_of block) n None) same in
     grind (arith, nat_tests, past, own)
 
 find-entries_of : (blocks : List Block) (q : ℕ) → find nat_cmp q (entries_of blocks) ≡ found blocks q
 find-entries_of [] q = refl
 find-entries_of (block ∷ blocks) q =
     find-append _ (entries_of blocks) q ∙ ap (λ o. option_or o (find nat_cmp q (entries_of blocks)))
-    (find-entries_from (16 * block.number) (slots_of block) q ∙ in_slots-block block q)
+    (find-entries_from (8 * block.number) (slots_of block) q ∙ in_slots-block block q)
     ∙ ap (option_or (in_block block q)) (find-entries_of blocks q)
 
 -- the map has what is found
@@ -108,42 +107,42 @@ module _ (block : Block) (blocks : List Block) (number index : ℕ) where
   at_in_tail at = record { in_range = omega (arith, at.in_range); has_number = at.has_number }
 
 -- a block says nothing of another block's granules
-in_block-other : (block : Block) (q : ℕ) → block.number ≢ q / 16 → in_block block q ≡ None
+in_block-other : (block : Block) (q : ℕ) → block.number ≢ q / 8 → in_block block q ≡ None
 in_block-other block q differs = grind (arith, nat_tests)
 
-in_block-own : (block : Block) (q : ℕ) → block.number ≡ q / 16 → in_block block q ≡ get_or (slots_of block) (q % 16) None
+in_block-own : (block : Block) (q : ℕ) → block.number ≡ q / 8 → in_block block q ≡ get_or (slots_of block) (q % 8) None
 in_block-own block q same = grind (arith, nat_tests)
 
 -- nothing is found of a granule whose block is absent
-found_absent : (blocks : List Block) (q : ℕ) → IsAbsent blocks (q / 16) → found blocks q ≡ None
+found_absent : (blocks : List Block) (q : ℕ) → IsAbsent blocks (q / 8) → found blocks q ≡ None
 found_absent [] q absent = refl
 found_absent (block ∷ blocks) q absent =
     rw (in_block-other block q (absent 0 (omega arith))) (found_absent blocks q (none_in_tail block blocks _ _ absent))
 
 -- what is found of a granule is what its block says, where no other has its number
-found_present : (blocks : List Block) (q index : ℕ) (d : Block) → IsBlockAt blocks (q / 16) index
-    → ((i : ℕ) → i < length blocks → block_number_at blocks i ≡ q / 16 → i ≡ index)
-    → found blocks q ≡ get_or (slots_of (get_or blocks index d)) (q % 16) None
+found_present : (blocks : List Block) (q index : ℕ) (d : Block) → IsBlockAt blocks (q / 8) index
+    → ((i : ℕ) → i < length blocks → block_number_at blocks i ≡ q / 8 → i ≡ index)
+    → found blocks q ≡ get_or (slots_of (get_or blocks index d)) (q % 8) None
 found_present [] q index d at only = absurd (omega (arith, at.in_range))
 found_present (block ∷ blocks) q zero d at only =
     let rest = found_absent blocks q (λ i lt is. omega (arith, only (suc i) (omega arith) is)) in
     rw (rest, in_block-own block q at.has_number) (option_or-None _)
 found_present (block ∷ blocks) q (suc index) d at only =
-    let first : block.number ≢ q / 16 = λ is. omega (arith, only 0 (omega arith) is) in
+    let first : block.number ≢ q / 8 = λ is. omega (arith, only 0 (omega arith) is) in
     let later = found_present blocks q index d (at_in_tail block blocks _ _ at) (λ i lt is. omega (arith, only (suc i) (omega arith) is)) in
     rw (in_block-other block q first) later
 
 -- a block that differs from another in one slot says the same of every granule but one
-in_block-set : (old new : Block) (g : ℕ) (entry : Entry) → old.number ≡ g / 16 → new.number ≡ g / 16
-    → slots_of new ≡ set (slots_of old) (g % 16) (Some entry) → (q : ℕ) → in_block new q ≡ cond (eqb q g) (Some entry) (in_block old q)
+in_block-set : (old new : Block) (g : ℕ) (entry : Entry) → old.number ≡ g / 8 → new.number ≡ g / 8
+    → slots_of new ≡ set (slots_of old) (g % 8) (Some entry) → (q : ℕ) → in_block new q ≡ cond (eqb q g) (Some entry) (in_block old q)
 in_block-set old new g entry old_is new_is are q =
-    let inside : g % 16 < length (slots_of old) = let wide = length-slots_of old in omega arith in
-    let changed = set (slots_of old) (g % 16) (Some entry) in
-    let here : q % 16 ≡ g % 16 → get_or changed (q % 16) None ≡ Some entry =
-    λ is. ap (λ n. get_or changed n None) is ∙ get_or-set_same (slots_of old) (g % 16) (Some entry) None inside in
-    let there : q % 16 ≢ g % 16 → get_or changed (q % 16) None ≡ get_or (slots_of old) (q % 16) None =
-    λ differs. get_or-set_other (slots_of old) (g % 16) (q % 16) (Some entry) None differs in
-    ap (λ slots. cond (eqb new.number (q / 16)) (get_or slots (q % 16) None) None) are ∙ grind (arith, nat_tests, here, there)
+    let inside : g % 8 < length (slots_of old) = let wide = length-slots_of old in omega arith in
+    let changed = set (slots_of old) (g % 8) (Some entry) in
+    let here : q % 8 ≡ g % 8 → get_or changed (q % 8) None ≡ Some entry =
+    λ is. ap (λ n. get_or changed n None) is ∙ get_or-set_same (slots_of old) (g % 8) (Some entry) None inside in
+    let there : q % 8 ≢ g % 8 → get_or changed (q % 8) None ≡ get_or (slots_of old) (q % 8) None =
+    λ differs. get_or-set_other (slots_of old) (g % 8) (q % 8) (Some entry) None differs in
+    ap (λ slots. cond (eqb new.number (q / 8)) (get_or slots (q % 8) None) None) are ∙ grind (arith, nat_tests, here, there)
 
 option_or-cond : (b : Bool) (entry : Entry) (first rest : Option Entry)
     → option_or (cond b (Some entry) first) rest ≡ cond b (Some entry) (option_or first rest)
@@ -151,9 +150,9 @@ option_or-cond true entry first rest = refl
 option_or-cond false entry first rest = refl
 
 -- the same of blocks, one of which is changed
-found-set : (blocks : List Block) (new d : Block) (index g : ℕ) (entry : Entry) → IsBlockAt blocks (g / 16) index
-    → NoneBefore blocks (g / 16) index → new.number ≡ g / 16
-    → slots_of new ≡ set (slots_of (get_or blocks index d)) (g % 16) (Some entry)
+found-set : (blocks : List Block) (new d : Block) (index g : ℕ) (entry : Entry) → IsBlockAt blocks (g / 8) index
+    → NoneBefore blocks (g / 8) index → new.number ≡ g / 8
+    → slots_of new ≡ set (slots_of (get_or blocks index d)) (g % 8) (Some entry)
     → (q : ℕ) → found (set blocks index new) q ≡ cond (eqb q g) (Some entry) (found blocks q)
 found-set [] new d index g entry at none number are q = absurd (omega (arith, at.in_range))
 found-set (block ∷ blocks) new d zero g entry at none number are q =
@@ -169,66 +168,37 @@ found-set (block ∷ blocks) new d (suc index) g entry at none number are q =
     by_test false is other = refl
     by_test true is other = rw (ap (in_block block) (eqb-true q g is) ∙ other) refl
 
--- where a directory tells of blocks
-module _ (blocks : List Block) (directory : ℕ → Option ℕ) (known : IsDirectory blocks directory) where
+-- where no number stands twice
+module _ (blocks : List Block) (known : AreDistinct (numbers_of blocks)) where
   -- each number has one index at most
   one_index : (number index i : ℕ) → IsBlockAt blocks number index → i < length blocks → block_number_at blocks i ≡ number → i ≡ index
   one_index number index i at lt is =
-      same_Some i index (sym (known.has i lt) ∙ ap directory (is ∙ sym at.has_number) ∙ known.has index at.in_range)
-
-  -- a number that it doesn't have is absent
-  pub absent_from_none : (number : ℕ) → directory number ≡ None → IsAbsent blocks number
-  absent_from_none number none i lt is = none-some i (sym none ∙ ap directory (sym is) ∙ known.has i lt)
-
-  -- what it finds is the block
-  pub found-directory : (number : ℕ) (found : Option ℕ) → found ≡ directory number
-      → MatchOption found (IsAbsent blocks number) (IsBlockAt blocks number)
-  found-directory number None is = absent_from_none number (sym is)
-  found-directory number (Some index) is = known.right number index (sym is)
-
-  -- the least number that it has is that of the next block
-  pub next_block-least : (from : ℕ) (next : Option ℕ) → IsLeast directory from next → IsNextBlock blocks from next
-  next_block-least from None none = λ number le. absent_from_none number (none number le)
-  next_block-least from (Some next) least =
-      (least.0, λ absent. by_index absent (directory next) refl, λ number le lt. absent_from_none number (least.2 number le lt))
-    where
-      by_index : IsAbsent blocks next → (o : Option ℕ) → directory next ≡ o → ⊥
-      by_index absent None is = least.1 is
-      by_index absent (Some index) is =
-          let at = known.right next index is in
-          absent index at.in_range at.has_number
+      let long = length-map blocks (λ (block : Block). block.number) in
+      let below : i < index → ⊥ = λ less. known i index 0 less (omega (arith, at.in_range, long)) (is ∙ sym at.has_number) in
+      let above : index < i → ⊥ = λ less. known index i 0 less (omega (arith, lt, long)) (at.has_number ∙ sym is) in
+      grind (arith, below, above)
 
   -- what stands in a granule is what its block says
-  pub get_present : (q index : ℕ) (d : Block) → IsBlockAt blocks (q / 16) index
-      → map.get (contents_of blocks) q ≡ get_or (slots_of (get_or blocks index d)) (q % 16) None
+  pub get_present : (q index : ℕ) (d : Block) → IsBlockAt blocks (q / 8) index
+      → map.get (contents_of blocks) q ≡ get_or (slots_of (get_or blocks index d)) (q % 8) None
   get_present q index d at = get-contents_of blocks q ∙ found_present blocks q index d at (λ i lt is. one_index _ index i at lt is)
 
   -- read there
-  pub get_read : (q index : ℕ) (block : Block) → IsBlockAt blocks (q / 16) index → block ≡ get_or blocks index block
-      → map.get (contents_of blocks) q ≡ get_or (slots_of block) (q % 16) None
-  get_read q index block at read = get_present q index block at ∙ ap (λ (b : Block). get_or (slots_of b) (q % 16) None) (sym read)
+  pub get_read : (q index : ℕ) (block : Block) → IsBlockAt blocks (q / 8) index → block ≡ get_or blocks index block
+      → map.get (contents_of blocks) q ≡ get_or (slots_of block) (q % 8) None
+  get_read q index block at read = get_present q index block at ∙ ap (λ (b : Block). get_or (slots_of b) (q % 8) None) (sym read)
 
   -- a put in its block changes that granule alone
-  pub contents_of-set : (new d : Block) (index g : ℕ) (entry : Entry) → IsBlockAt blocks (g / 16) index → new.number ≡ g / 16
-      → slots_of new ≡ set (slots_of (get_or blocks index d)) (g % 16) (Some entry)
+  pub contents_of-set : (new d : Block) (index g : ℕ) (entry : Entry) → IsBlockAt blocks (g / 8) index → new.number ≡ g / 8
+      → slots_of new ≡ set (slots_of (get_or blocks index d)) (g % 8) (Some entry)
       → contents_of (set blocks index new) ≡ map.insert (contents_of blocks) g entry
   contents_of-set new d index g entry at number are = same_map nat_cmp_total nat_cmp-IsAntisymmetric _ _ (λ q.
       get-contents_of (set blocks index new) q ∙ found-set blocks new d index g entry at none number are q
       ∙ ap (cond (eqb q g) (Some entry)) (sym (get-contents_of blocks q)) ∙ sym (get-put (contents_of blocks) g entry q))
     where
-      none : NoneBefore blocks (g / 16) index
+      none : NoneBefore blocks (g / 8) index
       none i lt is = omega (arith, one_index _ index i at (omega (arith, at.in_range)) is)
 
 -- a granule whose block is absent was never put
-pub get_absent : (blocks : List Block) (q : ℕ) → IsAbsent blocks (q / 16) → map.get (contents_of blocks) q ≡ None
+pub get_absent : (blocks : List Block) (q : ℕ) → IsAbsent blocks (q / 8) → map.get (contents_of blocks) q ≡ None
 get_absent blocks q absent = get-contents_of blocks q ∙ found_absent blocks q absent
-
--- what a list of their numbers tells of blocks
-pub found-numbers : (blocks : List Block) (numbers : List ℕ) → numbers ≡ numbers_of blocks → (number : ℕ) (found : Option ℕ)
-    → MatchOption found (IsMissing numbers number) (IsThere numbers number)
-    → MatchOption found (IsAbsent blocks number) (IsBlockAt blocks number)
-found-numbers blocks numbers same number None missing = λ index lt is.
-    subst (λ ns. IsMissing ns number) same missing index (omega (arith, lt, length-map blocks (λ (block : Block). block.number))) is
-found-numbers blocks numbers same number (Some index) there =
-    let here = subst (λ ns. IsThere ns number index) same there in
-    record { in_range = omega (arith, here.0, length-map blocks (λ (block : Block). block.number)); has_number = here.1 }

@@ -3,10 +3,10 @@ pub mod Indexes
 pub mod Listed
 mod Added
 mod Blocks
-mod Chained
-mod Directories
 mod NextPut
-mod Pages
+mod Numbers
+mod Regions
 mod Rooms
 mod Slots
+mod Ways
 mod Writes

@@ -1,12 +1,12 @@
 -- Where the next granule that was put is, by its block.
 use Rattle.std.specs.FinMap as map
-use Rattle.std.proofs.Common.{◌≡◌, ◌≢◌, ℕ, ◌+◌, ◌*◌, ◌/◌, ◌%◌, ◌^◌, ◌<◌, ◌≤◌, List, [], ◌∷◌, get_or, Option, Some, None}
+use Rattle.std.proofs.Common.{◌≡◌, ◌≢◌, ℕ, ◌+◌, ◌*◌, ◌/◌, ◌%◌, ◌^◌, ◌<◌, ◌≤◌, Bool, false, List, get_or, Option, Some, None}
 use Rattle.std.proofs.{Common.{sym, refl, ap, subst, ◌∙◌, arith, MatchOption}, Math.ListN.get_or-eq_default}
-use Rattle.std.proofs.lemmas.List.Elements.{All-get_or}
-use Rattle.tagmem.specs.{declared.block.Block.Block, Blocks.{slots_of, contents_of, IsFirstFrom, IsUsed, EachUsed}}
-use Rattle.tagmem.specs.Blocks.{IsBlockAt, IsAbsent, IsNextBlock, IsDirectory}
+use Rattle.std.proofs.lemmas.Bool.{false≢true}
+use Rattle.tagmem.specs.{declared.block.Block.Block, Blocks.{slots_of, contents_of, IsFirstFrom}}
+use Rattle.tagmem.specs.{Blocks.{numbers_of, AreDistinct, ArePaged, IsBlockAt}, Regions.IsLeast}
 use Rattle.tagmem.specs.Granules.{Entry, Granules, AreStored, NonePut, IsNextPut}
-use Rattle.tagmem.proofs.Blocks.{length-slots_of, get_read, get_present, get_absent}
+use Rattle.tagmem.proofs.Blocks.{length-slots_of, get_read, get_absent}
 
 -- a granule that was put is below 2^60
 pub put_below : (m : Granules) → AreStored m → (q : ℕ) → map.get m q ≢ None → q < 2 ^ 60
@@ -23,68 +23,56 @@ next_after m from to None le none after = λ q from_le. grind (arith, none q, af
 next_after m from to (Some next) le none after =
     (omega (arith, after.0), after.1, λ q from_le lt. grind (arith, none q, after.2 q))
 
-module _ (blocks : List Block) where
-  module _ (directory : ℕ → Option ℕ) (known : IsDirectory blocks directory) (n slot index : ℕ) (block : Block)
-      (at : IsBlockAt blocks n index) (read : block ≡ get_or blocks index block) where
-    get_own : (q : ℕ) → q / 16 ≡ n → map.get (contents_of blocks) q ≡ get_or (slots_of block) (q % 16) None
-    get_own q own = get_read blocks directory known q index block (subst (λ m. IsBlockAt blocks m index) (sym own) at) read
+module _ (blocks : List Block) (known : AreDistinct (numbers_of blocks)) (n slot index : ℕ) (block : Block)
+    (at : IsBlockAt blocks n index) (read : block ≡ get_or blocks index block) where
+  get_own : (q : ℕ) → q / 8 ≡ n → map.get (contents_of blocks) q ≡ get_or (slots_of block) (q % 8) None
+  get_own q own = get_read blocks known q index block (subst (λ m. IsBlockAt blocks m index) (sym own) at) read
 
-    -- a block of which no slot from one on was put
-    pub none_put-block : IsFirstFrom (slots_of block) slot None → NonePut (contents_of blocks) (16 * n + slot) (16 * n + 16)
-    none_put-block none q le lt = get_own q (omega arith) ∙ none (q % 16) (omega arith)
+  -- a block of which no slot from one on was put
+  pub none_put-block : IsFirstFrom (slots_of block) slot None → NonePut (contents_of blocks) (8 * n + slot) (8 * n + 8)
+  none_put-block none q le lt = get_own q (omega arith) ∙ none (q % 8) (omega arith)
 
-    -- and one that has a first
-    pub next_put-block : (first : ℕ) → IsFirstFrom (slots_of block) slot (Some first)
-        → IsNextPut (contents_of blocks) (16 * n + slot) (Some (16 * n + first))
-    next_put-block first found =
-        let past : 16 ≤ first → get_or (slots_of block) first None ≡ None = λ large.
-        get_or-eq_default (slots_of block) None (let wide = length-slots_of block in omega arith) in
-        let small : first < 16 = grind (arith, found.1, past) in
-        let own : get_or (slots_of block) first None ≡ map.get (contents_of blocks) (16 * n + first) =
-        let index_is : first ≡ (16 * n + first) % 16 = omega arith in
-        ap (λ i. get_or (slots_of block) i None) index_is ∙ sym (get_own (16 * n + first) (omega arith)) in (
-          omega (arith, found.0),
-          λ is. found.1 (own ∙ is),
-          λ q le lt. get_own q (omega arith)
-              ∙ found.2 (q % 16) (omega arith) (omega arith),
-        )
+  -- and one that has a first
+  pub next_put-block : (first : ℕ) → IsFirstFrom (slots_of block) slot (Some first)
+      → IsNextPut (contents_of blocks) (8 * n + slot) (Some (8 * n + first))
+  next_put-block first found =
+      let past : 8 ≤ first → get_or (slots_of block) first None ≡ None = λ large.
+      get_or-eq_default (slots_of block) None (let wide = length-slots_of block in omega arith) in
+      let small : first < 8 = grind (arith, found.1, past) in
+      let own : get_or (slots_of block) first None ≡ map.get (contents_of blocks) (8 * n + first) =
+      let index_is : first ≡ (8 * n + first) % 8 = omega arith in
+      ap (λ i. get_or (slots_of block) i None) index_is ∙ sym (get_own (8 * n + first) (omega arith)) in (
+        omega (arith, found.0),
+        λ is. found.1 (own ∙ is),
+        λ q le lt. get_own q (omega arith)
+            ∙ found.2 (q % 8) (omega arith) (omega arith),
+      )
 
--- a block has a granule that was put, so a number of which none was has no block
-pub absent_from_none_put : (blocks : List Block) (directory : ℕ → Option ℕ) → IsDirectory blocks directory → EachUsed blocks
-    → (n : ℕ) → NonePut (contents_of blocks) (16 * n) (16 * n + 16) → IsAbsent blocks n
-absent_from_none_put [] directory known used n none index lt is = omega arith
-absent_from_none_put (first ∷ rest) directory known used n none index lt is =
-    let blocks = first ∷ rest in
-    let block = get_or blocks index first in
-    let inside : (slot : ℕ) → slot < 16 → get_or (slots_of block) slot None ≡ None = λ slot small.
-    let q = 16 * n + slot in
-    let own : n ≡ q / 16 = omega arith in
-    let index_is : slot ≡ q % 16 = omega arith in
-    ap (λ i. get_or (slots_of block) i None) index_is
-    ∙ sym (get_present blocks directory known q index first (record { in_range = lt; has_number = is ∙ own }))
-    ∙ none q (omega arith) (omega arith) in
-    let past : (slot : ℕ) → 16 ≤ slot → get_or (slots_of block) slot None ≡ None = λ slot large.
-    get_or-eq_default (slots_of block) None (let wide = length-slots_of block in omega arith) in
-    All-get_or (IsUsed) blocks index first lt used (λ slot. grind (arith, inside slot, past slot))
+-- nothing was put in a page that isn't there
+pub none_in_page : (blocks : List Block) (there : ℕ → Bool) → ArePaged blocks there → (page : ℕ) → there page ≡ false
+    → NonePut (contents_of blocks) (256 * page) (256 * page + 256)
+none_in_page blocks there paged page absent q le lt =
+    let own : q / 8 / 32 ≡ page = omega arith in
+    get_absent blocks q (λ index in_range is.
+    false≢true (sym absent ∙ ap there (sym own) ∙ ap (λ n. there (n / 32)) (sym is) ∙ paged.has index in_range))
 
--- where a granule's own block has none from it on
-module _ (blocks : List Block) (g : ℕ) (none : NonePut (contents_of blocks) g (16 * (g / 16) + 16)) where
-  -- there is none where no later block is
-  pub next_put-last : IsNextBlock blocks (g / 16 + 1) None → IsNextPut (contents_of blocks) g None
+-- where a granule's page has none from it on
+module _ (blocks : List Block) (there : ℕ → Bool) (paged : ArePaged blocks there) (g : ℕ)
+    (none : NonePut (contents_of blocks) g (256 * (g / 256) + 256)) where
+  -- there is none where no later page is
+  pub next_put-last : IsLeast there (g / 256 + 1) None → IsNextPut (contents_of blocks) g None
   next_put-last absent =
-      next_after (contents_of blocks) g (16 * (g / 16) + 16) None (omega arith) none
-      (λ q le. get_absent blocks q (absent (q / 16) (omega arith)))
+      next_after (contents_of blocks) g (256 * (g / 256) + 256) None (omega arith) none
+      (λ q le. none_in_page blocks there paged (q / 256) (absent (q / 256) (omega arith)) q (omega arith) (omega arith))
 
-  -- else the next is the first of the least later block, which has one
-  pub next_put-later : (directory : ℕ → Option ℕ) → IsDirectory blocks directory → EachUsed blocks → (n : ℕ)
-      → IsNextBlock blocks (g / 16 + 1) (Some n) → (next : Option ℕ)
-      → MatchOption next (NonePut (contents_of blocks) (16 * n + 0) (16 * n + 16))
-      (λ first. IsNextPut (contents_of blocks) (16 * n + 0) (Some first))
+  -- else the next is the first of the least later page, which has one
+  pub next_put-later : (page : ℕ) → IsLeast there (g / 256 + 1) (Some page) → (next : Option ℕ)
+      → MatchOption next (NonePut (contents_of blocks) (8 * (32 * page)) (8 * (32 * page + 32)))
+      (λ first. IsNextPut (contents_of blocks) (8 * (32 * page)) (Some first))
       → IsNextPut (contents_of blocks) g next
-  next_put-later directory known used n later None empty =
-      absurd (later.1 (absent_from_none_put blocks directory known used n (λ q le lt. empty q (omega arith) lt)))
-  next_put-later directory known used n later (Some first) found =
-      let above : 16 * (g / 16) + 16 ≤ 16 * n = let le = later.0 in omega arith in
-      let between : NonePut (contents_of blocks) (16 * (g / 16) + 16) (16 * n + 0) = λ q le lt.
-      get_absent blocks q (later.2 (q / 16) (omega arith) (omega arith)) in
-      next_after (contents_of blocks) g (16 * n + 0) (Some first) (omega arith) (λ q le lt. grind (arith, none q, between q)) found
+  next_put-later page later None empty = absurd (paged.used page later.1 (λ q le lt. empty q (omega arith) (omega arith)))
+  next_put-later page later (Some first) found =
+      let above : 256 * (g / 256) + 256 ≤ 8 * (32 * page) = let le = later.0 in omega arith in
+      let between : NonePut (contents_of blocks) (256 * (g / 256) + 256) (8 * (32 * page)) = λ q le lt.
+      none_in_page blocks there paged (q / 256) (later.2 (q / 256) (omega arith) (omega arith)) q (omega arith) (omega arith) in
+      next_after (contents_of blocks) g (8 * (32 * page)) (Some first) (omega arith) (λ q le lt. grind (arith, none q, between q)) found

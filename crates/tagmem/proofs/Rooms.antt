@@ -1,91 +1,72 @@
 -- Why there is room for each block that isn't there in a page that is.
-use Rattle.std.specs.List.{list_any}
-use Rattle.std.specs.BTreeMap as tree
-use Rattle.std.proofs.Common.{◌≡◌, ℕ, zero, suc, ◌+◌, ◌*◌, ◌/◌, ◌%◌, ◌<◌, true, eqb, List, [], ◌∷◌, ◌++◌, length}
-use Rattle.std.proofs.Common.{get_or, map, Option, Some, None, sym, refl, ap, ◌∙◌, arith, nat_cmp, length-append}
-use Rattle.std.proofs.lemmas.{Bool.Decides.nat_tests, List.Folds.{list_any_at, list_any-append}}
-use Rattle.std.proofs.lemmas.{Map.Steps.le-length_from_below, Option.{none-some, same_Some}}
-use Rattle.tagmem.specs.declared.{block.Block.Block, directory.Directory.Directory, page.Page.Page}
-use Rattle.tagmem.specs.{Blocks.{IsDirectory, IsAbsent, contents_of, block_number_at}, Directories.found_in}
-use Rattle.tagmem.specs.{Granules.NonePut, Pages.{index_kept, index_at}, Rooms.blocks_with}
-use Rattle.tagmem.proofs.{Blocks.{get_absent, found-directory}, Pages.index_of-absent}
+use Rattle.std.specs.{List.{Contains, IsDistinct, list_any, range_with_len}, Set.is_member}
+use Rattle.std.proofs.Common.{◌≡◌, ◌≢◌, ℕ, zero, suc, ◌*◌, ◌/◌, ◌%◌, ◌<◌, ◌≤◌, Bool, true, ◌||◌, eqb, List, [], ◌∷◌, ◌++◌}
+use Rattle.std.proofs.{Common.{length, get_or, refl, sym, ap, ◌∙◌, arith, length-append}, lemmas.Cmp.nat_eq_equiv}
+use Rattle.std.proofs.lemmas.{Bool.{eq-eqb, Decides.{Decides-eqb}}, Grind.get_or_default_zero, List.length-map}
+use Rattle.std.proofs.lemmas.List.{Elements.All-from_get_or, Folds.{list_any_at, list_any-append}, Kept.AllPairs-cons}
+use Rattle.std.proofs.lemmas.List.FromFn.{length-range_with_len, get_or-range_with_len}
+use Rattle.std.proofs.lemmas.Map.Made.{length-le_from_is_member, is_member-Decides, IsDistinct-from_AllPairs}
+use Rattle.tagmem.specs.declared.block.Block.{Block}
+use Rattle.tagmem.specs.{Blocks.{numbers_of, block_number_at, AreDistinct, IsAbsent}, Regions.AreCounted}
 
--- what pages keep of their blocks, one page after another
-abbrev kept_of : List Page → List ℕ
-kept_of [] = []
-kept_of (page ∷ pages) = page.kept ++ kept_of pages
+-- the numbers of the blocks of pages
+abbrev numbers_in : List ℕ → List ℕ
+numbers_in [] = []
+numbers_in (page ∷ pages) = range_with_len (32 * page) 32 ++ numbers_in pages
 
-length-kept_of : (pages : List Page) → length (kept_of pages) ≡ 16 * length pages
-length-kept_of [] = refl
-length-kept_of (page ∷ pages) =
-    let both = length-append page.kept (kept_of pages) in
-    omega (arith, both, page.sixteen, length-kept_of pages)
+length-numbers_in : (pages : List ℕ) → length (numbers_in pages) ≡ 32 * length pages
+length-numbers_in [] = refl
+length-numbers_in (page ∷ pages) =
+    let both = length-append (range_with_len (32 * page) 32) (numbers_in pages) in
+    omega (arith, both, length-range_with_len (32 * page) 32, length-numbers_in pages)
 
--- what one of them keeps at a place is there
-is_kept : (pages : List Page) (at place kept : ℕ) → at < length pages → place < 16
-    → get_or (get_or (map (λ (page : Page). page.kept) pages) at []) place 0 ≡ kept → list_any (eqb kept) (kept_of pages) ≡ true
-is_kept [] at place kept in_range small is = absurd (omega arith)
-is_kept (page ∷ pages) zero place kept in_range small is =
-    let here : list_any (eqb kept) page.kept ≡ true =
-    list_any_at (eqb kept) page.kept place 0 (omega (arith, page.sixteen)) (grind (arith, nat_tests, is)) in
-    list_any-append (eqb kept) page.kept (kept_of pages) ∙ rw here refl
-is_kept (page ∷ pages) (suc at) place kept in_range small is =
-    let later : list_any (eqb kept) (kept_of pages) ≡ true = is_kept pages at place kept (omega arith) small is in
-    list_any-append (eqb kept) page.kept (kept_of pages) ∙ grind (arith, later)
+in_page : (pages : List ℕ) (number k d : ℕ) → k < length pages → get_or pages k d ≡ number / 32
+    → list_any (eqb number) (numbers_in pages) ≡ true
+in_page [] number k d lt is = absurd (omega arith)
+in_page (page ∷ pages) number zero d lt is =
+    let own = range_with_len (32 * page) 32 in
+    let here : get_or own (number % 32) 0 ≡ number =
+    get_or-range_with_len (32 * page) 32 (number % 32) 0 (omega arith) ∙ omega (arith, is) in
+    let found : list_any (eqb number) own ≡ true =
+    list_any_at (eqb number) own (number % 32) 0 (let many = length-range_with_len (32 * page) 32 in omega arith)
+    (eq-eqb number _ (sym here)) in
+    list_any-append (eqb number) own (numbers_in pages) ∙ ap (λ b. b || list_any (eqb number) (numbers_in pages)) found
+in_page (page ∷ pages) number (suc k) d lt is =
+    let later : list_any (eqb number) (numbers_in pages) ≡ true = in_page pages number k d (omega arith) is in
+    list_any-append (eqb number) (range_with_len (32 * page) 32) (numbers_in pages) ∙ grind (arith, later)
 
-kept_some : (kept index : ℕ) → index_kept kept ≡ Some index → kept ≡ suc index
-kept_some zero index is = absurd (none-some index is)
-kept_some (suc kept) index is = ap suc (same_Some kept index is)
+member-any : (numbers : List ℕ) (q : ℕ) → is_member eqb numbers q ≡ list_any (eqb q) numbers
+member-any [] q = refl
+member-any (number ∷ numbers) q = ap (λ b. eqb q number || b) (member-any numbers q)
 
-kept_none : (kept : ℕ) → index_kept kept ≡ None → kept ≡ 0
-kept_none zero is = refl
-kept_none (suc kept) is = absurd (none-some kept (sym is))
+-- pages have places for more blocks than there are, where one of theirs is absent
+pub is_room : (blocks : List Block) (there : ℕ → Bool) (count : ℕ) → AreCounted there count → AreDistinct (numbers_of blocks)
+    → ((index : ℕ) → index < length blocks → there (block_number_at blocks index / 32) ≡ true)
+    → (number : ℕ) → there (number / 32) ≡ true → IsAbsent blocks number → length blocks < 32 * count
+is_room blocks there count counted known has number is absent =
+    let full : 32 * count ≤ length blocks → ⊥ = λ many. counted (λ pages all each.
+    let le = length-le_from_is_member nat_eq_equiv (number ∷ numbers_of blocks) (numbers_in pages) distinct (λ q member.
+    member-any (numbers_in pages) q ∙ of_pages pages each q ((is_member-Decides Decides-eqb (number ∷ numbers_of blocks) q).0 member)) in
+    omega (arith, le, long, length-numbers_in pages, all, many)) in
+    grind (arith, full)
+  where
+    long : length (numbers_of blocks) ≡ length blocks
+    long = length-map blocks (λ (block : Block). block.number)
 
-module _ (blocks : List Block) (directory : Directory) (known : IsDirectory blocks (found_in directory)) where
-  -- of each block that is there its index is kept
-  of_block : (index : ℕ) → index < length blocks → list_any (eqb (suc index)) (kept_of directory.pages.items) ≡ true
-  of_block index lt =
-      by_page (tree.get nat_cmp directory.tree (block_number_at blocks index / 16)) refl (known.has index lt)
-    where
-      by_page : (o : Option ℕ) → tree.get nat_cmp directory.tree (block_number_at blocks index / 16) ≡ o
-          → index_at directory.pages.items o (block_number_at blocks index % 16) ≡ Some index
-          → list_any (eqb (suc index)) (kept_of directory.pages.items) ≡ true
-      by_page None stands found = absurd (none-some index found)
-      by_page (Some at) stands found =
-          is_kept directory.pages.items at (block_number_at blocks index % 16) (suc index)
-          (directory.apart.in_range (block_number_at blocks index / 16) at stands) (omega arith) (kept_some _ index found)
+    distinct : IsDistinct eqb (number ∷ numbers_of blocks)
+    distinct = IsDistinct-from_AllPairs Decides-eqb (number ∷ numbers_of blocks)
+        (AllPairs-cons (λ (a b : ℕ). a ≢ b) number (numbers_of blocks)
+        (All-from_get_or (λ (other : ℕ). number ≢ other) (numbers_of blocks) 0 (λ index lt same.
+        absent index (omega (arith, long)) (sym same))) known)
 
-  -- so the pages have places for more blocks than there are, where they have one for a block that is absent
-  pub is_room : (number : ℕ) (page : Option ℕ) → page ≡ tree.get nat_cmp directory.tree (number / 16) → IsAbsent blocks number
-      → length blocks < blocks_with directory page
-  is_room number None is absent =
-      let each : (q : ℕ) → q < length blocks + 1 → list_any (eqb q) (0 ∷ kept_of directory.pages.items) ≡ true = each_or_none in
-      let many = le-length_from_below (0 ∷ kept_of directory.pages.items) (length blocks + 1) each in
-      omega (arith, many, length-kept_of directory.pages.items)
-    where
-      each_or_none : (q : ℕ) → q < length blocks + 1 → list_any (eqb q) (0 ∷ kept_of directory.pages.items) ≡ true
-      each_or_none zero lt = refl
-      each_or_none (suc index) lt = grind (arith, nat_tests, of_block index (omega arith))
-  is_room number (Some at) is absent =
-      let many = le-length_from_below (kept_of directory.pages.items) (length blocks + 1) each in
-      omega (arith, many, length-kept_of directory.pages.items)
-    where
-      none_found : (o : Option ℕ) → found_in directory number ≡ o → found_in directory number ≡ None
-      none_found None found = found
-      none_found (Some index) found =
-          let there = known.right number index found in
-          absurd (absent index there.in_range there.has_number)
+    is_there : (q : ℕ) → Contains (number ∷ numbers_of blocks) q → there (q / 32) ≡ true
+    is_there q (zero, lt, same) = ap (λ n. there (n / 32)) (sym same) ∙ is
+    is_there q (suc k, lt, same) =
+        let in_range : k < length (numbers_of blocks) = omega arith in
+        ap (λ n. there (n / 32)) (sym same ∙ get_or_default_zero (numbers_of blocks) k q in_range) ∙ has k (omega (arith, long))
 
-      each : (q : ℕ) → q < length blocks + 1 → list_any (eqb q) (kept_of directory.pages.items) ≡ true
-      each zero lt =
-          is_kept directory.pages.items at (number % 16) 0 (directory.apart.in_range (number / 16) at (sym is)) (omega arith)
-          (kept_none _ (ap (λ o. index_at directory.pages.items o (number % 16)) is ∙ none_found (found_in directory number) refl))
-      each (suc index) lt = of_block index (omega arith)
-
-  -- of a page that isn't there no granule was put
-  pub none_in_page : (granule : ℕ) → None ≡ tree.get nat_cmp directory.tree (granule / 16 / 16)
-      → NonePut (contents_of blocks) (256 * (granule / 256)) (256 * (granule / 256) + 256)
-  none_in_page granule absent q le lt =
-      let same : granule / 16 / 16 ≡ q / 16 / 16 = omega arith in
-      get_absent blocks q (found-directory blocks (found_in directory) known (q / 16) None
-      (sym (index_of-absent directory.pages.items directory.tree (q / 16) (ap (tree.get nat_cmp directory.tree) (sym same) ∙ sym absent))))
+    of_pages : (pages : List ℕ) → ((page : ℕ) → there page ≡ true → Contains pages page)
+        → (q : ℕ) → Contains (number ∷ numbers_of blocks) q → list_any (eqb q) (numbers_in pages) ≡ true
+    of_pages pages each q contained =
+        let at = each (q / 32) (is_there q contained) in
+        in_page pages q at.0 (q / 32) at.1 at.2

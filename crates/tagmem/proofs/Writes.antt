@@ -2,14 +2,13 @@
 use Rattle.std.specs.FinMap as map
 use Rattle.std.proofs.Common.{◌≡◌, ℕ, ◌+◌, ◌/◌, ◌%◌, ◌^◌, ◌<◌, ◌≤◌, Bool, true, false, cond, eqb, List, length, get_or}
 use Rattle.std.proofs.Common.{set, All, Option, Some, None, unwrap_or, is_some, is_none, sym, refl, ap, subst, ◌∙◌}
-use Rattle.std.proofs.{Common.{arith, eqb-true, get_or-set_same}, lemmas.List.{get_or-map, Elements.All-set}}
+use Rattle.std.proofs.{Common.{arith, eqb-true, length-set}, lemmas.List.get_or-map}
 use Rattle.std.proofs.lemmas.Option.{none-some, same_Some}
 use mir.Val.{bool_byte}
-use Rattle.tagmem.specs.{declared.block.Block.Block, Blocks.{slots_of, bytes_in_slot, contents_of, numbers_of, IsUsed}}
-use Rattle.tagmem.specs.{Blocks.{EachUsed, IsBlockAt, IsDirectory}, Granules.{Entry, Granules, blank, entry_at}}
+use Rattle.tagmem.specs.{declared.block.Block.Block, Blocks.{slots_of, bytes_in_slot, contents_of, numbers_of}}
+use Rattle.tagmem.specs.{Blocks.{AreDistinct, ArePaged, IsBlockAt}, Granules.{Entry, Granules, blank, entry_at}}
 use Rattle.tagmem.specs.Granules.{bytes_at, overwritten, with_write, HasRoom, IsCodeFor, IsStored, AreStored}
-use Rattle.tagmem.proofs.Blocks.{length-slots_of, get_read as get_block, contents_of-set}
-use Rattle.tagmem.proofs.Directories.{numbers_of-set, IsDirectory-set}
+use Rattle.tagmem.proofs.{Blocks.{get_read as get_block, contents_of-set}, Numbers.numbers_of-set}
 use Rattle.tagmem.proofs.Granules.{get-put, len-put, IsStored-overwritten, IsStored-entry_at}
 
 -- a put keeps each entry a granule's
@@ -22,6 +21,14 @@ AreStored-put old g entry here there q e at =
       | false ↦ λ differs. there q e (sym (ap (λ b. cond b (Some entry) (map.get old q)) differs) ∙ sym (get-put old g entry q) ∙ at)
     ] refl
 
+-- what was not put by then was not before
+none_before : (old : Granules) (g : ℕ) (entry : Entry) (q : ℕ) → map.get (map.insert old g entry) q ≡ None → map.get old q ≡ None
+none_before old g entry q none =
+    elim (eqb q g) as (λ b. cond b (Some entry) (map.get old q) ≡ None → map.get old q ≡ None) [
+      | true ↦ λ put. absurd (none-some entry (sym put))
+      | false ↦ λ was. was
+    ] (sym (get-put old g entry q) ∙ none)
+
 -- where nothing stood there is one entry more, and room for it
 one_more : (o : Option Entry) (n : ℕ) → cond (is_some o) n (n + 1) ≡ n + bool_byte (is_none o)
 one_more None n = refl
@@ -32,9 +39,9 @@ room_for_one None n small room = omega (arith, room refl)
 room_for_one (Some entry) n small room = omega arith
 
 -- a first was read at the index of a granule's block
-pub record IsRead (blocks : List Block) (directory : ℕ → Option ℕ) (index g : ℕ) (first : Block) : Type 0 where
-  pub known : IsDirectory blocks directory
-  pub found : IsBlockAt blocks (g / 16) index
+pub record IsRead (blocks : List Block) (index g : ℕ) (first : Block) : Type 0 where
+  pub known : AreDistinct (numbers_of blocks)
+  pub found : IsBlockAt blocks (g / 8) index
   pub is : first ≡ get_or blocks index first
 
 -- a block has a write in one slot, and is else the same
@@ -42,54 +49,44 @@ pub record IsWritten (old new : Block) (slot : ℕ) (tag : Bool) (byte_index : �
   pub number : new.number ≡ old.number
   pub slots : slots_of new ≡ set (slots_of old) slot (Some (tag, overwritten (bytes_in_slot (slots_of old) slot) byte_index bytes, code))
 
--- a block with a write in one slot has one that was put
-pub IsUsed-written : (old new : Block) (slot : ℕ) (tag : Bool) (byte_index : ℕ) (bytes : List ℕ) (code : ℕ)
-    → slot < 16 → IsWritten old new slot tag byte_index bytes code → IsUsed new
-IsUsed-written old new slot tag byte_index bytes code small written none =
-    let wide = length-slots_of old in
-    none-some _ (sym (none slot) ∙ ap (λ slots. get_or slots slot None) written.slots
-    ∙ get_or-set_same (slots_of old) slot _ None (omega arith))
-
-module _ (blocks : List Block) (directory : ℕ → Option ℕ) (index g : ℕ) (first : Block)
-    (read : IsRead blocks directory index g first) where
+module _ (blocks : List Block) (index g : ℕ) (first : Block)
+    (read : IsRead blocks index g first) where
   -- what stood in the granule
-  get_read : map.get (contents_of blocks) g ≡ get_or (slots_of first) (g % 16) None
-  get_read = get_block blocks directory read.known g index first read.found read.is
+  get_read : map.get (contents_of blocks) g ≡ get_or (slots_of first) (g % 8) None
+  get_read = get_block blocks read.known g index first read.found read.is
 
-  number_read : first.number ≡ g / 16
+  number_read : first.number ≡ g / 8
   number_read =
       ap (λ (b : Block). b.number) read.is
       ∙ sym (get_or-map (λ (b : Block). b.number) blocks index first 0 read.found.in_range) ∙ read.found.has_number
 
   -- there is room for one more entry where none stood there
   pub len_fits : map.len (contents_of blocks) < 2 ^ 32 → HasRoom (contents_of blocks) g
-      → map.len (contents_of blocks) + bool_byte (is_none (get_or (slots_of first) (g % 16) None)) < 2 ^ 32
+      → map.len (contents_of blocks) + bool_byte (is_none (get_or (slots_of first) (g % 8) None)) < 2 ^ 32
   len_fits small room =
       subst (λ o. map.len (contents_of blocks) + bool_byte (is_none o) < 2 ^ 32) get_read
       (room_for_one (map.get (contents_of blocks) g) _ small room)
 
   module _ (block : Block) (tag : Bool) (byte_index : ℕ) (bytes : List ℕ) (code : ℕ)
-      (written : IsWritten first block (g % 16) tag byte_index bytes code) where
+      (written : IsWritten first block (g % 8) tag byte_index bytes code) where
     pub numbers_of-write : numbers_of (set blocks index block) ≡ numbers_of blocks
     numbers_of-write = numbers_of-set blocks block index (subst (λ n. IsBlockAt blocks n index) (sym (written.number ∙ number_read)) read.found)
-
-    pub IsDirectory-write : IsDirectory (set blocks index block) directory
-    IsDirectory-write =
-        IsDirectory-set blocks directory block index
-        (subst (λ n. IsBlockAt blocks n index) (sym (written.number ∙ number_read)) read.found) read.known
-
-    pub EachUsed-write : EachUsed blocks → EachUsed (set blocks index block)
-    EachUsed-write used =
-        let one = IsUsed-written first block (g % 16) tag byte_index bytes code (omega arith) written in
-        All-set (IsUsed) blocks index block one used
 
     -- the map has the write, and is else the same
     pub contents_of-write : contents_of (set blocks index block) ≡ with_write (contents_of blocks) g tag byte_index bytes code
     contents_of-write =
-        let was : bytes_in_slot (slots_of first) (g % 16) ≡ bytes_at (contents_of blocks) g =
+        let was : bytes_in_slot (slots_of first) (g % 8) ≡ bytes_at (contents_of blocks) g =
         ap (λ o. (unwrap_or o blank).1) (sym get_read) in
-        contents_of-set blocks directory read.known block first index g _ read.found (written.number ∙ number_read)
+        contents_of-set blocks read.known block first index g _ read.found (written.number ∙ number_read)
         (rw (← was, ← read.is) written.slots)
+
+    -- and each page that had a granule has one
+    pub ArePaged-write : (there : ℕ → Bool) → ArePaged blocks there → ArePaged (set blocks index block) there
+    ArePaged-write there paged = record {
+      has = λ i lt. ap (λ ns. there (get_or ns i 0 / 32)) numbers_of-write ∙ paged.has i (omega (arith, length-set blocks index block));
+      used = λ page is none. paged.used page is (λ q le lt.
+          none_before (contents_of blocks) g _ q (sym (ap (λ m. map.get m q) contents_of-write) ∙ none q le lt));
+    }
 
     pub AreStored-write : g < 2 ^ 60 → byte_index + length bytes ≤ 16 → All (λ byte. byte < 256) bytes → code < 2 ^ 64 → IsCodeFor tag code
         → AreStored (contents_of blocks)
@@ -100,7 +97,7 @@ module _ (blocks : List Block) (directory : ℕ → Option ℕ) (index g : ℕ) 
         rw contents_of-write (AreStored-put (contents_of blocks) g _ stands stored)
 
     pub len-write : map.len (contents_of (set blocks index block))
-        ≡ map.len (contents_of blocks) + bool_byte (is_none (get_or (slots_of first) (g % 16) None))
+        ≡ map.len (contents_of blocks) + bool_byte (is_none (get_or (slots_of first) (g % 8) None))
     len-write =
         ap map.len contents_of-write ∙ len-put (contents_of blocks) g _ ∙ one_more (map.get (contents_of blocks) g) _
         ∙ ap (λ o. map.len (contents_of blocks) + bool_byte (is_none o)) get_read

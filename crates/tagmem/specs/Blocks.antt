@@ -1,7 +1,7 @@
 -- The blocks that a `PageStore` keeps, and the map that they are. All of it is this profile's own.
-use Rattle.std.specs.Prelude.{◌≡◌, ℕ, suc, ◌*◌, ◌<◌, ◌≤◌, ◌≢◌, Bool, List, [], ◌∷◌, ◌++◌, length, map, All, Option}
-use Rattle.std.specs.{Prelude.{Some, None, unwrap_or, slice_index, slice_index_or}, FinMap.from_entries}
-use Rattle.tagmem.specs.{declared.block.Block.Block, Granules.{Entry, Granules, blank}}
+use Rattle.std.specs.Prelude.{◌≡◌, ℕ, suc, ◌+◌, ◌*◌, ◌/◌, ◌<◌, ◌≤◌, ◌≢◌, Bool, true, List, [], ◌∷◌, ◌++◌, length, map}
+use Rattle.std.specs.{Prelude.{Option, Some, None, unwrap_or, slice_index, slice_index_or}, FinMap.from_entries, List.AllPairs}
+use Rattle.tagmem.specs.{declared.block.Block.Block, Granules.{Entry, Granules, blank, NonePut}}
 
 -- a slot, where it was put: its tag, and its bytes and its code beside that
 abbrev pub slot_with : Option Bool → List ℕ → ℕ → Option Entry
@@ -34,14 +34,6 @@ IsFirstFrom slots from (Some first) =
     (from ≤ first) × (slice_index_or slots first None ≢ None)
     × ((slot : ℕ) → from ≤ slot → slot < first → slice_index_or slots slot None ≡ None)
 
--- some granule of a block was put
-abbrev pub IsUsed : Block → Type 0
-IsUsed block = ((slot : ℕ) → slice_index_or (slots_of block) slot None ≡ None) → ⊥
-
--- some granule of each block was put
-abbrev pub EachUsed : List Block → Type 0
-EachUsed blocks = All IsUsed blocks
-
 -- a granule's entry before others, where it was put
 abbrev pub with_slot : ℕ → Option Entry → List (ℕ × Entry) → List (ℕ × Entry)
 with_slot granule None rest = rest
@@ -52,10 +44,10 @@ abbrev pub entries_from : ℕ → List (Option Entry) → List (ℕ × Entry)
 entries_from granule [] = []
 entries_from granule (slot ∷ slots) = with_slot granule slot (entries_from (suc granule) slots)
 
--- the entries of blocks: block n has the 16 granules from 16 * n on
+-- the entries of blocks: block n has the eight granules from 8 * n on
 abbrev pub entries_of : List Block → List (ℕ × Entry)
 entries_of [] = []
-entries_of (block ∷ blocks) = entries_from (16 * block.number) (slots_of block) ++ entries_of blocks
+entries_of (block ∷ blocks) = entries_from (8 * block.number) (slots_of block) ++ entries_of blocks
 
 -- the map that blocks are
 abbrev pub contents_of : List Block → Granules
@@ -78,13 +70,11 @@ pub record IsBlockAt (blocks : List Block) (number index : ℕ) : Type 0 where
 abbrev pub IsAbsent : List Block → ℕ → Type 0
 IsAbsent blocks number = (index : ℕ) → index < length blocks → block_number_at blocks index ≢ number
 
--- the least number from one on that a block has, where one has
-abbrev pub IsNextBlock : List Block → ℕ → Option ℕ → Type 0
-IsNextBlock blocks from None = (number : ℕ) → from ≤ number → IsAbsent blocks number
-IsNextBlock blocks from (Some next) =
-    (from ≤ next) × (IsAbsent blocks next → ⊥) × ((number : ℕ) → from ≤ number → number < next → IsAbsent blocks number)
+-- no number stands twice
+abbrev pub AreDistinct : List ℕ → Type 0
+AreDistinct numbers = AllPairs (λ number other. number ≢ other) numbers
 
--- of each block its index is found, by its number, and nothing of any other number
-pub record IsDirectory (blocks : List Block) (directory : ℕ → Option ℕ) : Type 0 where
-  pub has : (index : ℕ) → index < length blocks → directory (block_number_at blocks index) ≡ Some index
-  pub right : (number index : ℕ) → directory number ≡ Some index → IsBlockAt blocks number index
+-- the page of each block is there, and in each page that is there a granule was put: page n has the blocks from 32 * n on
+pub record ArePaged (blocks : List Block) (there : ℕ → Bool) : Type 0 where
+  pub has : (index : ℕ) → index < length blocks → there (block_number_at blocks index / 32) ≡ true
+  pub used : (page : ℕ) → there page ≡ true → NonePut (contents_of blocks) (256 * page) (256 * page + 256) → ⊥

@@ -1,7 +1,7 @@
--- Where a `Directory` finds blocks. This profile's own.
-use Rattle.std.specs.Prelude.{ℕ, Option}
-use Rattle.tagmem.specs.{declared.directory.Directory.Directory, Pages.index_of}
+-- Which pages a `Directory` has. This profile's own.
+use Rattle.std.specs.Prelude.{ℕ, Bool}
+use Rattle.tagmem.specs.{declared.directory.Directory.Directory, Regions.is_there}
 
--- the index of the block with a number, where one has it
-abbrev pub found_in : Directory → ℕ → Option ℕ
-found_in directory = index_of directory.pages.items directory.tree
+-- the page with a number is there
+abbrev pub there_in : Directory → ℕ → Bool
+there_in directory = is_there directory.regions.items directory.tree

@@ -1,9 +1,10 @@
 pub mod Blocks
-pub mod Chains
+pub mod Trees
 pub mod Directories
 pub mod Granules
+pub mod Kept
 pub mod Listed
 pub mod ListLaws
-pub mod Pages
+pub mod Regions
 pub mod Rooms
 pub mod Stores

@@ -1,18 +1,17 @@
 -- The room that is reserved for blocks that aren't there yet. This profile's own.
-use Rattle.std.specs.Prelude.{ℕ, suc, ◌*◌, ◌<◌, ◌≤◌, Option, Some, None, length, vec_capacity}
-use Rattle.tagmem.specs.declared.{chains.Chains.Chains, directory.Directory.Directory}
+use Rattle.std.specs.Prelude.{ℕ, suc, ◌*◌, ◌<◌, ◌≤◌, Bool, true, false, length, vec_capacity}
+use Rattle.tagmem.specs.declared.{directory.Directory.Directory, trees.Trees.Trees}
 
--- chains have room for so many numbers in all
-pub record HasRoomFor (chains : Chains) (many : ℕ) : Type 0 where
-  pub numbers : many ≤ vec_capacity chains.numbers
-  pub nexts : many ≤ vec_capacity chains.nexts
-  pub heads : 0 < many → 0 < length chains.heads.items
+-- trees have room for so many blocks in all
+pub record HasRoomFor (trees : Trees) (many : ℕ) : Type 0 where
+  pub links : 2 * many ≤ vec_capacity trees.links
+  pub roots : 0 < many → 0 < length trees.roots.items
 
 -- how many blocks the pages that are there have places for
 abbrev pub blocks_of : Directory → ℕ
-blocks_of directory = 16 * length directory.pages.items
+blocks_of directory = 32 * directory.count
 
--- how many they have with a page that stands somewhere, or else is added
-abbrev pub blocks_with : Directory → Option ℕ → ℕ
-blocks_with directory None = 16 * suc (length directory.pages.items)
-blocks_with directory (Some at) = 16 * length directory.pages.items
+-- how many they have with a page that is there, or else is added
+abbrev pub blocks_with : Directory → Bool → ℕ
+blocks_with directory true = 32 * directory.count
+blocks_with directory false = 32 * suc directory.count

@@ -1,21 +1,21 @@
-//! A block: 16 granules that stand side by side.
+//! A block: eight granules that stand side by side.
 ghost use Rattle.std.specs.Prelude.{◌≡◌, ◌+◌, ◌<◌, ◌≤◌, ℕ, length, is_none, None, Some, slice_index_or, slice_set};
 ghost use Rattle.tagmem.specs.Granules.{IsBlankWhereUnput, overwritten, shown};
 
 use crate::overwrites::overwrite;
 
-// Block `number` has the granules from `16 * number` on. What was never put has no tag, zero bytes and the
+// Block `number` has the granules from `8 * number` on. What was never put has no tag, zero bytes and the
 // code 0.
 #[derive(Drop)]
 pub(crate) struct Block {
     pub(crate) number: u64,
     // The tag of each granule that was put.
-    tags: [Option<bool>; 16],
-    rows: [[u8; 16]; 16],
-    codes: [u64; 16],
-    ghost each_has_tag: { length tags ≡ 16 },
-    ghost each_has_row: { length rows ≡ 16 },
-    ghost each_has_code: { length codes ≡ 16 },
+    tags: [Option<bool>; 8],
+    rows: [[u8; 16]; 8],
+    codes: [u64; 8],
+    ghost each_has_tag: { length tags ≡ 8 },
+    ghost each_has_row: { length rows ≡ 8 },
+    ghost each_has_code: { length codes ≡ 8 },
     ghost blank: { IsBlankWhereUnput tags rows codes },
 }
 
@@ -29,16 +29,16 @@ impl Block {
     {
         Block {
             number,
-            tags: [None; 16],
-            rows: [[0; 16]; 16],
-            codes: [0; 16],
+            tags: [None; 8],
+            rows: [[0; 16]; 8],
+            codes: [0; 8],
         }
     }
 
     // The tag and the bytes of a granule.
     #[inline(always)]
     pub(crate) fn get(&self, slot: u8) -> Option<(bool, [u8; 16])>
-        requires { slot < 16 }
+        requires { slot < 8 }
         ensures { result ≡ shown (slice_index_or (slots_of self.now) slot None) }
     {
         match self.tags[slot as usize] {
@@ -50,7 +50,7 @@ impl Block {
     // The tag, the bytes and the code of a granule.
     #[inline(always)]
     pub(crate) fn entry(&self, slot: u8) -> Option<(bool, [u8; 16], u64)>
-        requires { slot < 16 }
+        requires { slot < 8 }
         ensures { result ≡ slice_index_or (slots_of self.now) slot None }
     {
         let place = slot as usize;
@@ -63,7 +63,7 @@ impl Block {
     // The code of a granule, and 0 where it was never put.
     #[inline(always)]
     pub(crate) fn code(&self, slot: u8) -> u64
-        requires { slot < 16 }
+        requires { slot < 8 }
         ensures { result ≡ code_in_slot (slots_of self.now) slot }
     {
         self.codes[slot as usize]
@@ -73,7 +73,7 @@ impl Block {
     pub(crate) fn first_from(&self, slot: u8) -> Option<u8>
         ensures { IsFirstFrom (slots_of self.now) slot result }
     {
-        for i in slot as usize..16 {
+        for i in slot as usize..8 {
             if self.tags[i].is_some() {
                 return Some(i as u8);
             }
@@ -92,7 +92,7 @@ impl Block {
         bytes: &[u8],
         code: u64,
     ) -> bool
-        requires in_block { slot < 16 }
+        requires in_block { slot < 8 }
         requires inside { byte_index + length bytes.now ≤ 16 }
         ensures first { result ≡ is_none (slice_index_or (slots_of self.old) slot None) }
         ensures number { self.new.number ≡ self.old.number }

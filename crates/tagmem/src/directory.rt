@@ -1,157 +1,174 @@
-//! Where blocks are, in the order of their numbers.
-ghost use Rattle.std.specs.Prelude.{◌≡◌, ◌/◌, ◌*◌, ◌+◌, ◌^◌, ◌<◌, ◌≤◌, ℕ, None, Some, IfSome, MatchOption, OnOk, OnErr};
+//! Which pages are there, in the order of their numbers.
+ghost use Rattle.std.specs.Prelude.{◌≡◌, ◌/◌, ◌*◌, ◌+◌, ◌^◌, ◌<◌, ◌≤◌, ℕ, Bool, true, false, None, Some, IfSome};
+ghost use Rattle.std.specs.Prelude.{MatchOption, OnOk, OnErr};
 ghost use Rattle.std.specs.Ordering.{nat_cmp};
 ghost use Rattle.std.specs.BTreeMap as tree;
-ghost use Rattle.tagmem.specs.Pages.{AreApart, EachHasBlock, IsAbove, StandsAt};
+ghost use Rattle.tagmem.specs.Regions.{AreApart, AreCounted, EachHasPage, IsAbove, StandsAt, is_there};
 
-use crate::page::Page;
+use crate::region::Region;
 use crate::store::NoMemory;
 use std::alloc::Global;
 use std::collections::BTreeMap;
 
-// The index of each block, by its number. Page `n` has the blocks from `16 * n` on, and stands in the list just
-// where one of them is there.
+// A set of pages. Region `n` has the pages from `64 * n` on, and stands in the list just where one of them is there.
 #[derive(Drop)]
 pub(crate) struct Directory {
-    pages: Vec<Page>,
-    // Where each page stands in the list, by its number.
+    regions: Vec<Region>,
+    // Where each region stands in the list, by its number.
     tree: BTreeMap<u64, usize>,
-    // The number of the page that was added last, and where it stands. At first it is that of no page.
+    // The number of the region that a page was added to last, and where it stands. At first it is that of no region.
     last: u64,
     last_at: usize,
-    // No page from this number on is there.
+    // No region from this number on is there.
     above: u64,
+    // How many pages are there.
+    count: usize,
     ghost bounded: { IsAbove tree above },
     ghost latest: { StandsAt tree last last_at },
-    ghost apart: { AreApart pages.items tree },
-    ghost used: { EachHasBlock pages.items },
+    ghost apart: { AreApart regions.items tree },
+    ghost used: { EachHasPage regions.items },
+    ghost counted: { (there : ℕ → Bool) → there ≡ is_there regions.items tree → AreCounted there count },
 }
 
 impl Directory {
-    ghost use Rattle.tagmem.specs.{Directories.found_in, Pages.{IsLeast, IsWith}, Rooms.{blocks_of, blocks_with}};
+    ghost use Rattle.tagmem.specs.{Directories.there_in, Regions.{IsLeast, IsWith, has_at}, Rooms.{blocks_of, blocks_with}};
 
-    // Of no block. It takes no memory.
+    // Of no page. It takes no memory.
     pub(crate) fn new(alloc: Global) -> Directory
-        ensures found { (number : ℕ) → found_in result number ≡ None }
+        ensures there { (page : ℕ) → there_in result page ≡ false }
         ensures blocks { blocks_of result ≡ 0 }
     {
         Directory {
-            pages: Vec::new(alloc),
+            regions: Vec::new(alloc),
             tree: BTreeMap::new(alloc),
             last: u64::MAX,
             last_at: 0,
             above: 0,
+            count: 0,
         }
     }
 
-    // The index of the block with a number.
-    pub(crate) fn get(&self, number: u64) -> Option<usize>
-        ensures { result ≡ found_in self.now number }
+    // The least page from a number on that is there.
+    pub(crate) fn next(&self, page: u64) -> Option<u64>
+        ensures least { IsLeast (there_in self.now) page result }
+        ensures small { IfSome result (λ least. least < 2 ^ 56) }
     {
-        match self.tree.get(&(number / 16)) {
-            Some(page) => self.pages[*page].index((number % 16) as u8),
-            None => None,
-        }
-    }
-
-    // The least number from one on that a block has.
-    pub(crate) fn next(&self, number: u64) -> Option<u64>
-        ensures { IsLeast (found_in self.now) number result }
-    {
-        match self.first_in(number / 16, (number % 16) as u8) {
+        match self.first_in(page / 64, (page % 64) as u8) {
             Some(next) => Some(next),
-            None => match self.tree.range(number / 16 + 1..).next() {
-                Some((page, _)) => self.first_in(*page, 0),
+            None => match self.tree.range(page / 64 + 1..).next() {
+                Some((region, _)) => self.first_in(*region, 0),
                 None => None,
             },
         }
     }
 
-    // The first block of a page, from a place on, that is there.
-    fn first_in(&self, page: u64, place: u8) -> Option<u64>
-        requires { place < 16 }
-        ensures { MatchOption result
-            ((number : ℕ) → 16 * page + place ≤ number → number < 16 * page + 16 → found_in self.now number ≡ None)
-            (λ first. IsLeast (found_in self.now) (16 * page + place) (Some first)) }
+    // The first page of a region, from a place on, that is there.
+    fn first_in(&self, region: u64, place: u8) -> Option<u64>
+        requires { place < 64 }
+        ensures first { MatchOption result
+            ((page : ℕ) → 64 * region + place ≤ page → page < 64 * region + 64 → there_in self.now page ≡ false)
+            (λ first. IsLeast (there_in self.now) (64 * region + place) (Some first)) }
+        ensures small { IfSome result (λ first. first < 2 ^ 56) }
     {
-        match self.tree.get(&page) {
-            Some(at) => match self.pages[*at].first_from(place) {
-                Some(first) => Some(16 * page + u64::from(first)),
+        match self.tree.get(&region) {
+            Some(at) => match self.regions[*at].first_from(place) {
+                Some(first) => Some(64 * region + u64::from(first)),
                 None => None,
             },
             None => None,
         }
     }
 
-    // How many blocks the pages have room for, a page among them that stands somewhere or else is added.
-    pub(crate) fn blocks_with(&self, page: Option<usize>) -> Option<usize>
-        ensures { IfSome result (λ many. many ≡ blocks_with self.now page) }
+    // How many blocks the pages have room for, with one more where it isn't there.
+    pub(crate) fn blocks_with(&self, there: bool) -> Option<usize>
+        ensures { IfSome result (λ many. many ≡ blocks_with self.now there) }
     {
-        let more = usize::from(page.is_none());
-        self.pages.len().checked_add(more)?.checked_mul(16)
+        self.count.checked_add(usize::from(!there))?.checked_mul(32)
     }
 
-    // Where a page stands in the list. It is mostly the one that was added last.
+    // Where a region stands in the list. It is mostly the last.
     #[inline(always)]
-    pub(crate) fn page_at(&self, page: u64) -> Option<usize>
-        requires { page < 2 ^ 60 }
-        ensures { result ≡ tree.get nat_cmp self.now.tree page }
+    pub(crate) fn region_at(&self, region: u64) -> Option<usize>
+        requires { region < 2 ^ 50 }
+        ensures { result ≡ tree.get nat_cmp self.now.tree region }
     {
-        if page == self.last {
+        if region == self.last {
             return Some(self.last_at);
         }
-        if page >= self.above {
+        if region >= self.above {
             return None;
         }
-        self.tree.get(&page).copied()
+        self.tree.get(&region).copied()
     }
 
-    // Adds a block, whose page stands somewhere or is added, or refuses it and stays as it was.
-    pub(crate) fn insert(
-        &mut self,
-        number: u64,
-        index: usize,
-        page: Option<usize>,
-    ) -> Result<(), NoMemory>
-        requires page { page ≡ tree.get nat_cmp self.old.tree (number / 16) }
-        requires fits { index < 4294967295 }
-        ensures ok { OnOk result (IsWith (found_in self.old) (found_in self.new) number index) }
-        ensures blocks { OnOk result (blocks_of self.new ≡ blocks_with self.old page) }
-        ensures err { OnErr result ((other : ℕ) → found_in self.new other ≡ found_in self.old other) }
-        ensures refused { OnErr result (blocks_of self.new ≡ blocks_of self.old) }
-        ensures only_new { OnErr result (page ≡ None) }
+    // Whether a page is there, whose region stands somewhere.
+    #[inline(always)]
+    pub(crate) fn has(&self, page: u64, region: Option<usize>) -> bool
+        requires { region ≡ tree.get nat_cmp self.now.tree (page / 64) }
+        ensures { result ≡ there_in self.now page }
     {
-        match page {
-            Some(at) => {
-                self.pages[at].set((number % 16) as u8, index);
-                Ok(())
-            }
-            None => self.add_page(number, index),
+        match region {
+            Some(at) => self.regions[at].has((page % 64) as u8),
+            None => false,
         }
     }
 
-    // Adds a page with one block.
-    fn add_page(&mut self, number: u64, index: usize) -> Result<(), NoMemory>
-        requires absent { tree.get nat_cmp self.old.tree (number / 16) ≡ None }
-        requires fits { index < 4294967295 }
-        ensures ok { OnOk result (IsWith (found_in self.old) (found_in self.new) number index) }
-        ensures blocks { OnOk result (blocks_of self.new ≡ blocks_of self.old + 16) }
-        ensures err { OnErr result ((other : ℕ) → found_in self.new other ≡ found_in self.old other) }
+    // Adds a page where it isn't there, or refuses it and stays as it was.
+    pub(crate) fn insert(
+        &mut self,
+        page: u64,
+        region: Option<usize>,
+        there: bool,
+    ) -> Result<(), NoMemory>
+        requires small { page < 2 ^ 56 }
+        requires region { region ≡ tree.get nat_cmp self.old.tree (page / 64) }
+        requires there { there ≡ there_in self.old page }
+        requires fits { self.old.count + 1 < 2 ^ 64 }
+        ensures ok { OnOk result (IsWith (there_in self.old) (there_in self.new) page) }
+        ensures blocks { OnOk result (blocks_of self.new ≡ blocks_with self.old there) }
+        ensures err { OnErr result ((other : ℕ) → there_in self.new other ≡ there_in self.old other) }
+        ensures refused { OnErr result (blocks_of self.new ≡ blocks_of self.old) }
+        ensures only_new { OnErr result (there ≡ false) }
+    {
+        if there {
+            return Ok(());
+        }
+        match region {
+            Some(at) => {
+                self.regions[at].add((page % 64) as u8);
+                self.last = page / 64;
+                self.last_at = at;
+                self.count += 1;
+                Ok(())
+            }
+            None => self.add_region(page),
+        }
+    }
+
+    // Adds a region with one page.
+    fn add_region(&mut self, page: u64) -> Result<(), NoMemory>
+        requires small { page < 2 ^ 56 }
+        requires absent { tree.get nat_cmp self.old.tree (page / 64) ≡ None }
+        requires fits { self.old.count + 1 < 2 ^ 64 }
+        ensures ok { OnOk result (IsWith (there_in self.old) (there_in self.new) page) }
+        ensures blocks { OnOk result (blocks_of self.new ≡ blocks_of self.old + 32) }
+        ensures err { OnErr result ((other : ℕ) → there_in self.new other ≡ there_in self.old other) }
         ensures refused { OnErr result (blocks_of self.new ≡ blocks_of self.old) }
     {
-        let Ok(()) = self.pages.reserve(1) else {
+        let Ok(()) = self.regions.reserve(1) else {
             return Err(NoMemory);
         };
-        let at = self.pages.len();
-        let Ok(_) = self.tree.insert(number / 16, at) else {
+        let at = self.regions.len();
+        let Ok(_) = self.tree.insert(page / 64, at) else {
             return Err(NoMemory);
         };
-        let mut page = Page::new();
-        page.set((number % 16) as u8, index);
-        self.pages.push_reserved(page);
-        self.last = number / 16;
+        let mut region = Region::new();
+        region.add((page % 64) as u8);
+        self.regions.push_reserved(region);
+        self.last = page / 64;
         self.last_at = at;
-        self.above = self.above.max(number / 16 + 1);
+        self.above = self.above.max(page / 64 + 1);
+        self.count += 1;
         Ok(())
     }
 }

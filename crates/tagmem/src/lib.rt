@@ -2,15 +2,14 @@
 #![tactic(auto)]
 
 mod block;
-mod chains;
 mod directory;
-mod links;
 mod list_store;
 mod overwrites;
-mod page;
 mod page_store;
+mod region;
 mod room;
 mod store;
+mod trees;
 
 pub use crate::list_store::ListStore;
 pub use crate::overwrites::overwrite;

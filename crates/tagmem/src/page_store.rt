@@ -1,39 +1,41 @@
 //! A store that keeps its entries in pages.
-ghost use Rattle.std.specs.Prelude.{◌≡◌, ◌^◌, ◌<◌, ◌+◌, ◌*◌, ◌≤◌, ◌/◌, length, None, Some, MatchOption, OnOk, OnErr};
-ghost use Rattle.std.specs.Prelude.{vec_capacity};
+ghost use Rattle.std.specs.Prelude.{◌≡◌, ◌^◌, ◌<◌, ◌+◌, ◌*◌, ◌≤◌, ◌/◌, length, false, true, None, Some, MatchOption, OnOk};
+ghost use Rattle.std.specs.Prelude.{OnErr, slice_index, suc, vec_capacity};
 ghost use Rattle.std.specs.FinMap as map;
-ghost use Rattle.tagmem.specs.Blocks.{contents_of, numbers_of, IsDirectory, IsBlockAt, IsAbsent, IsNextBlock, EachUsed};
-ghost use Rattle.tagmem.specs.{Directories.found_in, Granules.{with_write, with_cap, with_bytes, AreStored, HasRoom}};
+ghost use Rattle.tagmem.specs.Blocks.{contents_of, numbers_of, AreDistinct, IsBlockAt, IsAbsent};
+ghost use Rattle.tagmem.specs.{Granules.{with_write, with_cap, with_bytes, AreStored, HasRoom}};
 ghost use Rattle.tagmem.specs.{Granules.{IsCodeFor, NonePut, IsNextPut}, Rooms.{HasRoomFor, blocks_of, blocks_with}};
+ghost use Rattle.tagmem.specs.{Kept.{HasTrees, HasPages}, Trees.place_of};
 
 use crate::block::Block;
-use crate::chains::Chains;
 use crate::directory::Directory;
 use crate::room::make_room;
 use crate::store::{NoMemory, TaggedStore};
+use crate::trees::Trees;
 use std::alloc::Global;
 
 /// A store that keeps its entries in pages: page `n` has the 256 granules from `256 * n`. A put into an existing
 /// page allocates nothing. A put that needs a new page changes nothing until it has all its memory.
 ///
-/// A page has 16 blocks of 16 granules. The memory of all its blocks is reserved with the page. A block is made
+/// A page has 32 blocks of eight granules. The memory of all its blocks is reserved with the page. A block is made
 /// when one of its granules is put, and nothing is written to its memory before.
 #[derive(Drop)]
 pub struct PageStore {
     blocks: Vec<Block>,
-    // Finds a block by a hash of its number.
-    chains: Chains,
-    // Finds blocks in the order of their numbers.
+    // Finds a block by its number.
+    trees: Trees,
+    // Finds pages in the order of their numbers.
     directory: Directory,
     count: u32,
-    ghost chained: { chains.numbers.items ≡ numbers_of blocks.items },
-    ghost known: { IsDirectory blocks.items (found_in directory) },
-    ghost used: { EachUsed blocks.items },
+    ghost as_many: { length trees.links.items ≡ 2 * length blocks.items },
+    ghost found: { HasTrees blocks.items trees },
+    ghost distinct: { AreDistinct (numbers_of blocks.items) },
+    ghost paged: { HasPages blocks.items directory },
     ghost stored: { AreStored (contents_of blocks.items) },
     ghost counted: { count ≡ map.len (contents_of blocks.items) },
     // There is room for all blocks of the pages that are there.
     ghost roomy: { blocks_of directory ≤ vec_capacity blocks },
-    ghost linkable: { HasRoomFor chains (blocks_of directory) },
+    ghost linkable: { HasRoomFor trees (blocks_of directory) },
     ghost few: { length blocks.items ≤ map.len (contents_of blocks.items) },
     ghost fits: { map.len (contents_of blocks.items) < 2 ^ 32 },
 }
@@ -45,7 +47,7 @@ impl PageStore {
     {
         PageStore {
             blocks: Vec::new(alloc),
-            chains: Chains::new(alloc),
+            trees: Trees::new(alloc),
             directory: Directory::new(alloc),
             count: 0,
         }
@@ -56,67 +58,74 @@ impl PageStore {
     fn index_of(&self, number: u64) -> Option<usize>
         ensures { MatchOption result (IsAbsent self.now.blocks.items number) (IsBlockAt self.now.blocks.items number) }
     {
-        let last = (self.chains.head(number) as usize).wrapping_sub(1);
-        if let Some(block) = self.blocks.get(last)
-            && block.number == number
-        {
-            return Some(last);
+        let link = self.trees.root(number);
+        if link == 0 {
+            return None;
         }
-        self.search(number)
+        let root = link as usize - 1;
+        if self.blocks[root].number == number {
+            return Some(root);
+        }
+        self.search(number, root)
     }
 
-    // The same where the block of its hash that was added last isn't that.
+    // The same where another block is at the root of its place.
     #[inline(never)]
-    fn search(&self, number: u64) -> Option<usize>
+    fn search(&self, number: u64, root: usize) -> Option<usize>
+        requires { suc root ≡ slice_index self.now.trees.roots.items (place_of self.now.trees.mask number) }
         ensures { MatchOption result (IsAbsent self.now.blocks.items number) (IsBlockAt self.now.blocks.items number) }
     {
-        match self.chains.find(number) {
-            Some(found) => found,
-            None => self.directory.get(number),
-        }
-    }
-
-    // The least number from one on that a block has.
-    fn next_block(&self, number: u64) -> Option<u64>
-        ensures { IsNextBlock self.now.blocks.items number result }
-    {
-        self.directory.next(number)
+        self.trees.find(&self.blocks, number, root)
     }
 
     // The first granule of a block, from a slot on, that was put.
     fn first_in(&self, number: u64, slot: u8) -> Option<u64>
-        ensures { let contents = contents_of self.now.blocks.items in let from = 16 * number + slot in
+        ensures { let contents = contents_of self.now.blocks.items in let from = 8 * number + slot in
             MatchOption result
-            (NonePut contents from (16 * number + 16))
+            (NonePut contents from (8 * number + 8))
             (λ first. IsNextPut contents from (Some first)) }
     {
         match self.index_of(number) {
             Some(index) => match self.blocks[index].first_from(slot) {
-                Some(first) => Some(u64::from(first) + 16 * number),
+                Some(first) => Some(u64::from(first) + 8 * number),
                 None => None,
             },
             None => None,
         }
     }
 
+    // The first granule of the blocks from one number to below another that was put.
+    fn first_between(&self, number: u64, end: u64) -> Option<u64>
+        ensures { let contents = contents_of self.now.blocks.items in
+            MatchOption result
+            (NonePut contents (8 * number) (8 * end))
+            (λ first. IsNextPut contents (8 * number) (Some first)) }
+    {
+        for next in number..end {
+            if let Some(first) = self.first_in(next, 0) {
+                return Some(first);
+            }
+        }
+        None
+    }
+
     // Takes the memory of all blocks of a page that isn't there.
-    fn make_room(&mut self, page: Option<usize>) -> Result<(), NoMemory>
-        requires few { length self.old.blocks.items < 4294967295 }
+    fn make_room(&mut self, there: bool) -> Result<(), NoMemory>
         ensures blocks { self.new.blocks.items ≡ self.old.blocks.items }
         ensures directory { self.new.directory ≡ self.old.directory }
         ensures count { self.new.count ≡ self.old.count }
-        ensures room { OnOk result (blocks_with self.old.directory page ≤ vec_capacity self.new.blocks) }
-        ensures linkable { OnOk result (HasRoomFor self.new.chains (blocks_with self.old.directory page)) }
-        ensures only_new { OnErr result (page ≡ None) }
+        ensures room { OnOk result (blocks_with self.old.directory there ≤ vec_capacity self.new.blocks) }
+        ensures linkable { OnOk result (HasRoomFor self.new.trees (blocks_with self.old.directory there)) }
+        ensures only_new { OnErr result (there ≡ false) }
     {
-        if page.is_some() {
+        if there {
             return Ok(());
         }
-        let Some(many) = self.directory.blocks_with(page) else {
+        let Some(many) = self.directory.blocks_with(there) else {
             return Err(NoMemory);
         };
         make_room(&mut self.blocks, many)?;
-        self.chains.make_room(many)
+        self.trees.make_room(many)
     }
 
     // Adds a block, of which one granule is put: bytes over zeros from a byte index on.
@@ -130,7 +139,7 @@ impl PageStore {
     ) -> Result<(), NoMemory>
         requires in_memory { granule < 2 ^ 60 }
         requires coded { IsCodeFor tag code }
-        requires absent { IsAbsent self.old.blocks.items (granule / 16) }
+        requires absent { IsAbsent self.old.blocks.items (granule / 8) }
         requires inside { byte_index + length bytes.now ≤ 16 }
         requires room { HasRoom (contents_of self.old.blocks.items) granule }
         ensures ok { OnOk result (contents_of self.new.blocks.items
@@ -138,17 +147,18 @@ impl PageStore {
         ensures err { OnErr result (contents_of self.new.blocks.items ≡ contents_of self.old.blocks.items) }
         ensures in_page { OnErr result (NonePut (contents_of self.old.blocks.items) (256 * (granule / 256)) (256 * (granule / 256) + 256)) }
     {
-        let number = granule / 16;
+        let page = granule / 256;
         let index = self.blocks.len();
-        let page = self.directory.page_at(number / 16);
-        self.make_room(page)?;
-        let Ok(()) = self.directory.insert(number, index, page) else {
+        let region = self.directory.region_at(page / 64);
+        let there = self.directory.has(page, region);
+        self.make_room(there)?;
+        let Ok(()) = self.directory.insert(page, region, there) else {
             return Err(NoMemory);
         };
-        self.blocks.push_reserved(Block::new(number));
-        self.blocks[index].put((granule % 16) as u8, tag, byte_index, bytes, code);
+        self.blocks.push_reserved(Block::new(granule / 8));
+        self.blocks[index].put((granule % 8) as u8, tag, byte_index, bytes, code);
         self.count += 1;
-        self.chains.push(number);
+        self.trees.push(&self.blocks);
         Ok(())
     }
 
@@ -165,14 +175,14 @@ impl PageStore {
     )
         requires in_memory { granule < 2 ^ 60 }
         requires coded { IsCodeFor tag code }
-        requires found { IsBlockAt self.old.blocks.items (granule / 16) index }
+        requires found { IsBlockAt self.old.blocks.items (granule / 8) index }
         requires inside { byte_index + length bytes.now ≤ 16 }
         requires room { HasRoom (contents_of self.old.blocks.items) granule }
         ensures { contents_of self.new.blocks.items
             ≡ with_write (contents_of self.old.blocks.items) granule tag byte_index bytes.now code }
     {
         let block = &mut self.blocks[index];
-        let first = block.put((granule % 16) as u8, tag, byte_index, bytes, code);
+        let first = block.put((granule % 8) as u8, tag, byte_index, bytes, code);
         self.count += u32::from(first);
     }
 
@@ -197,7 +207,7 @@ impl PageStore {
         ensures only_new { OnErr result (map.get (contents_of self.old.blocks.items) granule ≡ None) }
         ensures in_page { OnErr result (NonePut (contents_of self.old.blocks.items) (256 * (granule / 256)) (256 * (granule / 256) + 256)) }
     {
-        match self.index_of(granule / 16) {
+        match self.index_of(granule / 8) {
             Some(index) => {
                 self.write(index, granule, tag, byte_index, bytes, code);
                 Ok(())
@@ -218,34 +228,37 @@ impl TaggedStore for PageStore {
 
     #[inline(always)]
     fn get(&self, granule: u64) -> Option<(bool, [u8; 16])> {
-        match self.index_of(granule / 16) {
-            Some(index) => self.blocks[index].get((granule % 16) as u8),
+        match self.index_of(granule / 8) {
+            Some(index) => self.blocks[index].get((granule % 8) as u8),
             None => None,
         }
     }
 
     #[inline(always)]
     fn code(&self, granule: u64) -> u64 {
-        match self.index_of(granule / 16) {
-            Some(index) => self.blocks[index].code((granule % 16) as u8),
+        match self.index_of(granule / 8) {
+            Some(index) => self.blocks[index].code((granule % 8) as u8),
             None => 0,
         }
     }
 
     #[inline(always)]
     fn entry(&self, granule: u64) -> Option<(bool, [u8; 16], u64)> {
-        match self.index_of(granule / 16) {
-            Some(index) => self.blocks[index].entry((granule % 16) as u8),
+        match self.index_of(granule / 8) {
+            Some(index) => self.blocks[index].entry((granule % 8) as u8),
             None => None,
         }
     }
 
     fn next_put(&self, granule: u64) -> Option<u64> {
-        match self.first_in(granule / 16, (granule % 16) as u8) {
+        match self.first_in(granule / 8, (granule % 8) as u8) {
             Some(next) => Some(next),
-            None => match self.next_block(granule / 16 + 1) {
-                Some(number) => self.first_in(number, 0),
-                None => None,
+            None => match self.first_between(granule / 8 + 1, 32 * (granule / 256 + 1)) {
+                Some(next) => Some(next),
+                None => match self.directory.next(granule / 256 + 1) {
+                    Some(page) => self.first_between(32 * page, 32 * page + 32),
+                    None => None,
+                },
             },
         }
     }

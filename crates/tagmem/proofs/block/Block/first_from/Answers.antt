@@ -19,6 +19,6 @@ loop-i-preserved c = λ k le lt.
 pub returns : goal.returns
 returns c = λ slot le.
     let block = c.args.self.now in
-    let past : 16 ≤ slot → get_or (slots_of block) slot None ≡ None = λ large.
+    let past : 8 ≤ slot → get_or (slots_of block) slot None ≡ None = λ large.
     get_or-eq_default (slots_of block) None (let wide = length-slots_of block in omega arith) in
     grind (arith, c.loop-i.invariant slot, past, c.loop-i.auto.i-end, c.loop-i-test.false)

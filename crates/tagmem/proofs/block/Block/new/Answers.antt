@@ -15,7 +15,7 @@ none_there (suc n) zero (row ∷ rows) (code ∷ codes) = refl
 none_there (suc n) (suc i) (row ∷ rows) (code ∷ codes) = none_there n i rows codes
 
 pub returns-clause-slots : goal.returns-clause-slots
-returns-clause-slots c = λ i. none_there 16 i (replicate 16 (replicate 16 0)) (replicate 16 0)
+returns-clause-slots c = λ i. none_there 8 i (replicate 8 (replicate 16 0)) (replicate 8 0)
 
 pub invariant_of-result-clause-blank : goal.invariant_of-result-clause-blank
-invariant_of-result-clause-blank c = λ slot lt none. (get_or-replicate 16 slot (replicate 16 0) [] lt, get_or-replicate 16 slot 0 0 lt)
+invariant_of-result-clause-blank c = λ slot lt none. (get_or-replicate 8 slot (replicate 16 0) [] lt, get_or-replicate 8 slot 0 0 lt)

@@ -1,5 +1,7 @@
-use Rattle.std.proofs.{Common.{◌∙◌, ◌≤◌, arith, vec_capacity}, lemmas.Result.on_ok_weaker}
+use Rattle.std.proofs.{Common.{refl, length, sym, ap, subst, ◌∙◌, ◌≤◌, arith, vec_capacity}, lemmas.{List.length-map, Result.on_ok_weaker}}
 use Rattle.tagmem.specs.Rooms.{blocks_of, blocks_with}
+use Rattle.tagmem.specs.{declared.block.Block.Block, Blocks.numbers_of, Trees.AreTrees}
+use Rattle.tagmem.proofs.page_store.PageStore.make_room.Goals.{After-make_room-2}
 use Rattle.tagmem.proofs.page_store.PageStore.make_room.Goals as goal
 
 -- what is kept is what it was
@@ -8,9 +10,10 @@ invariant_of-self c =
     let s = c.args.self.now in
     let same = c.make_room.ensures.items in
     record {
-      chained = rw same s.chained;
-      known = rw same s.known;
-      used = rw same s.used;
+      as_many = rw same s.as_many;
+      found = rw same s.found;
+      distinct = rw same s.distinct;
+      paged = rw same s.paged;
       stored = rw same s.stored;
       counted = rw same s.counted;
       roomy = omega (arith, s.roomy, c.make_room.ensures.capacity);
@@ -19,14 +22,26 @@ invariant_of-self c =
       fits = rw same s.fits;
     }
 
+-- the trees are those of the blocks
+found : (c : After-make_room-2) → AreTrees (numbers_of c.args.self.now.blocks.items) c.make_room-2.new.self.mask (length c.args.self.now.blocks.items)
+    c.make_room-2.new.self.roots.items c.make_room-2.new.self.links.items
+found c =
+    let s = c.args.self.now in
+    let long = length-map s.blocks.items (λ (block : Block). block.number) in
+    subst (λ n. AreTrees (numbers_of s.blocks.items) c.make_room-2.new.self.mask n c.make_room-2.new.self.roots.items
+    c.make_room-2.new.self.links.items) long
+    (c.make_room-2.ensures.trees (numbers_of s.blocks.items)
+    (subst (λ n. AreTrees (numbers_of s.blocks.items) s.trees.mask n s.trees.roots.items s.trees.links.items) (sym long) (s.found _ refl)))
+
 pub invariant_of-self-2 : goal.invariant_of-self-2
 invariant_of-self-2 c =
     let s = c.args.self.now in
     let same = c.make_room.ensures.items in
     record {
-      chained = rw same (c.make_room-2.ensures.numbers ∙ s.chained);
-      known = rw same s.known;
-      used = rw same s.used;
+      as_many = rw same (ap length c.make_room-2.ensures.links ∙ s.as_many);
+      found = λ many is. rw (is, same) (found (goal.at.invariant_of-self-2 c).After-make_room-2);
+      distinct = rw same s.distinct;
+      paged = rw same s.paged;
       stored = rw same s.stored;
       counted = rw same s.counted;
       roomy = omega (arith, s.roomy, c.make_room.ensures.capacity);
@@ -37,9 +52,9 @@ invariant_of-self-2 c =
 
 pub returns-clause-room : goal.returns-clause-room
 returns-clause-room c =
-    let fits : blocks_with c.args.self.now.directory c.args.page ≤ vec_capacity c.make_room.new.list =
+    let fits : blocks_with c.args.self.now.directory c.args.there ≤ vec_capacity c.make_room.new.list =
     omega (arith, c.in-Some.ensures, c.in_ok-make_room.ensures.ok) in
     on_ok_weaker c.make_room-2.result (λ _. fits) c.make_room-2.ensures.ok
 
-pub returns-then-is_some-clause-only_new : goal.returns-then-is_some-clause-only_new
-returns-then-is_some-clause-only_new c = tt
+pub returns-then-there-clause-only_new : goal.returns-then-there-clause-only_new
+returns-then-there-clause-only_new c = tt

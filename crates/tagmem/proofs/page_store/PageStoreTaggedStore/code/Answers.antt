@@ -1,5 +1,5 @@
 use Rattle.std.proofs.Common.{unwrap_or, sym, ap, ◌∙◌}
-use Rattle.tagmem.specs.{Directories.found_in, Granules.blank}
+use Rattle.tagmem.specs.Granules.{blank}
 use Rattle.tagmem.proofs.Blocks.{get_read, get_absent}
 use Rattle.tagmem.proofs.page_store.PageStoreTaggedStore.code.Goals as goal
 
@@ -8,7 +8,7 @@ pub returns-in-Some : goal.returns-in-Some
 returns-in-Some c = record {
   value =
       let s = c.args.self.now in
-      c.code.ensures ∙ sym (ap (λ o. (unwrap_or o blank).2) (get_read s.blocks.items (found_in s.directory) s.known c.args.granule c.in-Some.index c.index.result.now c.in-Some.ensures c.index.ensures));
+      c.code.ensures ∙ sym (ap (λ o. (unwrap_or o blank).2) (get_read s.blocks.items s.distinct c.args.granule c.in-Some.index c.index.result.now c.in-Some.ensures c.index.ensures));
 }
 
 -- or it is absent

@@ -1,5 +1,4 @@
 use Rattle.std.proofs.Common.{sym, ◌∙◌}
-use Rattle.tagmem.specs.Directories.{found_in}
 use Rattle.tagmem.proofs.Blocks.{get_read, get_absent}
 use Rattle.tagmem.proofs.page_store.PageStoreTaggedStore.entry.Goals as goal
 
@@ -8,7 +7,7 @@ pub returns-in-Some : goal.returns-in-Some
 returns-in-Some c = record {
   value =
       let s = c.args.self.now in
-      c.entry.ensures ∙ sym (get_read s.blocks.items (found_in s.directory) s.known c.args.granule c.in-Some.index c.index.result.now c.in-Some.ensures c.index.ensures);
+      c.entry.ensures ∙ sym (get_read s.blocks.items s.distinct c.args.granule c.in-Some.index c.index.result.now c.in-Some.ensures c.index.ensures);
 }
 
 -- or it is absent

@@ -1,23 +1,25 @@
-use Rattle.std.proofs.Common.{◌*◌, ◌+◌, ◌/◌, arith}
-use Rattle.tagmem.specs.{Blocks.contents_of, Directories.found_in, Granules.NonePut}
+use Rattle.std.proofs.Common.{refl, ◌*◌, ◌+◌, ◌/◌, arith}
+use Rattle.tagmem.specs.{Blocks.contents_of, Directories.there_in, Granules.NonePut}
 use Rattle.tagmem.proofs.NextPut.{next_put-last, next_put-later}
+use Rattle.tagmem.proofs.page_store.PageStoreTaggedStore.next_put.Goals.{In-None-first_between}
 use Rattle.tagmem.proofs.page_store.PageStoreTaggedStore.next_put.Goals as goal
 
-pub returns-in-Some-next_block : goal.returns-in-Some-next_block
-returns-in-Some-next_block c = record {
+-- none of the rest of the page was put
+rest : (c : In-None-first_between) → NonePut (contents_of c.args.self.now.blocks.items) c.args.granule (256 * (c.args.granule / 256) + 256)
+rest c q le lt = grind (arith, c.in-None.ensures q, c.in-None-first_between.ensures q)
+
+pub returns-in-Some-next : goal.returns-in-Some-next
+returns-in-Some-next c = record {
   least =
       let s = c.args.self.now in
-      let none : NonePut (contents_of s.blocks.items) c.args.granule (16 * (c.args.granule / 16) + 16) =
-      λ q le lt. c.in-None.ensures q (omega arith) lt in
-      next_put-later s.blocks.items c.args.granule none (found_in s.directory)
-      s.known s.used c.in-Some-next_block.number c.in-Some-next_block.ensures
-      c.first_in-in-Some-next_block.result c.first_in-in-Some-next_block.ensures;
+      next_put-later s.blocks.items (there_in s.directory) (s.paged _ refl) c.args.granule (rest (goal.at.returns-in-Some-next c).In-None-first_between)
+      c.in-Some-next.page c.in-Some-next.ensures.least c.first_between-in-Some-next.result c.first_between-in-Some-next.ensures;
 }
 
-pub returns-in-None-next_block : goal.returns-in-None-next_block
-returns-in-None-next_block c = record {
+pub returns-in-None-next : goal.returns-in-None-next
+returns-in-None-next c = record {
   least =
-      let none : NonePut (contents_of c.args.self.now.blocks.items) c.args.granule (16 * (c.args.granule / 16) + 16) =
-      λ q le lt. c.in-None.ensures q (omega arith) lt in
-      next_put-last c.args.self.now.blocks.items c.args.granule none c.in-None-next_block.ensures;
+      let s = c.args.self.now in
+      next_put-last s.blocks.items (there_in s.directory) (s.paged _ refl) c.args.granule (rest (goal.at.returns-in-None-next c).In-None-first_between)
+      c.in-None-next.ensures.least;
 }

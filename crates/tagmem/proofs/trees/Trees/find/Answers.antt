@@ -1,0 +1,51 @@
+use Rattle.std.proofs.Common.{◌≡◌, ◌≢◌, ℕ, suc, ◌-◌, ◌+◌, ◌*◌, ◌/◌, ◌%◌, get_or, sym, ap, subst, ◌∙◌, arith}
+use Rattle.std.proofs.lemmas.{Grind.get_or_default_zero, List.get_or-map}
+use Rattle.tagmem.specs.{declared.block.Block.Block, Blocks.{IsBlockAt, block_number_at}, Trees.{LeadsTo, child_of, place_of}}
+use Rattle.tagmem.proofs.Ways.{leads_from_root, leads_nowhere, leads_on}
+use Rattle.tagmem.proofs.trees.Trees.find.Goals.{After-index-child}
+use Rattle.tagmem.proofs.trees.Trees.find.Goals as goal
+
+-- from another block's child the way leads to the block with the number
+from_child : (c : After-index-child) → (i : ℕ) → IsBlockAt c.args.blocks.now c.args.number i
+    → LeadsTo c.args.self.now.links.items (c.loop-index.bits / 2) c.index-child.result.now (suc i)
+from_child c i at =
+    let s = c.args.self.now in
+    let links = s.links.items in
+    let index = c.loop-index.index in
+    let block = c.index-blocks-index.result in
+    let number_is : (get_or c.args.blocks.now index block).number ≡ block_number_at c.args.blocks.now index =
+    sym (get_or-map (λ (b : Block). b.number) c.args.blocks.now index block 0 c.loop-index.invariant.in_range) in
+    let differs : index ≢ i = λ same. c.if-blocks-index.false (number_is ∙ ap (block_number_at c.args.blocks.now) same ∙ at.has_number) in
+    let child : c.index-child.result.now ≡ child_of links (suc index) (c.loop-index.bits % 2) =
+    c.index-child.ensures ∙ get_or_default_zero links (2 * index + c.loop-index.bits % 2) c.index-child.result.now
+    (omega (arith, c.loop-index.invariant.in_range, c.requires.as_many)) in
+    rw child (leads_on links c.loop-index.bits index i differs (c.loop-index.invariant.sought i at))
+
+pub loop-index-init : goal.loop-index-init
+loop-index-init c =
+    let s = c.args.self.now in
+    let le = c.requires.trees.rooted (place_of s.mask c.args.number) in
+    record {
+      in_range = omega (arith, le, c.requires.root);
+      sought = λ i at. rw c.requires.root
+          (leads_from_root c.args.blocks.now s.mask s.roots.items s.links.items c.requires.trees c.args.number i at);
+    }
+
+pub returns-then-child-eq0 : goal.returns-then-child-eq0
+returns-then-child-eq0 c = λ i lt is.
+    leads_nowhere c.args.self.now.links.items (c.loop-index.bits / 2) c.index-child.result.now i c.if-child-eq0.true
+    (from_child (goal.at.returns-then-child-eq0 c).After-index-child i (record { in_range = lt; has_number = is }))
+
+pub loop-index-preserved : goal.loop-index-preserved
+loop-index-preserved c =
+    let s = c.args.self.now in
+    let child = c.index-child.result.now in
+    let counted : child ≡ suc (child - 1) = let some = c.if-child-eq0.false in omega arith in
+    let place = 2 * c.loop-index.index + c.loop-index.bits % 2 in
+    let read : child ≡ get_or s.links.items place 0 = c.index-child.ensures ∙ get_or_default_zero s.links.items place child
+    (omega (arith, c.loop-index.invariant.in_range, c.requires.as_many)) in
+    record {
+      in_range = omega (arith, read, c.requires.trees.forward.within place, counted);
+      sought = λ i at. subst (λ l. LeadsTo s.links.items (c.loop-index.bits / 2) l (suc i)) counted
+          (from_child (goal.at.loop-index-preserved c).After-index-child i at);
+    }
