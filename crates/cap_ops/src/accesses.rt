@@ -105,14 +105,12 @@ fn sound_access_fault(
 {
     let word = authority.word;
     if authority.tag
-        && recent.holds(word, access, address)
+        && (recent.holds(word, access, address)
+            || recent.holds_anew(word, address, u64::from(access.size - 1)))
         && permits(word, needed(access.kind))
         && is_aligned(address, access)
     {
         return stored_fault(word, access.kind);
-    }
-    if authority.tag && !sealed(word) {
-        recent.keep(word);
     }
     access_fault(authority, access, address)
 }

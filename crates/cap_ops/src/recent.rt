@@ -7,6 +7,7 @@ ghost use Rattle.cap_ops.specs.Operations.{covers};
 ghost use Rattle.cap_ops.specs.Permissions.{is_sealed, unsealed_type};
 
 use crate::access::Access;
+use crate::sealing::sealed;
 use cap_bounds::{Extent, extent_of};
 use cap_word::Word;
 
@@ -45,18 +46,25 @@ impl RecentAuthority {
         high_half(word) == self.high && self.extent.holds(address, u64::from(access.size - 1))
     }
 
-    /// Keeps an authority, if it holds any address. By a function of its own: most accesses don't call it.
+    /// Whether a sound word is unsealed, and has an address and the `more` after it in its bounds. It is kept, if it is
+    /// unsealed and holds any address. By a function of its own, of numbers alone: most accesses don't call it.
     #[inline(never)]
-    pub(crate) fn keep(&mut self, word: Word)
+    pub(crate) fn holds_anew(&mut self, word: Word, address: u64, more: u64) -> bool
         requires sound { IsSound word.0 }
-        requires unsealed { is_sealed word.0 ≡ false }
+        ensures unsealed { result ≡ true → is_sealed word.0 ≡ false }
+        ensures inside { result ≡ true → covers word.0 address (address + (more + 1)) ≡ true }
     {
-        if let Some(extent) = extent_of(word) {
-            *self = RecentAuthority {
-                high: high_half(word),
-                extent,
-            };
+        if sealed(word) {
+            return false;
         }
+        let Some(extent) = extent_of(word) else {
+            return false;
+        };
+        *self = RecentAuthority {
+            high: high_half(word),
+            extent,
+        };
+        extent.holds(address, more)
     }
 }
 

@@ -103,7 +103,7 @@ impl Trees {
         Ok(())
     }
 
-    // Takes in the last of the blocks. Where the others are as many as the places, there are more first.
+    // Takes in the last of the blocks. There are more places first, where these are too few and there is room.
     pub(crate) fn push(&mut self, blocks: &[Block])
         requires room { HasRoomFor self.old (length blocks.now) }
         requires fits { length blocks.now < 2 ^ 32 }
@@ -122,15 +122,15 @@ impl Trees {
         }
     }
 
-    // How many places so many blocks should have, where these are more than there are: four times as many, or else
-    // twice, where there is room for them.
+    // How many places there should be, where so many blocks are more than half as many as there are: four times as many,
+    // or else twice, where there is room for them.
     fn more_places(&self, count: usize) -> Option<usize>
         requires { 0 < length self.now.roots.items }
         ensures some { IfSome result (λ places. 0 < places) }
         ensures room { IfSome result (λ places. places ≤ vec_capacity self.now.roots) }
     {
         let places = self.roots.len();
-        if count <= places {
+        if count <= places / 2 {
             return None;
         }
         let most = self.roots.capacity();
