@@ -1,33 +1,43 @@
 -- What is found in regions, and what becomes of it as they change and are added.
-use Rattle.std.specs.{BTreeMap.Updates, Cmp.unsigned_tied, List.Contains}
+use Rattle.std.specs.{BTreeMap.Updates, Cmp.unsigned_tied, Int.bit_at, List.Contains, Prelude.◌==◌}
 use Rattle.std.specs.BTreeMap as tree
 use Rattle.std.proofs.Common.{◌≡◌, ◌≢◌, ℕ, suc, ◌+◌, ◌*◌, ◌/◌, ◌%◌, ◌^◌, ◌<◌, ◌≤◌, Bool, true, false, cond, eqb, List, [], ◌∷◌}
 use Rattle.std.proofs.Common.{◌++◌, length, get_or, set, map, Option, Some, None, sym, refl, ap, ◌∙◌, arith}
-use Rattle.std.proofs.Common.{MatchOption, nat_cmp, BTreeMap, eqb-true, ne_eqb, get_or-set_same, get_or-set_other}
-use Rattle.std.proofs.{Common.{length-append, length-set}, Math.ListN.get_or-eq_default, lemmas.Bool.Decides.nat_tests}
-use Rattle.std.proofs.lemmas.List.{get_or-map, get_or_push, get_or_append_left, length-map, map-append, map-set}
-use Rattle.std.proofs.lemmas.{List.Elements.{All-append, All-cons, All-get_or, All-nil, All-set}, Option.{same_Some}, Bool.{false≢true}}
+use Rattle.std.proofs.Common.{MatchOption, nat_cmp, BTreeMap, eqb-true, get_or-set_same, get_or-set_other}
+use Rattle.std.proofs.{Common.{length-append, length-set}, Math.{Seq.map-set_same}, lemmas.Bool.Decides.nat_tests}
+use Rattle.std.proofs.lemmas.List.{get_or-map, get_or_default, get_or_push, get_or_append_left, length-map, map-append, map-set}
+use Rattle.std.proofs.lemmas.{List.Elements.{All-append, All-cons, All-get_or, All-nil, All-set}, Bool.{false≢true}, Nat.Bits.bit_at_above}
 use Rattle.tagmem.specs.{declared.region.Region.Region, Regions.{has_page, has_at, is_there, HasPage}}
-use Rattle.tagmem.specs.Regions.{EachHasPage, AreApart, AreCounted, IsAbove, IsLeast, IsWith}
+use Rattle.tagmem.specs.Regions.{EachHasPage, AreCounted, AreIndexed, IsAbove, IsLeast, IsWith, numbers_of}
 
-abbrev pages_in : Region → List Bool
+abbrev pages_in : Region → ℕ
 pages_in region = region.there
+
+abbrev number_of : Region → ℕ
+number_of region = region.number
 
 -- what is found at the place of a region
 has_at-default : (regions : List Region) (at : ℕ) (d : Region) (place : ℕ) → at < length regions
     → has_at regions (Some at) place ≡ has_page (get_or regions at d) place
 has_at-default regions at d place in_range =
-    ap (λ kept. get_or kept place false) (get_or-map pages_in regions at d [] in_range)
+    ap (λ kept. bit_at kept place == 1) (get_or-map pages_in regions at d 0 in_range)
 
-pub has_at-there : (regions : List Region) (at : ℕ) (region : Region) (place : ℕ) → at < length regions
+has_at-there : (regions : List Region) (at : ℕ) (region : Region) (place : ℕ) → at < length regions
     → region ≡ get_or regions at region
     → has_at regions (Some at) place ≡ has_page region place
 has_at-there regions at region place in_range is =
     has_at-default regions at region place in_range ∙ ap (λ r. has_page r place) (sym is)
 
+-- a region of the list stands there by its number
+pub found_at : (regions : List Region) (by_number : BTreeMap ℕ ℕ) (at : ℕ) (region : Region) → AreIndexed (numbers_of regions) by_number
+    → at < length regions → region ≡ get_or regions at region → tree.get nat_cmp by_number region.number ≡ Some at
+found_at regions by_number at region known in_range is =
+    ap (tree.get nat_cmp by_number) (ap number_of is ∙ sym (get_or-map number_of regions at region 0 in_range))
+    ∙ known.found at (omega (arith, length-map regions number_of))
+
 -- a region has 64 pages
-past : (region : Region) (place : ℕ) → 64 ≤ place → has_page region place ≡ false
-past region place large = get_or-eq_default region.there false (let wide = region.wide in omega arith)
+pub past : (region : Region) (place : ℕ) → 64 ≤ place → has_page region place ≡ false
+past region place large = ap (λ bit. bit == 1) (bit_at_above region.there 64 place region.small large)
 
 pub first_small : (region : Region) (place first : ℕ) → IsLeast (has_page region) place (Some first) → first < 64
 first_small region place first found = grind (arith, found.1, past region first)
@@ -37,14 +47,13 @@ HasPage-with : (region : Region) (place : ℕ) → has_page region place ≡ tru
 HasPage-with region place own none = false≢true (sym (none place) ∙ own)
 
 -- a region that stands
-module _ (regions : List Region) (by_number : BTreeMap ℕ ℕ) (n at : ℕ) (region : Region)
-    (stands : tree.get nat_cmp by_number n ≡ Some at)
-    (there : (place : ℕ) → has_at regions (Some at) place ≡ has_page region place) where
+module _ (regions : List Region) (by_number : BTreeMap ℕ ℕ) (known : AreIndexed (numbers_of regions) by_number) (n at : ℕ)
+    (region : Region) (stands : tree.get nat_cmp by_number n ≡ Some at) (is : region ≡ get_or regions at region) where
   -- each of its pages is there as it says
   is_there-own : (q : ℕ) → q / 64 ≡ n → is_there regions by_number q ≡ has_page region (q % 64)
   is_there-own q own =
       ap (λ m. has_at regions (tree.get nat_cmp by_number m) (q % 64)) own ∙ ap (λ o. has_at regions o (q % 64)) stands
-      ∙ there (q % 64)
+      ∙ has_at-there regions at region (q % 64) (omega (arith, length-map regions number_of, known.in_range n at stands)) is
 
   place_in : (place : ℕ) → place < 64 → has_page region place ≡ is_there regions by_number (64 * n + place)
   place_in place small =
@@ -74,13 +83,15 @@ module _ (regions : List Region) (by_number : BTreeMap ℕ ℕ) (n at : ℕ) (re
       has (λ place. grind (arith, inside place, past region place))
 
 -- in each region that stands a page is found
-pub found_in_region : (regions : List Region) (by_number : BTreeMap ℕ ℕ) (n at : ℕ) → at < length regions → EachHasPage regions
-    → tree.get nat_cmp by_number n ≡ Some at
+pub found_in_region : (regions : List Region) (by_number : BTreeMap ℕ ℕ) (n at : ℕ) → AreIndexed (numbers_of regions) by_number
+    → EachHasPage regions → tree.get nat_cmp by_number n ≡ Some at
     → ((q : ℕ) → 64 * n + 0 ≤ q → q < 64 * n + 64 → is_there regions by_number q ≡ false) → ⊥
-found_in_region [] by_number n at in_range used stands none = omega arith
-found_in_region (first ∷ rest) by_number n at in_range used stands none =
-    not_empty (first ∷ rest) by_number n at (get_or (first ∷ rest) at first) stands
-    (λ place. has_at-default (first ∷ rest) at first place in_range) (All-get_or HasPage (first ∷ rest) at first in_range used) none
+found_in_region [] by_number n at known used stands none = omega (arith, known.in_range n at stands)
+found_in_region (first ∷ rest) by_number n at known used stands none =
+    let region = get_or (first ∷ rest) at first in
+    let lt : at < length (first ∷ rest) = omega (arith, length-map (first ∷ rest) number_of, known.in_range n at stands) in
+    not_empty (first ∷ rest) by_number known n at region stands (get_or_default (first ∷ rest) at first region lt)
+    (All-get_or HasPage (first ∷ rest) at first lt used) none
 
 -- nothing is found of a region that doesn't stand
 pub is_there-absent : (regions : List Region) (by_number : BTreeMap ℕ ℕ) (q : ℕ) → tree.get nat_cmp by_number (q / 64) ≡ None
@@ -99,12 +110,12 @@ AreCounted-with old new page count with counted none = counted (λ numbers many 
     ] refl))
 
 -- a region in which one page more is found
-module _ (regions : List Region) (by_number : BTreeMap ℕ ℕ) (known : AreApart regions by_number) (number at : ℕ) (old new : Region)
+module _ (regions : List Region) (by_number : BTreeMap ℕ ℕ) (known : AreIndexed (numbers_of regions) by_number) (number at : ℕ) (old new : Region)
     (stands : tree.get nat_cmp by_number (number / 64) ≡ Some at) (is : old ≡ get_or regions at old)
     (own : has_page new (number % 64) ≡ true)
     (others : (place : ℕ) → place ≢ number % 64 → has_page new place ≡ has_page old place) where
   in_range : at < length regions
-  in_range = known.in_range (number / 64) at stands
+  in_range = omega (arith, length-map regions number_of, known.in_range (number / 64) at stands)
 
   has_at-set : (place : ℕ) → has_at (set regions at new) (Some at) place ≡ has_page new place
   has_at-set place =
@@ -113,22 +124,14 @@ module _ (regions : List Region) (by_number : BTreeMap ℕ ℕ) (known : AreApar
 
   has_at-other : (r place : ℕ) → r ≢ at → has_at (set regions at new) (Some r) place ≡ has_at regions (Some r) place
   has_at-other r place differs =
-      ap (λ kept. get_or kept place false)
-      (ap (λ ks. get_or ks r []) (map-set pages_in regions at new) ∙ get_or-set_other (map pages_in regions) at r (pages_in new) [] differs)
+      ap (λ kept. bit_at kept place == 1)
+      (ap (λ ks. get_or ks r 0) (map-set pages_in regions at new) ∙ get_or-set_other (map pages_in regions) at r (pages_in new) 0 differs)
 
   other_page : (q : ℕ) → q ≢ number → (o : Option ℕ) → tree.get nat_cmp by_number (q / 64) ≡ o
       → has_at (set regions at new) o (q % 64) ≡ has_at regions o (q % 64)
   other_page q differs None gets = refl
   other_page q differs (Some r) gets =
-      elim (eqb r at) as (λ b. eqb r at ≡ b → has_at (set regions at new) (Some r) (q % 64) ≡ has_at regions (Some r) (q % 64)) [
-        | true ↦ λ same.
-            let here : r ≡ at = eqb-true r at same in
-            let region : q / 64 ≡ number / 64 = known.apart (q / 64) (number / 64) at (gets ∙ ap Some here) stands in
-            ap (λ r. has_at (set regions at new) (Some r) (q % 64)) here ∙ has_at-set (q % 64)
-            ∙ others (q % 64) (λ place. differs (omega (arith, region, place)))
-            ∙ sym (has_at-there regions at old (q % 64) in_range is) ∙ sym (ap (λ r. has_at regions (Some r) (q % 64)) here)
-        | false ↦ λ apart. has_at-other r (q % 64) (λ here. grind (arith, nat_tests))
-      ] refl
+      grind (arith, has_at-set (q % 64), others (q % 64), has_at-other r (q % 64), has_at-there regions at old (q % 64) in_range is, known.stands (q / 64) r, known.stands (number / 64) at)
 
   pub IsWith-set : IsWith (is_there regions by_number) (is_there (set regions at new) by_number) number
   IsWith-set = (
@@ -144,15 +147,11 @@ module _ (regions : List Region) (by_number : BTreeMap ℕ ℕ) (known : AreApar
   AreCounted-set count =
       AreCounted-with (is_there regions by_number) (is_there (set regions at new) by_number) number count IsWith-set
 
-  pub AreApart-set : AreApart (set regions at new) by_number
-  AreApart-set = record {
-    in_range = λ n r gets. let lt = known.in_range n r gets in omega (arith, length-set regions at new);
-    apart = known.apart;
-    small = known.small;
-  }
+  pub AreIndexed-set : new.number ≡ old.number → AreIndexed (numbers_of (set regions at new)) by_number
+  AreIndexed-set same = rw (map-set_same number_of regions at new old (same ∙ ap number_of is)) known
 
 -- a region more, in which one page is found
-module _ (regions : List Region) (old new : BTreeMap ℕ ℕ) (known : AreApart regions old) (number at : ℕ) (region : Region)
+module _ (regions : List Region) (old new : BTreeMap ℕ ℕ) (known : AreIndexed (numbers_of regions) old) (number at : ℕ) (region : Region)
     (in_memory : number < 2 ^ 56) (absent : tree.get nat_cmp old (number / 64) ≡ None) (last : at ≡ length regions)
     (updates : Updates nat_cmp old new (number / 64) (Some at))
     (own : has_page region (number % 64) ≡ true)
@@ -160,25 +159,9 @@ module _ (regions : List Region) (old new : BTreeMap ℕ ℕ) (known : AreApart 
   told : (q : ℕ) → tree.get nat_cmp new q ≡ cond (eqb (number / 64) q) (Some at) (tree.get nat_cmp old q)
   told q = updates.0 q ∙ ap (λ b. cond b (Some at) (tree.get nat_cmp old q)) (unsigned_tied (number / 64) q)
 
-  told_own : (q : ℕ) → eqb (number / 64) q ≡ true → tree.get nat_cmp new q ≡ Some at
-  told_own q same = told q ∙ ap (λ b. cond b (Some at) (tree.get nat_cmp old q)) same
-
-  told_other : (q : ℕ) → eqb (number / 64) q ≡ false → tree.get nat_cmp new q ≡ tree.get nat_cmp old q
-  told_other q differs = told q ∙ ap (λ b. cond b (Some at) (tree.get nat_cmp old q)) differs
-
   -- from a number on that is above both no region is there
   pub IsAbove-push : (above more : ℕ) → IsAbove old above → above ≤ more → number / 64 < more → IsAbove new more
-  IsAbove-push above more was least new_least q from =
-      told_other q (ne_eqb (number / 64) q (λ e. absurd (omega (arith, e, new_least, from)))) ∙ was q (omega (arith, least, from))
-
-  -- it is the new one or an old one
-  cases : (P : Type 0) (n r : ℕ) → tree.get nat_cmp new n ≡ Some r → (n ≡ number / 64 → r ≡ at → P)
-      → (tree.get nat_cmp old n ≡ Some r → P) → P
-  cases P n r gets if_new if_old =
-      elim (eqb (number / 64) n) as (λ b. eqb (number / 64) n ≡ b → P) [
-        | true ↦ λ same. if_new (sym (eqb-true (number / 64) n same)) (same_Some _ _ (sym gets ∙ told_own n same))
-        | false ↦ λ differs. if_old (sym (told_other n differs) ∙ gets)
-      ] refl
+  IsAbove-push above more was least new_least q from = grind (arith, nat_tests, told q, was q)
 
   has_at-last : (place : ℕ) → has_at (regions ++ region ∷ []) (Some at) place ≡ has_page region place
   has_at-last place =
@@ -188,27 +171,17 @@ module _ (regions : List Region) (old new : BTreeMap ℕ ℕ) (known : AreApart 
   has_at-before : (r place : ℕ) → r < length regions → has_at (regions ++ region ∷ []) (Some r) place ≡ has_at regions (Some r) place
   has_at-before r place lt =
       let many : length (map pages_in regions) ≡ length regions = length-map regions pages_in in
-      ap (λ kept. get_or kept place false)
-      (ap (λ ks. get_or ks r []) (map-append pages_in regions (region ∷ []))
-      ∙ get_or_append_left (map pages_in regions) (pages_in region ∷ []) [] r (omega arith))
+      ap (λ kept. bit_at kept place == 1)
+      (ap (λ ks. get_or ks r 0) (map-append pages_in regions (region ∷ []))
+      ∙ get_or_append_left (map pages_in regions) (pages_in region ∷ []) 0 r (omega arith))
 
   in_old : (q place : ℕ) (o : Option ℕ) → tree.get nat_cmp old q ≡ o → has_at (regions ++ region ∷ []) o place ≡ has_at regions o place
   in_old q place None gets = refl
-  in_old q place (Some r) gets = has_at-before r place (known.in_range q r gets)
+  in_old q place (Some r) gets = has_at-before r place (omega (arith, length-map regions number_of, known.in_range q r gets))
 
   other_pages : (q : ℕ) → q ≢ number → is_there (regions ++ region ∷ []) new q ≡ is_there regions old q
   other_pages q differs =
-      elim (eqb (number / 64) (q / 64))
-      as (λ b. eqb (number / 64) (q / 64) ≡ b → is_there (regions ++ region ∷ []) new q ≡ is_there regions old q) [
-        | true ↦ λ same.
-            let region_is : number / 64 ≡ q / 64 = eqb-true (number / 64) (q / 64) same in
-            ap (λ o. has_at (regions ++ region ∷ []) o (q % 64)) (told_own (q / 64) same) ∙ has_at-last (q % 64)
-            ∙ others (q % 64) (λ place. differs (omega (arith, region_is, place)))
-            ∙ sym (is_there-absent regions old q (ap (tree.get nat_cmp old) (sym region_is) ∙ absent))
-        | false ↦ λ apart.
-            ap (λ o. has_at (regions ++ region ∷ []) o (q % 64)) (told_other (q / 64) apart)
-            ∙ in_old (q / 64) (q % 64) (tree.get nat_cmp old (q / 64)) refl
-      ] refl
+      grind (arith, nat_tests, told (q / 64), has_at-last (q % 64), others (q % 64), in_old (q / 64) (q % 64) _ refl, is_there-absent regions old q)
 
   pub IsWith-push : IsWith (is_there regions old) (is_there (regions ++ region ∷ []) new) number
   IsWith-push = (
@@ -216,21 +189,19 @@ module _ (regions : List Region) (old new : BTreeMap ℕ ℕ) (known : AreApart 
     other_pages,
   )
 
-  pub AreApart-push : AreApart (regions ++ region ∷ []) new
-  AreApart-push =
-      let long = length-append regions (region ∷ []) in
-      record {
-        in_range = λ n r gets.
-            cases (r < length (regions ++ region ∷ [])) n r gets (λ n_is r_is. omega (arith, long, last, r_is))
-            (λ was. omega (arith, long, known.in_range n r was));
-        apart = λ n m r gets gets'.
-            cases (n ≡ m) n r gets
-            (λ n_is r_is. cases (n ≡ m) m r gets' (λ m_is _. n_is ∙ sym m_is) (λ was. absurd
-            (omega (arith, r_is, last, known.in_range m r was))))
-            (λ was. cases (n ≡ m) m r gets' (λ m_is r_is. absurd (omega (arith, r_is, last, known.in_range n r was)))
-            (λ was'. known.apart n m r was was'));
-        small = λ n r gets. cases (n < 2 ^ 50) n r gets (λ n_is r_is. omega (arith, n_is, in_memory)) (λ was. known.small n r was);
-      }
+  pub AreIndexed-push : region.number ≡ number / 64 → AreIndexed (numbers_of (regions ++ region ∷ [])) new
+  AreIndexed-push numbered =
+      let olds = map number_of regions in
+      let many = length-map regions number_of in
+      let long = length-append olds ((number / 64) ∷ []) in
+      let newest = get_or_push olds (number / 64) 0 in
+      let before = get_or_append_left olds ((number / 64) ∷ []) 0 in
+      rw (map-append number_of regions (region ∷ []), numbered) (record {
+        in_range = λ m r gets. grind (arith, nat_tests, told m, known.in_range m r);
+        stands = λ m r gets. grind (arith, nat_tests, told m, known.in_range m r, known.stands m r, before r, newest r);
+        found = λ r lt. let m = get_or (olds ++ (number / 64) ∷ []) r 0 in grind (arith, nat_tests, told m, known.found r, before r, newest r);
+        small = λ m r gets. grind (arith, nat_tests, told m, known.small m r);
+      })
 
   pub AreCounted-push : (count : ℕ) → AreCounted (is_there regions old) count
       → AreCounted (is_there (regions ++ region ∷ []) new) (count + 1)

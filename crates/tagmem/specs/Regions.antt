@@ -1,12 +1,12 @@
 -- What a `Directory` keeps. All of it is this profile's own.
-use Rattle.std.specs.Prelude.{◌≡◌, ◌≢◌, ℕ, ◌/◌, ◌%◌, ◌^◌, ◌<◌, ◌≤◌, Bool, true, false, List, [], length, map, All, Option}
-use Rattle.std.specs.{Prelude.{None, Some, slice_index_or}, BTreeMap.BTreeMap, Ordering.nat_cmp, List.Contains}
+use Rattle.std.specs.Prelude.{◌≡◌, ◌≢◌, ℕ, ◌/◌, ◌%◌, ◌^◌, ◌<◌, ◌≤◌, Bool, true, false, ◌==◌, List, length, map, All, Option}
+use Rattle.std.specs.{Prelude.{None, Some, slice_index}, BTreeMap.BTreeMap, Int.bit_at, Ordering.nat_cmp, List.Contains}
 use Rattle.std.specs.BTreeMap as tree
 use Rattle.tagmem.specs.declared.region.Region.{Region}
 
 -- the page at a place in a region is there
 abbrev pub has_page : Region → ℕ → Bool
-has_page region place = slice_index_or region.there place false
+has_page region place = bit_at region.there place == 1
 
 -- some page of a region is there
 abbrev pub HasPage : Region → Type 0
@@ -19,22 +19,22 @@ EachHasPage regions = All HasPage regions
 -- the page at a place in the region that stands somewhere is there, if the region stands
 abbrev pub has_at : List Region → Option ℕ → ℕ → Bool
 has_at regions None place = false
-has_at regions (Some at) place = slice_index_or (slice_index_or (map (λ region. region.there) regions) at []) place false
+has_at regions (Some at) place = bit_at (slice_index (map (λ region. region.there) regions) at) place == 1
 
 -- the page with a number is there: region n has the pages from 64 * n on
 abbrev pub is_there : List Region → BTreeMap ℕ ℕ → ℕ → Bool
 is_there regions by_number page = has_at regions (tree.get nat_cmp by_number (page / 64)) (page % 64)
 
--- a tree says of regions where each stands, of no two the same
-pub record AreApart (regions : List Region) (by_number : BTreeMap ℕ ℕ) : Type 0 where
-  pub in_range : (region at : ℕ) → tree.get nat_cmp by_number region ≡ Some at → at < length regions
-  pub apart : (region other at : ℕ) → tree.get nat_cmp by_number region ≡ Some at → tree.get nat_cmp by_number other ≡ Some at
-      → region ≡ other
-  pub small : (region at : ℕ) → tree.get nat_cmp by_number region ≡ Some at → region < 2 ^ 50
+-- the numbers of regions
+abbrev pub numbers_of : List Region → List ℕ
+numbers_of regions = map (λ region. region.number) regions
 
--- a tree says of a number, if it is a region's, where it stands
-abbrev pub StandsAt : BTreeMap ℕ ℕ → ℕ → ℕ → Type 0
-StandsAt by_number region at = region < 2 ^ 50 → tree.get nat_cmp by_number region ≡ Some at
+-- a tree says of each of some numbers where it stands among them, and of no other
+pub record AreIndexed (numbers : List ℕ) (by_number : BTreeMap ℕ ℕ) : Type 0 where
+  pub in_range : (number at : ℕ) → tree.get nat_cmp by_number number ≡ Some at → at < length numbers
+  pub stands : (number at : ℕ) → tree.get nat_cmp by_number number ≡ Some at → slice_index numbers at ≡ number
+  pub found : (at : ℕ) → at < length numbers → tree.get nat_cmp by_number (slice_index numbers at) ≡ Some at
+  pub small : (number at : ℕ) → tree.get nat_cmp by_number number ≡ Some at → number < 2 ^ 50
 
 -- no region from a number on is there
 abbrev pub IsAbove : BTreeMap ℕ ℕ → ℕ → Type 0

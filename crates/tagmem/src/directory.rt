@@ -3,7 +3,7 @@ ghost use Rattle.std.specs.Prelude.{◌≡◌, ◌/◌, ◌*◌, ◌+◌, ◌^�
 ghost use Rattle.std.specs.Prelude.{MatchOption, OnOk, OnErr};
 ghost use Rattle.std.specs.Ordering.{nat_cmp};
 ghost use Rattle.std.specs.BTreeMap as tree;
-ghost use Rattle.tagmem.specs.Regions.{AreApart, AreCounted, EachHasPage, IsAbove, StandsAt, is_there};
+ghost use Rattle.tagmem.specs.Regions.{AreCounted, AreIndexed, EachHasPage, IsAbove, is_there, numbers_of};
 
 use crate::region::Region;
 use crate::store::NoMemory;
@@ -16,16 +16,14 @@ pub(crate) struct Directory {
     regions: Vec<Region>,
     // Where each region stands in the list, by its number.
     tree: BTreeMap<u64, usize>,
-    // The number of the region that a page was added to last, and where it stands. At first it is that of no region.
-    last: u64,
-    last_at: usize,
+    // Where a region may stand, at the place that its number's low bits name. The places are none or a power of two.
+    hints: Vec<usize>,
     // No region from this number on is there.
     above: u64,
     // How many pages are there.
     count: usize,
     ghost bounded: { IsAbove tree above },
-    ghost latest: { StandsAt tree last last_at },
-    ghost apart: { AreApart regions.items tree },
+    ghost indexed: { AreIndexed (numbers_of regions.items) tree },
     ghost used: { EachHasPage regions.items },
     ghost counted: { (there : ℕ → Bool) → there ≡ is_there regions.items tree → AreCounted there count },
 }
@@ -41,8 +39,7 @@ impl Directory {
         Directory {
             regions: Vec::new(alloc),
             tree: BTreeMap::new(alloc),
-            last: u64::MAX,
-            last_at: 0,
+            hints: Vec::new(alloc),
             above: 0,
             count: 0,
         }
@@ -63,6 +60,7 @@ impl Directory {
     }
 
     // The first page of a region, from a place on, that is there.
+    #[tactic(auto, using(crate::proofs::Regions::first_small))]
     fn first_in(&self, region: u64, place: u8) -> Option<u64>
         requires { place < 64 }
         ensures first { MatchOption result
@@ -86,19 +84,19 @@ impl Directory {
         self.count.checked_add(usize::from(!there))?.checked_mul(32)
     }
 
-    // Where a region stands in the list. It is mostly the last.
+    // Where a region stands in the list. It is mostly where its hint says.
     #[inline(always)]
+    #[tactic(auto, using(crate::proofs::Regions::found_at))]
     pub(crate) fn region_at(&self, region: u64) -> Option<usize>
-        requires { region < 2 ^ 50 }
         ensures { result ≡ tree.get nat_cmp self.now.tree region }
     {
-        if region == self.last {
-            return Some(self.last_at);
+        let place = region as usize & self.hints.len().wrapping_sub(1);
+        let at = *self.hints.get(place).unwrap_or(&0);
+        match self.regions.get(at) {
+            Some(hinted) if hinted.number == region => Some(at),
+            _ if region >= self.above => None,
+            _ => self.tree.get(&region).copied(),
         }
-        if region >= self.above {
-            return None;
-        }
-        self.tree.get(&region).copied()
     }
 
     // Whether a page is there, whose region stands somewhere.
@@ -133,11 +131,11 @@ impl Directory {
         if there {
             return Ok(());
         }
+        let at = region.unwrap_or(self.regions.len());
+        set_hint(&mut self.hints, page / 64, at)?;
         match region {
             Some(at) => {
                 self.regions[at].add((page % 64) as u8);
-                self.last = page / 64;
-                self.last_at = at;
                 self.count += 1;
                 Ok(())
             }
@@ -162,13 +160,25 @@ impl Directory {
         let Ok(_) = self.tree.insert(page / 64, at) else {
             return Err(NoMemory);
         };
-        let mut region = Region::new();
+        let mut region = Region::new(page / 64);
         region.add((page % 64) as u8);
         self.regions.push_reserved(region);
-        self.last = page / 64;
-        self.last_at = at;
         self.above = self.above.max(page / 64 + 1);
         self.count += 1;
         Ok(())
     }
+}
+
+// Sets the hint of a region. Where it stands at half of the places or beyond, there are four times as many first, from
+// 64 to 65,536. The other hints keep their places, and may be wrong then.
+fn set_hint(hints: &mut Vec<usize>, region: u64, at: usize) -> Result<(), NoMemory> {
+    let places = hints.len();
+    if places / 2 <= at && places < 65536 {
+        hints.resize((4 * places).max(64), 0).map_err(|_| NoMemory)?;
+    }
+    let place = region as usize & hints.len().wrapping_sub(1);
+    if let Some(hint) = hints.get_mut(place) {
+        *hint = at;
+    }
+    Ok(())
 }

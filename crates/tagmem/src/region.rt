@@ -1,21 +1,23 @@
 //! A region: 64 pages that stand side by side.
-ghost use Rattle.std.specs.Prelude.{◌≡◌, ◌≢◌, ◌<◌, ℕ, length, false, true};
+ghost use Rattle.std.specs.Prelude.{◌≡◌, ◌≢◌, ◌<◌, ◌^◌, ℕ, false, true};
 
-// Which of its pages are there.
+// Its number, and a bit for each of its pages: whether it is there.
 #[derive(Drop)]
 pub(crate) struct Region {
-    there: [bool; 64],
-    ghost wide: { length there ≡ 64 },
+    pub(crate) number: u64,
+    there: u64,
+    ghost small: { there < 2 ^ 64 },
 }
 
 impl Region {
     ghost use Rattle.tagmem.specs.Regions.{has_page, IsLeast};
 
     // A region of which no page is there.
-    pub(crate) fn new() -> Region
-        ensures { (place : ℕ) → has_page result place ≡ false }
+    pub(crate) fn new(number: u64) -> Region
+        ensures number { result.number ≡ number }
+        ensures none { (place : ℕ) → has_page result place ≡ false }
     {
-        Region { there: [false; 64] }
+        Region { number, there: 0 }
     }
 
     // Whether a page is there.
@@ -24,16 +26,17 @@ impl Region {
         requires { place < 64 }
         ensures { result ≡ has_page self.now place }
     {
-        self.there[place as usize]
+        (self.there >> place) % 2 == 1
     }
 
     // The first page from a place on that is there.
+    #[tactic(auto, using(crate::proofs::Regions::past))]
     pub(crate) fn first_from(&self, place: u8) -> Option<u8>
         ensures { IsLeast (has_page self.now) place result }
     {
-        for i in place as usize..64 {
-            if self.there[i] {
-                return Some(i as u8);
+        for i in place..64 {
+            if self.has(i) {
+                return Some(i);
             }
         }
         None
@@ -42,9 +45,10 @@ impl Region {
     // Adds a page.
     pub(crate) fn add(&mut self, place: u8)
         requires { place < 64 }
+        ensures number { self.new.number ≡ self.old.number }
         ensures own { has_page self.new place ≡ true }
         ensures others { (other : ℕ) → other ≢ place → has_page self.new other ≡ has_page self.old other }
     {
-        self.there[place as usize] = true;
+        self.there |= 1 << place;
     }
 }

@@ -9,7 +9,7 @@ use crate::store::NoMemory;
 use std::alloc::Global;
 
 // How many places there are at first.
-const FEWEST: usize = 1024;
+const FEWEST: usize = 512;
 
 // An odd number, found by trying: numbers that lie at equal distances share few places by it.
 const FACTOR: u64 = 0xb469_58c7_52a4_4551;
@@ -122,7 +122,7 @@ impl Trees {
         }
     }
 
-    // How many places there should be, where so many blocks are more than half as many as there are: four times as many,
+    // How many places there should be, where so many blocks are more than half as many as there are: eight times as many,
     // or else twice, where there is room for them.
     fn more_places(&self, count: usize) -> Option<usize>
         requires { 0 < length self.now.roots.items }
@@ -134,7 +134,7 @@ impl Trees {
             return None;
         }
         let most = self.roots.capacity();
-        let more = places.saturating_mul(4);
+        let more = places.saturating_mul(8);
         if more <= most {
             return Some(more);
         }

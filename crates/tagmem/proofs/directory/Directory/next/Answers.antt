@@ -23,5 +23,5 @@ returns-in-Some-next-clause-least c =
     not_above region n (rw c.in-Some-next.ensures.steps at (part.2 n (at_or_above _ _ from, tt) (subst IsSome (sym is) refl))) in
     least-later (there_in s) c.args.page region (λ q le lt. c.in-None.ensures.first q (omega arith) lt) (not_above _ region first.0.0)
     (is_there-below s.regions.items s.tree (c.args.page / 64 + 1) region least)
-    (found_in_region s.regions.items s.tree region at (s.apart.in_range region at first.1) s.used first.1)
+    (found_in_region s.regions.items s.tree region at s.indexed s.used first.1)
     c.first_in-in-Some-next.result c.first_in-in-Some-next.ensures.first
