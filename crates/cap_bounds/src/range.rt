@@ -58,6 +58,7 @@ pub fn reach(word: Word) -> Option<(u64, u64)>
 }
 
 /// Whether the word with another address has the same base and top (CSetAddr's test, by the exact rule).
+#[inline(always)]
 pub fn keeps_bounds(word: Word, address: u64) -> bool
     ensures keeps { IsTrue result ↔ KeepsBounds word.0 address }
 {

@@ -2,7 +2,7 @@
 //! file of this crate's code names them.
 
 ghost use Rattle.std.specs.Prelude.{◌≡◌, List, ℕ, ◌∷◌, ◌++◌};
-ghost use Rattle.cap_ops.specs.{Checks.first_of, Operations.{clear_result, set_bounds_result, set_bounds_checks}};
+ghost use Rattle.cap_ops.specs.{Checks.first_of, Operations.clear_result};
 ghost use Rattle.cap_log.specs.{Heads.head_spelling, Lines.IsStepInRange};
 ghost use Rattle.cap_machine.specs.{Changes.{IsOperation, result_in}, Helds.{AnswersStep, EndsBy, state_of}};
 ghost use Rattle.cap_machine.specs.{Shown.{IsShown, needs_to_store, request_of, shown_of}, States.State, Steps.row_of};
@@ -153,14 +153,14 @@ fn cleared_with_fault<M: TaggedStore, O: Operation>(
     }
 }
 
-// A capability with other bounds in clear mode. The call gets a value of its own: so the source needn't stand in memory
-// where it isn't made.
+// A capability for a call that is seldom made. It is a value of its own: so the one that it is made of needn't stand in
+// memory where the call isn't made.
 #[inline(always)]
-fn set_bounds_cleared(source: Cap, length: u64, exact: bool) -> Cap
-    ensures value { result ≡ clear_result (set_bounds_checks source length exact) (set_bounds_result source length) }
+fn apart(cap: Cap) -> Cap
+    ensures value { result ≡ cap }
 {
-    let Cap { tag, word } = source;
-    set_bounds_clear(Cap { tag, word }, length, exact)
+    let Cap { tag, word } = cap;
+    Cap { tag, word }
 }
 
 impl Operation for Move {
@@ -200,7 +200,7 @@ impl Operation for SetBounds {
     fn outcome<M: TaggedStore>(self, rules: Rules, machine: &Machine<M>) -> Result<Cap, OpFault> {
         let source = machine.register(self.source.number());
         match rules {
-            Rules::TwoClear => Ok(set_bounds_cleared(source, self.length, false)),
+            Rules::TwoClear => Ok(set_bounds_clear(apart(source), self.length, false)),
             Rules::One | Rules::TwoStrict => set_bounds_soundly(source, self.length, false),
         }
     }
@@ -219,7 +219,7 @@ impl Operation for SetBoundsExact {
     fn outcome<M: TaggedStore>(self, rules: Rules, machine: &Machine<M>) -> Result<Cap, OpFault> {
         let source = machine.register(self.source.number());
         match rules {
-            Rules::TwoClear => Ok(set_bounds_cleared(source, self.length, true)),
+            Rules::TwoClear => Ok(set_bounds_clear(apart(source), self.length, true)),
             Rules::One | Rules::TwoStrict => set_bounds_soundly(source, self.length, true),
         }
     }
@@ -236,7 +236,7 @@ impl Operation for SetAddr {
     fn outcome<M: TaggedStore>(self, rules: Rules, machine: &Machine<M>) -> Result<Cap, OpFault> {
         let source = machine.register(self.source.number());
         match rules {
-            Rules::TwoClear => Ok(set_addr_clear(source, self.address)),
+            Rules::TwoClear => Ok(set_addr_clear(apart(source), self.address)),
             Rules::One | Rules::TwoStrict => set_addr(source, self.address),
         }
     }
@@ -252,7 +252,7 @@ impl Operation for AndPerm {
     fn outcome<M: TaggedStore>(self, rules: Rules, machine: &Machine<M>) -> Result<Cap, OpFault> {
         let source = machine.register(self.source.number());
         match rules {
-            Rules::TwoClear => Ok(and_perm_clear(source, self.mask)),
+            Rules::TwoClear => Ok(and_perm_clear(apart(source), self.mask)),
             Rules::One | Rules::TwoStrict => and_perm(source, self.mask),
         }
     }

@@ -13,6 +13,7 @@ use cap_bounds::keeps_bounds;
 use cap_word::{Cap, Word};
 
 /// Whether an address keeps a word's bounds.
+#[inline(always)]
 fn is_kept(word: Word, address: u64) -> bool
     ensures { result ≡ is_kept_at word.0 address }
 {

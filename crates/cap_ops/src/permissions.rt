@@ -64,6 +64,8 @@ pub(crate) fn masked(source: Cap, mask: u64) -> Cap
 /// for no permission have no effect.
 ///
 /// A tagged source that is sealed is refused, as `SourceSealed`.
+// Inlined, since a result in memory is copied with the bytes between its fields.
+#[inline(always)]
 pub fn and_perm(source: Cap, mask: u64) -> Result<Cap, OpFault>
     ensures outcome { Ends result (and_perm_checks source) (λ cap. cap ≡ and_perm_result source mask) }
     ensures view { IfOk result (λ cap. perm_view_of cap.word.0 ≡ bit_and (perm_view_of source.word.0) mask) }

@@ -41,7 +41,10 @@ pub(crate) fn read_front(text: &[u8; 16], size: u8) -> Option<u64>
 pub fn number_text(number: u64) -> [u8; 16]
     ensures digits { result ≡ hex_digits 16 number }
 {
-    let bytes = u8x8::from_array(number.to_be_bytes());
+    // The most significant first. It is one vector from the start, so that no byte is shifted out by itself.
+    let bytes = u64x1::splat(number)
+        .to_le_bytes()
+        .swizzle([7, 6, 5, 4, 3, 2, 1, 0]);
     let high = bytes >> u8x8::splat(4);
     let low = bytes & u8x8::splat(15);
     let values = high.shuffle(low, [0, 8, 1, 9, 2, 10, 3, 11, 4, 12, 5, 13, 6, 14, 7, 15]);

@@ -7,6 +7,7 @@ use crate::word::{Word, null};
 
 /// The sixteen bytes of a word in memory, lowest first: its layout XOR that of NULL, so that NULL is
 /// sixteen zero bytes.
+#[inline(always)]
 pub fn to_memory(word: Word) -> [u8; 16]
     ensures bytes { result ≡ memory_of word.0 }
     ensures by_index { (i : ℕ) → i < 16 → slice_index result i ≡ memory_byte word.0 i }
