@@ -1,4 +1,5 @@
 mod LogLemmas
+mod RecordedLemmas
 pub mod JudgeLemmas
 mod VersionLemmas
 pub mod EscapeLaws

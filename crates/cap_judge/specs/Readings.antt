@@ -1,10 +1,10 @@
 -- What a judge has read of the bytes that it was handed (this profile's own, as are all below).
-use Rattle.std.specs.Prelude.{◌≡◌, ◌≢◌, ◌⊎◌, ℕ, ◌+◌, Bool, false, IsTrue, List, [], ◌++◌, length, Option, None, Some}
+use Rattle.std.specs.Prelude.{◌≡◌, ◌≢◌, ◌⊎◌, ℕ, ◌+◌, Bool, false, IsTrue, List, [], ◌∷◌, ◌++◌, codes, length, Option, None, Some}
 use Rattle.std.specs.{Prelude.{Result, Ok, Err}, Borrow.Bor, List.AllByRecursion}
 use Rattle.cap_ops.specs.declared.refusal.Refusal.{Refusal, TheVariants.{LineTooLong, Misplaced, Truncated}}
 use Rattle.cap_streams.specs.{declared.judge_faults.JudgeFault.JudgeFault, FaultLines.bytes_of}
 use Rattle.cap_streams.specs.Front.{IsCut, IsLine, IsTooLong}
-use Rattle.cap_log.specs.{declared.{kinds.Step.Step, lines.Line.Line}, Lines.{IsInRange, Spells, spelling}}
+use Rattle.cap_log.specs.{declared.{kinds.Step.Step, lines.Line.Line}, Lines.{IsInRange, Spells, spelling, tag_spelling}}
 use Rattle.cap_log.specs.Parts.{Begins, ReadsAs as Spelled}
 use Rattle.cap_log.specs.declared.lines.Line.TheVariants as lines
 use Rattle.cap_machine.specs.{declared.ends.StepEnd.StepEnd, Accounts.{Account, is_new}, Helds.{Held, account_of}}
@@ -241,3 +241,7 @@ Stands bytes (Some verdict) = IsVerdictOf bytes false verdict
 abbrev pub IsAnswered : Result Verdict faults.RefusedLine → Result Verdict JudgeFault → List ℕ → Type 0
 IsAnswered (Ok verdict) answer text = answer ≡ Ok verdict
 IsAnswered (Err fault) answer text = (answer ≡ Ok (No fault.line fault.refusal)) × (text ≡ bytes_of fault.text)
+
+-- what stands before the digits of a result with this tag
+abbrev pub mark_of : Bool → List ℕ
+mark_of tag = codes "= " ++ (tag_spelling tag ++ 32 ∷ [])

@@ -12,6 +12,7 @@ mod judges;
 mod laws;
 mod origins;
 mod output;
+mod recorded;
 mod steps;
 mod streams;
 mod verdict;

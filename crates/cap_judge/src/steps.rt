@@ -1,10 +1,14 @@
 //! Taking the steps at the front of some bytes, each by the type of its kind.
 
-ghost use Rattle.std.specs.Prelude.{◌≡◌, ℕ, List, ◌++◌, IfSome};
+ghost use Rattle.std.specs.Prelude.{◌≡◌, ℕ, List, ◌∷◌, ◌++◌, IfSome};
+ghost use Rattle.cap_log.specs.{Heads.head_spelling, Lines.{IsInRange, spelling}, Parts.Begins};
+ghost use Rattle.cap_log.specs.declared.lines.Line.TheVariants as lines;
 ghost use Rattle.cap_machine.specs.Helds.{AnswersStep};
 ghost use Rattle.cap_judge.specs.declared.judges.NextLine.TheVariants.{Body};
 ghost use Rattle.cap_judge.specs.Readings.{EndsAt, Goes, TakesAll, TakesOne, at};
 
+use crate::recorded::{Derived, glance};
+use cap_log::kinds::{AndPerm, ClearTag, Move, SetAddr};
 use cap_log::{Head, Part};
 use cap_machine::{ByKind, Instruction, Machine, StepEnd, by_head};
 use tagmem::TaggedStore;
@@ -79,13 +83,7 @@ impl<'a, M: TaggedStore, const RARE: bool> ByKind<'a, Machine<M>> for AtFront<RA
         if I::IS_RARE != RARE || operands.len() < MOST_BYTES - MOST_HEAD_BYTES {
             return Ok(None);
         }
-        let Some((instruction, rest)) = I::take(operands) else {
-            return Ok(None);
-        };
-        match perform_by(machine, instruction) {
-            Ok(()) => Ok(Some(rest)),
-            Err(end) => Err(end),
-        }
+        make_taken(machine, operands, I::take(operands))
     }
 
     #[inline(always)]
@@ -109,10 +107,57 @@ fn take_step<'a, M: TaggedStore, const RARE: bool>(
     if bytes.len() < MOST_BYTES {
         return Ok(None);
     }
+    if !RARE {
+        let Some((head, operands)) = Head::take_usual(bytes, b' ') else {
+            return Ok(None);
+        };
+        match head {
+            Head::Move => return take_derived::<M, Move>(machine, operands),
+            Head::ClearTag => return take_derived::<M, ClearTag>(machine, operands),
+            Head::SetAddr => return take_derived::<M, SetAddr>(machine, operands),
+            Head::AndPerm => return take_derived::<M, AndPerm>(machine, operands),
+            _ => return by_head::<Machine<M>, AtFront<RARE>>(machine, head, operands),
+        }
+    }
     let Some((head, operands)) = Head::take(bytes, b' ') else {
         return Ok(None);
     };
     by_head::<Machine<M>, AtFront<RARE>>(machine, head, operands)
+}
+
+// Takes a step from after its head, where its line records the word that the machine derives, as `AtFront` does.
+#[inline(always)]
+fn take_derived<'a, M: TaggedStore, D: Derived>(
+    machine: &mut Machine<M>,
+    operands: &'a [u8],
+) -> Result<Option<&'a [u8]>, StepEnd>
+    ensures { TakesOne machine.old (head_spelling D.Operands.head ++ 32 ∷ operands.now) result machine.new }
+{
+    if operands.len() < MOST_BYTES - MOST_HEAD_BYTES {
+        return Ok(None);
+    }
+    make_taken(machine, operands, glance::<M, D>(machine, operands))
+}
+
+// Makes a step that was taken from the front of some bytes, and answers what follows it.
+#[inline(always)]
+fn make_taken<'a, M: TaggedStore, I: Instruction>(
+    machine: &mut Machine<M>,
+    operands: &'a [u8],
+    taken: Option<(I, &'a [u8])>,
+) -> Result<Option<&'a [u8]>, StepEnd>
+    requires { IfSome taken (λ p. Begins IsInRange spelling 10 (head_spelling I.Operands.head ++ 32 ∷ operands.now)
+        (lines.Step (I.Operands.step p.0)) p.1.now) }
+    ensures { TakesOne machine.old (head_spelling I.Operands.head ++ 32 ∷ operands.now) result machine.new }
+{
+    let _ = operands;
+    let Some((step, rest)) = taken else {
+        return Ok(None);
+    };
+    match perform_by(machine, step) {
+        Ok(()) => Ok(Some(rest)),
+        Err(end) => Err(end),
+    }
 }
 
 // A step whose line is all that stands there. By the answer of `AtFront`, which has bytes, most lines take 9

@@ -2,7 +2,7 @@
 
 #![tactic(auto, using(crate::proofs::Shapes::behind_each), unfolding(crate::specs::Lines::spelling))]
 
-ghost use Rattle.std.specs.Prelude.{◌≡◌, ◌≤◌, [], ◌∷◌, ◌++◌, length, take, IfSome, IfNone};
+ghost use Rattle.std.specs.Prelude.{◌≡◌, ◌≤◌, All, [], ◌∷◌, ◌++◌, length, take, IfSome, IfNone};
 ghost use Rattle.cap_log.specs.{Heads.{IsHead, head_spelling}, Lines.{IsInRange, spelling}};
 ghost use Rattle.cap_log.specs.{Parts.{Begins, BeginsWithNone, BeginsWithout}, Spaceless.head-spaceless};
 ghost use Rattle.cap_streams.specs.Written.{Writes};
@@ -81,14 +81,15 @@ pub enum Head {
     End,
 }
 
-impl Part for Head {
-    ghost fits = { IsHead };
-
-    ghost spelled = { head_spelling };
-
-    // The usual kinds of steps come first, told apart by four bytes at once.
+impl Head {
+    /// Takes the head of a usual kind of step, as [`Part::take`] does: the first four bytes tell which. It may be `None`
+    /// where `lc` or `sc` stands there and no register follows.
     #[inline(always)]
-    fn take(bytes: &[u8], end: u8) -> Option<(Head, &[u8])> {
+    pub fn take_usual(bytes: &[u8], end: u8) -> Option<(Head, &[u8])>
+        ensures some { IfSome result (λ p. Begins IsHead head_spelling end bytes.now p.0 p.1.now) }
+        ensures none { IfNone result (All (λ head. BeginsWithout (head_spelling head) end bytes.now)
+            (heads.Move ∷ heads.Load ∷ heads.Store ∷ heads.SetAddr ∷ heads.AndPerm ∷ heads.ClearTag ∷ heads.SetBounds ∷ [])) }
+    {
         first_found!(
             long(bytes, end, Head::Move, b"move", b""),
             by_register(bytes, end, Head::LoadCap, b"lc c"),
@@ -99,6 +100,19 @@ impl Part for Head {
             long(bytes, end, Head::AndPerm, b"andp", b"erm"),
             long(bytes, end, Head::ClearTag, b"clea", b"rtag"),
             long(bytes, end, Head::SetBounds, b"setb", b"ounds"),
+        )
+    }
+}
+
+impl Part for Head {
+    ghost fits = { IsHead };
+
+    ghost spelled = { head_spelling };
+
+    #[inline(always)]
+    fn take(bytes: &[u8], end: u8) -> Option<(Head, &[u8])> {
+        first_found!(
+            Head::take_usual(bytes, end),
             short(bytes, end, Head::LoadCap, b"lc"),
             short(bytes, end, Head::StoreCap, b"sc"),
             long(bytes, end, Head::SetBoundsExact, b"setb", b"oundsexact"),

@@ -30,6 +30,7 @@ pub use crate::kinds::{Head, Step, take_operands};
 pub use crate::lines::{Line, Mode, Place};
 pub use crate::operands::Operands;
 pub use crate::parts::Part;
+pub use crate::parts::fronts::are_four;
 pub use crate::parts::offsets::Offset;
 pub use crate::parts::registers::{Register, Target};
 pub use crate::parts::sized::{Datum, Size};

@@ -1,0 +1,9 @@
+use Rattle.std.proofs.Common.{refl}
+use Rattle.std.proofs.lemmas.Bool.{ne_eqb}
+use Rattle.cap_judge.proofs.RecordedLemmas.{same_lanes}
+use Rattle.cap_judge.proofs.recorded.is_same.Goals as goal
+
+pub returns : goal.returns
+returns c = record {
+  same = λ is. same_lanes _ (λ x y other. rw (ne_eqb x y other) refl) c.args.bytes.now c.args.text.now c.told-bytes c.told-text is;
+}
