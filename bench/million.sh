@@ -1,6 +1,6 @@
 #!/bin/sh
 # Writes a log of version 1 with a million steps, or STEPS:
-# sh bench/million.sh moves|memory|mixed|varied|up|down|random|thirty|blocks|turns|loads [STEPS [PLACES APART]]
+# sh bench/million.sh moves|memory|mixed|varied|up|down|random|thirty|blocks|turns|shuffled|loads [STEPS [PLACES APART]]
 # It can be judged from a pipe: sh bench/million.sh moves 10000000 | crates/capcheck/out/capcheck judge
 #
 # moves   copies c1 to each other register in turn
@@ -17,8 +17,9 @@
 # turns              goes to each of PLACES granules that lie APART bytes apart in turn, and stores a capability there in
 #                    the first round and loads it in later ones; 1,000 and 4096 where they are not given. It is of version
 #                    2 where there are more than 65,536
-# loads              the same, but goes to places at random after the first round
-kind=${1:?moves, memory, mixed, varied, up, down, random, thirty, blocks, turns or loads}
+# shuffled           the same, with the places in an order drawn at random
+# loads              the same as turns, but goes to places at random after the first round
+kind=${1:?moves, memory, mixed, varied, up, down, random, thirty, blocks, turns, shuffled or loads}
 exec awk -v kind="$kind" -v steps="${2:-1000000}" -v places="${3:-1000}" -v apart="${4:-4096}" '
 function memory(i,   offset) {
     offset = (int(i / 4) * 16) % 4096 - 2048
@@ -76,11 +77,23 @@ function far(i,   place, address) {
 function turns(i,   round, address) {
     round = int(i / 2 / places)
     if (i % 2 == 1) return round == 0 ? "sc c1 c2 0" : "lc c3 c2 0 = 1 " root
-    if (kind == "turns" || round == 0) place = i / 2 % places
+    if (kind == "shuffled") place = order[int(i / 2) % places]
+    else if (kind == "turns" || round == 0) place = i / 2 % places
     else place = (place * 20077 + 12345) % places
     address = apart * place
     address = sprintf("%08x%08x", int(address / 4294967296), address % 4294967296)
     return "setaddr c2 c1 " address " = 1 ffff1ffffc018004" address
+}
+function shuffle(i,   seed, other, place) {
+    for (i = 0; i < places; i++) order[i] = i
+    seed = 1
+    for (i = places - 1; i > 0; i--) {
+        seed = seed * 16807 % 2147483647
+        other = seed % (i + 1)
+        place = order[i]
+        order[i] = order[other]
+        order[other] = place
+    }
 }
 function thirty(i,   register, address) {
     register = "c" (2 + i % 30)
@@ -100,6 +113,7 @@ BEGIN {
     root = "ffff1ffffc0180040000000000000000"
     print (places > 65536 ? "capcheck 2\nmode strict" : "capcheck 1")
     print "root c1 " root
+    if (kind == "shuffled") shuffle()
     for (i = 0; i < steps; i++) {
         if (kind == "moves") print "move c" (2 + i % 30) " c1 = 1 " root
         else if (kind == "memory") print memory(i)
@@ -107,7 +121,7 @@ BEGIN {
         else if (kind == "varied") print varied(i)
         else if (kind == "thirty") print thirty(i)
         else if (kind == "blocks") print blocks(i)
-        else if (kind == "turns" || kind == "loads") print turns(i)
+        else if (kind ~ /^(turns|shuffled|loads)$/) print turns(i)
         else print far(i)
     }
     print "end " steps
