@@ -4,7 +4,7 @@ ghost use Rattle.std.specs.Prelude.{◌≡◌, ◌≤◌, OnOk, vec_len, vec_cap
 use crate::store::NoMemory;
 
 // Takes the memory of so many items in all. Where that is more than there was, some is taken beyond it, so that a list
-// seldom grows: as much as there was, up to 1,024 items, and of a long list a sixteenth. Memory that nothing was
+// seldom grows: as much as there was, up to 1,024 items, and of a long list a thirty-second. Memory that nothing was
 // written to is address space alone.
 pub(crate) fn make_room<T>(list: &mut Vec<T>, count: usize) -> Result<(), NoMemory>
     ensures items { list.new.items ≡ list.old.items }
@@ -16,7 +16,7 @@ pub(crate) fn make_room<T>(list: &mut Vec<T>, count: usize) -> Result<(), NoMemo
     if count <= capacity {
         return Ok(());
     }
-    let beyond = capacity.min((capacity / 16).max(1024));
+    let beyond = capacity.min((capacity / 32).max(1024));
     let more = (count - list.len()).saturating_add(beyond);
     match list.reserve_exact(more) {
         Ok(()) => Ok(()),
