@@ -3,9 +3,10 @@
 
     python3 bench/ratio.py LOG.. [--rounds N] [--program PATH]
 
-The two programs run in turns, fifteen rounds unless N is given. A row says for each log what `capcheck` takes for a line
-at least, in ns of CPU time, its throughput, where 1.00 is the baseline's, and the greatest memory of both. The last line is
-the geometric mean of the throughputs. It needs `cargo`, and builds the baseline in bench/out."""
+In each of fifteen rounds, or N, the two programs run on each log in turn: so a time in which the machine is slow changes no
+log's least by itself. A row says for each log what a line takes at least, in ns of CPU time, and the greatest memory, of
+`capcheck` and of the baseline, and last the throughput, where 1.00 is the baseline's. The last line is the geometric mean
+of the throughputs. It needs `cargo`, and builds the baseline in bench/out."""
 import argparse
 import math
 import os
@@ -44,21 +45,24 @@ def main(words):
     parser.add_argument("--program", default=f"{TOP}/crates/capcheck/out/capcheck")
     given = parser.parse_args(words)
     programs, ratios = [given.program, built()], []
-    for log in given.logs:
-        times, verdicts = [[], []], [set(), set()]
-        for _ in range(given.rounds):
-            for at, program in enumerate(programs):
+    times = {log: ([], []) for log in given.logs}
+    for _ in range(given.rounds):
+        for log in given.logs:
+            said = set()
+            for program, taken in zip(programs, times[log]):
                 time, verdict = once(program, log)
-                times[at].append(time)
-                verdicts[at].add(verdict)
-        if verdicts[0] != verdicts[1]:
-            print(f"{log}: the verdicts differ: {verdicts}")
-            return 1
+                taken.append(time)
+                said.add(verdict)
+            if len(said) > 1:
+                print(f"{log}: the verdicts differ: {said}")
+                return 1
+    for log in given.logs:
         with open(log, "rb") as it:
             lines = sum(1 for _ in it)
-        own, other = map(min, times)
+        own, other = map(min, times[log])
         ratios.append(other / own)
-        print(f"{os.path.basename(log):24} {1e9 * own / lines:6.0f} ns a line  {other / own:5.2f}  {peak(programs[0], log):6.1f} MB, the baseline {peak(programs[1], log):6.1f} MB", flush=True)
+        own, other, peaks = 1e9 * own / lines, 1e9 * other / lines, [peak(it, log) for it in programs]
+        print(f"{os.path.basename(log):24} {own:6.1f} ns a line  {peaks[0]:6.1f} MB  the baseline {other:6.1f} ns  {peaks[1]:6.1f} MB  {ratios[-1]:5.2f}", flush=True)
     print(f"geometric mean {math.exp(sum(map(math.log, ratios)) / len(ratios)):.2f}")
     return 0
 
