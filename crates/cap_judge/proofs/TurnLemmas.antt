@@ -214,6 +214,12 @@ ends_at stage bytes rest line (StepEnd.Refused refusal) is refused =
     inl (spelling line, rest, Some line, line_is line bytes rest is, (is.0, refl), refused)
 ends_at stage bytes rest line StepEnd.NoMemory is names = (rest, record { line = line; begins = is; names = names })
 
+-- a step at the front of some bytes that is not made
+pub takes_ended : (old new : Held) (bytes rest : List ℕ) (step : Step) (end : StepEnd)
+    → Begins IsInRange spelling 10 bytes (Line.Step step) rest → EndsStep old step end new → EndsAt (at stages.Body old) bytes end × (new ≡ old)
+takes_ended old new bytes rest step end begins ends =
+    let stop = step_ends old new step end ends in (ends_at (at stages.Body old) bytes rest (Line.Step step) end begins stop.0, stop.1)
+
 pub front_end : (stage : code.NextLine) (held : Held) (rest : List ℕ) (end : Option StepEnd) → stage ≡ stages.Body
     → IfSome end (EndsAt (at stages.Body held) rest)
     → IfSome end (λ e. EndsAt (at stage held) rest e × (IsAtFault (due_of stage) → ⊥))

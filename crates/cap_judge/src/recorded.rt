@@ -2,100 +2,126 @@
 
 #![tactic(auto, unfolding(cap_log::specs::Lines::spelling))]
 
-ghost use Rattle.std.specs.Prelude.{◌≡◌, ◌∷◌, ◌++◌, IfSome, true};
+ghost use Rattle.std.specs.Prelude.{◌≡◌, ◌∷◌, ◌++◌, IfSome, Ok, true};
 ghost use Rattle.cap_log.specs.{Heads.head_spelling, Lines.{IsInRange, spelling}, Parts.{Begins, result_spelling}};
 ghost use Rattle.cap_log.specs.declared.lines.Line.TheVariants as lines;
+ghost use Rattle.cap_log.specs.declared.kinds.Step.TheVariants as steps;
+ghost use Rattle.cap_machine.specs.{Changes.result_in, Helds.{EndsBy, state_of}, States.{State, untagged_null}};
+ghost use Rattle.cap_machine.specs.Steps.{Recorded.Written, Row, row_of};
 ghost use Rattle.cap_judge.specs.Readings.{mark_of};
 
 use cap_log::kinds::{AndPerm, ClearTag, Move, SetAddr};
 use cap_log::{Part, Register, Target, are_four};
-use cap_machine::{Instruction, Machine};
-use cap_ops::{and_perm, clear_tag};
+use cap_machine::{Machine, Operation};
 use cap_word::{Cap, Word, number_text};
 use std::simd::prelude::*;
 use tagmem::TaggedStore;
 
 /// A kind of step whose line ends with a result that is quickly derived.
-pub(crate) trait Derived: Instruction {
+pub(crate) trait Derived: Operation {
     /// What stands before the result.
-    type Before: Part;
+    type Before: Part + Copy;
 
-    /// The step that takes this and records a tag and the word that the machine derives, and that result. Nothing is
-    /// claimed of the word: making the step tests it.
-    fn guess<M: TaggedStore>(before: Self::Before, tag: bool, machine: &Machine<M>) -> (Self, Cap)
-        ensures spelled { spelling (lines.Step (Self.step result.0))
-            ≡ head_spelling Self.head ++ 32 ∷ (Self.Before.spelled before ++ 32 ∷ result_spelling result.1) };
-}
+    // The row of the machine's table for the step that takes this, whatever it records.
+    ghost row: { Self.Before → State → Row };
 
-// A step that records a tag and a word, and that result.
-macro_rules! recording {
-    ($kind:ident, $($operand:ident),*; $tag:expr, $word:expr) => {{
-        let result = Cap { tag: $tag, word: $word };
-        ($kind { $($operand,)* result }, result)
-    }};
+    /// The step that takes this and records this result.
+    fn recording(before: Self::Before, recorded: Cap) -> Self
+        ensures spelled { spelling (lines.Step (Self.step result))
+            ≡ head_spelling Self.head ++ 32 ∷ (Self.Before.spelled before ++ 32 ∷ result_spelling recorded) }
+        ensures row { (state : State) → row_of state (Self.step result) ≡ record (row before state) { records = Written recorded } };
 }
 
 impl Derived for Move {
     type Before = (Target, Register);
 
+    ghost row = { λ before state. row_of state (steps.Move (record { target = before.0; source = before.1; result = untagged_null })) };
+
     #[inline(always)]
-    fn guess<M: TaggedStore>(before: Self::Before, tag: bool, machine: &Machine<M>) -> (Self, Cap) {
+    fn recording(before: Self::Before, recorded: Cap) -> Self {
         let (target, source) = before;
-        recording!(Move, target, source; tag, machine.register(source.number()).word)
+        Move {
+            target,
+            source,
+            result: recorded,
+        }
     }
 }
 
 impl Derived for ClearTag {
     type Before = (Target, Register);
 
+    ghost row = { λ before state. row_of state (steps.ClearTag (record { target = before.0; source = before.1; result = untagged_null })) };
+
     #[inline(always)]
-    fn guess<M: TaggedStore>(before: Self::Before, tag: bool, machine: &Machine<M>) -> (Self, Cap) {
+    fn recording(before: Self::Before, recorded: Cap) -> Self {
         let (target, source) = before;
-        recording!(ClearTag, target, source; tag, machine.register(source.number()).word)
+        ClearTag {
+            target,
+            source,
+            result: recorded,
+        }
     }
 }
 
 impl Derived for SetAddr {
     type Before = (Target, (Register, u64));
 
+    ghost row = { λ before state. row_of state (steps.SetAddr (record { target = before.0; source = before.1.0; address = before.1.1; result = untagged_null })) };
+
     #[inline(always)]
-    fn guess<M: TaggedStore>(before: Self::Before, tag: bool, machine: &Machine<M>) -> (Self, Cap) {
+    fn recording(before: Self::Before, recorded: Cap) -> Self {
         let (target, (source, address)) = before;
-        let word = machine.register(source.number()).word.0;
-        let word = Word(((word >> 64) << 64) + u128::from(address));
-        recording!(SetAddr, target, source, address; tag, word)
+        SetAddr {
+            target,
+            source,
+            address,
+            result: recorded,
+        }
     }
 }
 
 impl Derived for AndPerm {
     type Before = (Target, (Register, u64));
 
+    ghost row = { λ before state. row_of state (steps.AndPerm (record { target = before.0; source = before.1.0; mask = before.1.1; result = untagged_null })) };
+
     #[inline(always)]
-    fn guess<M: TaggedStore>(before: Self::Before, tag: bool, machine: &Machine<M>) -> (Self, Cap) {
+    fn recording(before: Self::Before, recorded: Cap) -> Self {
         let (target, (source, mask)) = before;
-        let held = clear_tag(machine.register(source.number()));
-        recording!(AndPerm, target, source, mask; tag, and_perm(held, mask).unwrap_or(held).word)
+        AndPerm {
+            target,
+            source,
+            mask,
+            result: recorded,
+        }
     }
 }
 
-/// Takes the operands after a head and its space with the line feed, as `take` does, where they record the word that
-/// the machine derives. `None` says nothing.
+/// Takes the operands after a head and its space with the line feed, as `take` does, where they record what the machine
+/// derives: the step, that capability and what follows. `None` says nothing.
 #[inline(always)]
 pub(crate) fn glance<'a, M: TaggedStore, D: Derived>(
     machine: &Machine<M>,
     operands: &'a [u8],
-) -> Option<(D, &'a [u8])>
+) -> Option<(D, Cap, &'a [u8])>
     ensures some { IfSome result (λ p. Begins IsInRange spelling 10 (head_spelling D.Operands.head ++ 32 ∷ operands.now)
-        (lines.Step (D.Operands.step p.0)) p.1.now) }
+        (lines.Step (D.Operands.step p.0)) p.2.now) }
+    ensures derived { IfSome result (λ p. let row = row_of (state_of machine.now) (D.Operands.step p.0) in
+        EndsBy machine.now.rules row.checks (result_in row.writes) (Ok p.1)) }
 {
     let (before, others) = D::Before::take(operands, b' ')?;
-    if others.len() < 3 {
+    let nothing = Cap {
+        tag: false,
+        word: Word(0),
+    };
+    let Ok(derived) = D::recording(before, nothing).outcome(machine.rules(), machine) else {
         return None;
-    }
-    let (step, recorded) = D::guess(before, others[2] == b'1', machine);
-    let rest = strip_result(others, recorded)?;
+    };
+    let rest = strip_result(others, derived)?;
+    let step = D::recording(before, derived);
     step.in_range();
-    Some((step, rest))
+    Some((step, derived, rest))
 }
 
 // What follows this result and a line feed at the front of some bytes.

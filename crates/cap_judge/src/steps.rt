@@ -10,7 +10,7 @@ ghost use Rattle.cap_judge.specs.Readings.{EndsAt, Goes, TakesAll, TakesOne, at}
 use crate::recorded::{Derived, glance};
 use cap_log::kinds::{AndPerm, ClearTag, Move, SetAddr};
 use cap_log::{Head, Part};
-use cap_machine::{ByKind, Instruction, Machine, StepEnd, by_head};
+use cap_machine::{ByKind, Instruction, Machine, StepEnd, by_head, perform_ended};
 use tagmem::TaggedStore;
 
 // The most bytes that a line has, with its line feed.
@@ -83,7 +83,13 @@ impl<'a, M: TaggedStore, const RARE: bool> ByKind<'a, Machine<M>> for AtFront<RA
         if I::IS_RARE != RARE || operands.len() < MOST_BYTES - MOST_HEAD_BYTES {
             return Ok(None);
         }
-        make_taken(machine, operands, I::take(operands))
+        let Some((step, rest)) = I::take(operands) else {
+            return Ok(None);
+        };
+        match perform_by(machine, step) {
+            Ok(()) => Ok(Some(rest)),
+            Err(end) => Err(end),
+        }
     }
 
     #[inline(always)]
@@ -136,25 +142,10 @@ fn take_derived<'a, M: TaggedStore, D: Derived>(
     if operands.len() < MOST_BYTES - MOST_HEAD_BYTES {
         return Ok(None);
     }
-    make_taken(machine, operands, glance::<M, D>(machine, operands))
-}
-
-// Makes a step that was taken from the front of some bytes, and answers what follows it.
-#[inline(always)]
-fn make_taken<'a, M: TaggedStore, I: Instruction>(
-    machine: &mut Machine<M>,
-    operands: &'a [u8],
-    taken: Option<(I, &'a [u8])>,
-) -> Result<Option<&'a [u8]>, StepEnd>
-    requires { IfSome taken (λ p. Begins IsInRange spelling 10 (head_spelling I.Operands.head ++ 32 ∷ operands.now)
-        (lines.Step (I.Operands.step p.0)) p.1.now) }
-    ensures { TakesOne machine.old (head_spelling I.Operands.head ++ 32 ∷ operands.now) result machine.new }
-{
-    let _ = operands;
-    let Some((step, rest)) = taken else {
+    let Some((step, derived, rest)) = glance::<M, D>(machine, operands) else {
         return Ok(None);
     };
-    match perform_by(machine, step) {
+    match perform_ended(step, Ok(derived), machine) {
         Ok(()) => Ok(Some(rest)),
         Err(end) => Err(end),
     }

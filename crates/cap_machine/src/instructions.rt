@@ -110,11 +110,8 @@ impl<O: Operation> Instruction for O {
 
     #[inline(always)]
     fn perform<M: TaggedStore>(self, machine: &mut Machine<M>) -> Result<(), StepEnd> {
-        self.in_range();
-        let parts = self.parts();
         let outcome = self.outcome(machine.rules, machine);
-        let code = machine.codes[parts.source.number() as usize];
-        machine.conclude(&self, parts.target, outcome, parts.recorded, code)
+        perform_ended(self, outcome, machine)
     }
 
     fn shown<M: TaggedStore>(self, machine: &Machine<M>) -> Shown {
@@ -132,6 +129,24 @@ impl<O: Operation> Instruction for O {
             },
         }
     }
+}
+
+/// Makes a step of an operation that ends so by the machine's rules, as [`Instruction::perform`] does.
+#[inline(always)]
+pub fn perform_ended<O: Operation, M: TaggedStore>(
+    operation: O,
+    outcome: Result<Cap, OpFault>,
+    machine: &mut Machine<M>,
+) -> Result<(), StepEnd>
+    requires ends { let row = row_of (state_of machine.old) (O.step operation) in
+        EndsBy machine.old.rules row.checks (result_in row.writes) outcome }
+    ensures outcome { AnswersStep machine.old (O.step operation) result machine.new }
+    ensures range { IsStepInRange (O.step operation) }
+{
+    operation.in_range();
+    let parts = operation.parts();
+    let code = machine.codes[parts.source.number() as usize];
+    machine.conclude(&operation, parts.target, outcome, parts.recorded, code)
 }
 
 // The result of an operation in clear mode, and the first failed check. Where none fails it is that of strict rules.

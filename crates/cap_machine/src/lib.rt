@@ -18,7 +18,9 @@ mod rules;
 mod shown;
 
 pub use crate::ends::StepEnd;
-pub use crate::instructions::{ByKind, Instruction, by_head};
+pub use crate::instructions::{
+    ByKind, Instruction, Operation, OperationParts, by_head, perform_ended,
+};
 pub use crate::laws::{
     accesses_lie_inside, authority_never_grows, bounds_are_cleared_exactly, origins_are_roots,
     origins_follow_descent, runs_clear_exactly, runs_end_in_accounts, steps_stay_within,
