@@ -8,7 +8,7 @@ use Rattle.cap_word.specs.Digits.{hex_digit, hex_digits}
 use Rattle.cap_word.proofs.DigitLemmas.{hex_of_bytes, IsBytes-bytes_high_first}
 
 -- two digits for each byte
-abbrev both : (ℕ → ℕ) → (ℕ → ℕ) → List ℕ → List ℕ
+abbrev pub both : (ℕ → ℕ) → (ℕ → ℕ) → List ℕ → List ℕ
 both high low [] = []
 both high low (b ∷ bs) = high b ∷ low b ∷ both high low bs
 

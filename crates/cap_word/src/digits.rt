@@ -20,14 +20,17 @@ pub(crate) fn read_front(text: &[u8; 16], size: u8) -> Option<u64>
     ensures none { IfNone result ((n : ℕ) → n < 256 ^ size → take (2 * size) text.now ≡ hex_digits (2 * size) n → ⊥) }
 {
     let bytes = u8x16::from_array(*text);
-    let decimal = bytes - u8x16::splat(b'0');
-    let letter = bytes - u8x16::splat(b'a');
-    let other = letter
-        .simd_lt(u8x16::splat(6))
-        .select(letter + u8x16::splat(10), u8x16::splat(255));
-    // The value of each digit; 255 for every other byte.
-    let values = decimal.simd_lt(u8x16::splat(10)).select(decimal, other);
-    let others = values.simd_ge(u8x16::splat(128)).to_bitmask();
+    // It is nothing for `0` to `9`, and nine for a letter, whose low four bits are nine less than its value.
+    let more = bytes
+        .saturating_sub(u8x16::splat(b'9'))
+        .simd_min(u8x16::splat(9));
+    // The value of each byte, if it is a digit.
+    let values = (bytes + more) & u8x16::splat(15);
+    // Bytes that differ from the digit of their value are no digits.
+    let others = u8x16::from_array(DIGITS)
+        .swizzle_dyn(values)
+        .simd_ne(bytes)
+        .to_bitmask();
     if others % (1 << (2 * size)) == 0 {
         // The bytes that pairs of digits spell.
         let high = values.swizzle([0, 2, 4, 6, 8, 10, 12, 14]);
