@@ -1,14 +1,14 @@
 -- Digits that were computed as the lanes of one vector from the bytes of a number.
 use Rattle.std.specs.Int.{bytes_high_first}
-use Rattle.std.proofs.Common.{◌≡◌, ◌+◌, ◌/◌, ◌%◌, ◌<◌, ◌∷◌, ◌++◌, ◌∙◌, ℕ, suc, true, cond, eqb, ltb, List, [], map}
-use Rattle.std.proofs.{Common.{get_or, replicate, refl, ap, eqb-true}, lemmas.Bool.{agree_below, agree_below_at}}
-use lib.Lanes.{zip2, top, pick_l}
+use Rattle.std.proofs.Common.{◌≡◌, ◌/◌, ◌%◌, ◌<◌, ◌∷◌, ◌++◌, ◌∙◌, ℕ, suc, true, eqb, List, []}
+use Rattle.std.proofs.{Common.{get_or, replicate, refl, ap, eqb-true, w8}, lemmas.{Bool.{agree_below, agree_below_at}, Simd.swz_l}}
+use lib.Lanes.{zip2, pick_l}
 use Rattle.hex.specs.Hex.{encode_with, encode_lower}
 use Rattle.cap_word.specs.Digits.{hex_digit, hex_digits}
 use Rattle.cap_word.proofs.DigitLemmas.{hex_of_bytes, IsBytes-bytes_high_first}
 
 -- two digits for each byte
-abbrev both : (ℕ → ℕ) → (ℕ → ℕ) → List ℕ → List ℕ
+abbrev pub both : (ℕ → ℕ) → (ℕ → ℕ) → List ℕ → List ℕ
 both high low [] = []
 both high low (b ∷ bs) = high b ∷ low b ∷ both high low bs
 
@@ -23,18 +23,18 @@ both-is high low firsts seconds (b ∷ bs) small =
     let second = eqb-true (low b) (hex_digit (b % 16)) (agree_below_at (λ b. eqb (low b) (hex_digit (b % 16))) (λ _. true) 256 b seconds (small 0)) in
     rw (first, second, both-is high low firsts seconds bs (λ i. small (suc i))) refl
 
--- the lanes, whatever the two operations and the six numbers are
-module _ (shift mask : ℕ → ℕ → ℕ) (four fifteen ten decimal letter : ℕ) where
+-- the lanes, whatever the two operations, the two numbers and the table are
+module _ (shift mask : ℕ → ℕ → ℕ) (four fifteen : ℕ) (table : List ℕ) where
   abbrev lane : ℕ → ℕ
-  lane d = (d + cond (top 7 (cond (ltb d ten) 255 0)) decimal letter) % 256
+  lane b = get_or (swz_l w8 16 table 0 (mask b fifteen ∷ [])) 0 0
 
   abbrev pub lanes : List ℕ → List ℕ
-  lanes v = map lane (pick_l 0 (zip2 shift v (replicate 8 four) ++ zip2 mask v (replicate 8 fifteen))
-      (0 ∷ 8 ∷ 1 ∷ 9 ∷ 2 ∷ 10 ∷ 3 ∷ 11 ∷ 4 ∷ 12 ∷ 5 ∷ 13 ∷ 6 ∷ 14 ∷ 7 ∷ 15 ∷ []))
+  lanes v = swz_l w8 16 table 0 (zip2 mask (pick_l 0 (zip2 shift v (replicate 8 four) ++ v)
+      (0 ∷ 8 ∷ 1 ∷ 9 ∷ 2 ∷ 10 ∷ 3 ∷ 11 ∷ 4 ∷ 12 ∷ 5 ∷ 13 ∷ 6 ∷ 14 ∷ 7 ∷ 15 ∷ [])) (replicate 16 fifteen))
 
   pub lanes-are : agree_below (λ b. eqb (lane (shift b four)) (hex_digit (b / 16))) (λ _. true) 256 ≡ true
-      → agree_below (λ b. eqb (lane (mask b fifteen)) (hex_digit (b % 16))) (λ _. true) 256 ≡ true
+      → agree_below (λ b. eqb (lane b) (hex_digit (b % 16))) (λ _. true) 256 ≡ true
       → (n : ℕ) (v : List ℕ) → v ≡ bytes_high_first 8 n → lanes v ≡ hex_digits 16 n
   lanes-are firsts seconds n v e =
-      ap lanes e ∙ both-is (λ b. lane (shift b four)) (λ b. lane (mask b fifteen)) firsts seconds (bytes_high_first 8 n)
+      ap lanes e ∙ both-is (λ b. lane (shift b four)) lane firsts seconds (bytes_high_first 8 n)
       (IsBytes-bytes_high_first 8 n) ∙ hex_of_bytes 8 n

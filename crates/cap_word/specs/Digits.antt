@@ -1,5 +1,5 @@
 -- Numbers in hexadecimal, as fixed numbers of lower-case digits.
-use Rattle.std.specs.Prelude.{◌≡◌, ℕ, suc, zero, ◌/◌, ◌%◌, ◌^◌, ◌<◌, ◌≤◌, ◌⊎◌, List, [], ◌∷◌, length, All, slice_index}
+use Rattle.std.specs.Prelude.{◌≡◌, ℕ, suc, zero, ◌/◌, ◌%◌, ◌^◌, ◌≤◌, ◌⊎◌, List, [], ◌∷◌, length, All, slice_index}
 use Rattle.std.specs.Prelude.{codes}
 
 -- the lower-case digit of a number below 16 (this profile's own: the text of words, addresses and bytes)
@@ -18,10 +18,3 @@ IsHexDigit byte = ((48 ≤ byte) × (byte ≤ 57)) ⊎ ((97 ≤ byte) × (byte �
 -- a text has k bytes, and each is a lower-case digit
 abbrev pub AreHexDigits : ℕ → List ℕ → Type 0
 AreHexDigits k text = (length text ≡ k) × All IsHexDigit text
-
--- a lane below 16 is the value of the byte as a lower-case digit; another byte's lane is 128 or more (this
--- profile's own)
-pub record IsLaneOf (byte lane : ℕ) : Type 0 where
-  pub names : lane < 16 → byte ≡ hex_digit lane
-  pub apart : lane < 128 → lane < 16
-  pub reads : (d : ℕ) → d < 16 → byte ≡ hex_digit d → lane ≡ d

@@ -5,6 +5,9 @@ ghost use Rattle.cap_word.specs.Digits.{hex_digits};
 
 use std::simd::prelude::*;
 
+// The digit of each value.
+const DIGITS: [u8; 16] = *b"0123456789abcdef";
+
 /// The number of `size` bytes, at most eight, that the lower-case digits at the front of a text spell, two for each
 /// byte; `None` if there is another byte among them. All sixteen bytes are read, since a vector is read fastest as
 /// a whole, and those after the digits are ignored.
@@ -17,14 +20,17 @@ pub(crate) fn read_front(text: &[u8; 16], size: u8) -> Option<u64>
     ensures none { IfNone result ((n : ℕ) → n < 256 ^ size → take (2 * size) text.now ≡ hex_digits (2 * size) n → ⊥) }
 {
     let bytes = u8x16::from_array(*text);
-    let decimal = bytes - u8x16::splat(b'0');
-    let letter = bytes - u8x16::splat(b'a');
-    let other = letter
-        .simd_lt(u8x16::splat(6))
-        .select(letter + u8x16::splat(10), u8x16::splat(255));
-    // The value of each digit; 255 for every other byte.
-    let values = decimal.simd_lt(u8x16::splat(10)).select(decimal, other);
-    let others = values.simd_ge(u8x16::splat(128)).to_bitmask();
+    // It is nothing for `0` to `9`, and nine for a letter, whose low four bits are nine less than its value.
+    let more = bytes
+        .saturating_sub(u8x16::splat(b'9'))
+        .simd_min(u8x16::splat(9));
+    // The value of each byte, if it is a digit.
+    let values = (bytes + more) & u8x16::splat(15);
+    // Bytes that differ from the digit of their value are no digits.
+    let others = u8x16::from_array(DIGITS)
+        .swizzle_dyn(values)
+        .simd_ne(bytes)
+        .to_bitmask();
     if others % (1 << (2 * size)) == 0 {
         // The bytes that pairs of digits spell.
         let high = values.swizzle([0, 2, 4, 6, 8, 10, 12, 14]);
@@ -46,11 +52,10 @@ pub fn number_text(number: u64) -> [u8; 16]
         .to_le_bytes()
         .swizzle([7, 6, 5, 4, 3, 2, 1, 0]);
     let high = bytes >> u8x8::splat(4);
-    let low = bytes & u8x8::splat(15);
-    let values = high.shuffle(low, [0, 8, 1, 9, 2, 10, 3, 11, 4, 12, 5, 13, 6, 14, 7, 15]);
-    // From a digit below ten to `0` and on, and from a greater one to `a` and on.
-    let first = values
-        .simd_lt(u8x16::splat(10))
-        .select(u8x16::splat(b'0'), u8x16::splat(b'a' - 10));
-    (values + first).to_array()
+    // One mask serves both digits of each byte.
+    let values = high.shuffle(
+        bytes,
+        [0, 8, 1, 9, 2, 10, 3, 11, 4, 12, 5, 13, 6, 14, 7, 15],
+    ) & u8x16::splat(15);
+    u8x16::from_array(DIGITS).swizzle_dyn(values).to_array()
 }

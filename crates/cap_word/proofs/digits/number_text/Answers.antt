@@ -1,5 +1,5 @@
 use Rattle.std.proofs.Common.{refl, ◌≡◌, ℕ, ◌/◌, ◌%◌, ◌+◌, ◌*◌, ◌∷◌, [], arith}
-use Rattle.std.specs.{Int.bytes_high_first, Prelude.bit_and}
+use Rattle.std.specs.{Int.bytes_high_first, Prelude.{bit_and, codes}}
 use Rattle.cap_word.proofs.WritingLemmas.{lanes-are}
 use Rattle.cap_word.proofs.digits.number_text.Goals as goal
 
@@ -20,5 +20,5 @@ bytes n = row8 _ _ _ _ _ _ _ _ _ _ _ _ _ _ _ _ (omega arith) (omega arith) (omeg
 
 pub returns : goal.returns
 returns c = record {
-  digits = lanes-are (λ a k. a / 16) (λ a k. bit_and a 15) 4 15 10 48 87 refl refl c.args.number _ (bytes c.args.number);
+  digits = lanes-are (λ a k. a / 16) bit_and 4 15 (codes "0123456789abcdef") refl refl c.args.number _ (bytes c.args.number);
 }
