@@ -1,91 +1,36 @@
--- Registers at the front of some bytes, by their digits.
-use Rattle.std.proofs.Common.{◌≡◌, ◌≢◌, ℕ, ◌+◌, ◌-◌, ◌*◌, ◌/◌, ◌%◌, ◌<◌, ◌≤◌, List, [], ◌∷◌, ◌++◌, length, get_or, drop}
-use Rattle.std.proofs.{Common.{sym, ap, ◌∙◌, inl, inr, refl, arith, decimal}, lemmas.Bool.cases_lt}
-use Rattle.std.proofs.lemmas.Fmt.{decimal_digit, decimal_step}
-use Rattle.cap_log.specs.{Lines.{IsRegister, register_spelling}, Parts.Begins}
+-- Registers at the front of some bytes.
+use Rattle.std.proofs.Common.{◌≡◌, ℕ, ◌+◌, ◌/◌, ◌%◌, ◌<◌, ◌≤◌, List, [], ◌∷◌, ◌++◌, length, take, drop, inl, inr, sym, ap, ◌∙◌, arith}
+use Rattle.std.proofs.{Common.{append_assoc, refl, take-append-drop}, lemmas.{Bool.cases_lt, Fmt.{decimal_digit, decimal_step}}}
+use Rattle.cap_log.specs.{Lines.{IsRegister, register_spelling}, Parts.{Begins, BeginsWithNone}}
 
--- the text of a number of two digits
-two_digits : (tens ones : ℕ) → 1 ≤ tens → tens ≤ 9 → ones ≤ 9 → decimal (10 * tens + ones) ≡ (48 + tens) ∷ (48 + ones) ∷ []
-two_digits tens ones some few few' =
-    let quotient : (10 * tens + ones) / 10 ≡ tens = omega arith in
-    let remainder : (10 * tens + ones) % 10 ≡ ones = omega arith in
-    rw (decimal_step (10 * tens + ones) (omega arith) (omega arith), quotient, remainder, decimal_digit tens (omega arith)) refl
+-- the names of one digit, and of two
+pub name_of_one : (n : ℕ) → n < 10 → register_spelling n ≡ 99 ∷ (48 + n) ∷ []
+name_of_one n small = rw (decimal_digit n small) refl
 
--- behind the first digit of a register stands a second one, with the byte that ends it
-pub record HasSecond (end : ℕ) (bytes : List ℕ) : Type 0 where
-  pub long : 4 ≤ length bytes
-  pub first : 49 ≤ get_or bytes 1 0
-  pub second : (48 ≤ get_or bytes 2 0) × (get_or bytes 2 0 ≤ 57)
-  pub ended : get_or bytes 3 0 ≡ end
-  pub small : 10 * (get_or bytes 1 0 - 48) + (get_or bytes 2 0 - 48) ≤ 31
+pub name_of_two : (n : ℕ) → 10 ≤ n → n ≤ 31 → register_spelling n ≡ 99 ∷ (48 + n / 10) ∷ (48 + n % 10) ∷ []
+name_of_two n some few = rw (decimal_step n some (omega arith), decimal_digit (n / 10) (omega arith)) refl
 
--- a register at the front of some bytes, with the byte that ends it
-pub record HasRegister (end : ℕ) (bytes : List ℕ) : Type 0 where
-  pub long : 3 ≤ length bytes
-  pub letter : get_or bytes 0 0 ≡ 99
-  pub first : (48 ≤ get_or bytes 1 0) × (get_or bytes 1 0 ≤ 57)
-  pub more : get_or bytes 2 0 ≢ end → HasSecond end bytes
+-- such a name and its end are so many bytes at the front
+pub in_front : (k end n : ℕ) (bytes : List ℕ) → n ≤ 31 → take k bytes ≡ register_spelling n ++ end ∷ []
+    → Begins IsRegister register_spelling end bytes n (drop k bytes)
+in_front k end n bytes few e = (
+  few,
+  sym (take-append-drop k bytes) ∙ ap (λ (bs : List ℕ). bs ++ drop k bytes) e
+      ∙ append_assoc (register_spelling n) (end ∷ []) (drop k bytes),
+)
 
--- the bytes of a register and what ends it, by their places
-one : (end n : ℕ) (bytes rest : List ℕ) → n < 10 → bytes ≡ 99 ∷ (48 + n) ∷ end ∷ rest → HasRegister end bytes
-one end n bytes rest small e =
-    let first : get_or bytes 1 0 ≡ 48 + n = ap (λ (bs : List ℕ). get_or bs 1 0) e in
-    record {
-      long = omega (arith, ap length e);
-      letter = ap (λ (bs : List ℕ). get_or bs 0 0) e;
-      first = (omega arith, omega arith);
-      more = λ other. absurd (other (ap (λ (bs : List ℕ). get_or bs 2 0) e));
-    }
-
-two : (end tens ones : ℕ) (bytes rest : List ℕ) → 1 ≤ tens → ones ≤ 9 → 10 * tens + ones ≤ 31
-    → bytes ≡ 99 ∷ (48 + tens) ∷ (48 + ones) ∷ end ∷ rest → HasRegister end bytes
-two end tens ones bytes rest some few small e =
-    let first : get_or bytes 1 0 ≡ 48 + tens = ap (λ (bs : List ℕ). get_or bs 1 0) e in
-    let second : get_or bytes 2 0 ≡ 48 + ones = ap (λ (bs : List ℕ). get_or bs 2 0) e in
-    record {
-      long = omega (arith, ap length e);
-      letter = ap (λ (bs : List ℕ). get_or bs 0 0) e;
-      first = (omega arith, omega arith);
-      more = λ _. record {
-        long = omega (arith, ap length e);
-        first = omega arith;
-        second = (omega arith, omega arith);
-        ended = ap (λ (bs : List ℕ). get_or bs 3 0) e;
-        small = omega arith;
-      };
-    }
-
-pub register_facts : (end n : ℕ) (bytes rest : List ℕ) → Begins IsRegister register_spelling end bytes n rest → HasRegister end bytes
-register_facts end n bytes rest begins = elim (cases_lt n 10) [
-  | inl small ↦ one end n bytes rest small (begins.1 ∙ ap (λ (ds : List ℕ). 99 ∷ (ds ++ end ∷ rest)) (decimal_digit n small))
+-- no name is there if none of one digit is, and none of two
+pub no_register : (end : ℕ) (bytes : List ℕ)
+    → ((n : ℕ) → n < 10 → 3 ≤ length bytes → take 3 bytes ≡ register_spelling n ++ end ∷ [] → ⊥)
+    → ((n : ℕ) → 10 ≤ n → n ≤ 31 → 4 ≤ length bytes → take 4 bytes ≡ register_spelling n ++ end ∷ [] → ⊥)
+    → BeginsWithNone IsRegister register_spelling end bytes
+no_register end bytes no_one no_two n rest begins = elim (cases_lt n 10) [
+  | inl small ↦
+      let name = name_of_one n small in
+      let whole = begins.1 ∙ ap (λ (ds : List ℕ). ds ++ end ∷ rest) name in
+      no_one n small (omega (arith, ap length whole)) (ap (take 3) whole ∙ ap (λ (ds : List ℕ). ds ++ end ∷ []) (sym name))
   | inr great ↦
-      let most : n ≤ 31 = begins.0 in
-      let number : 10 * (n / 10) + n % 10 ≡ n = omega arith in
-      let text = ap decimal (sym number) ∙ two_digits (n / 10) (n % 10) (omega arith) (omega arith) (omega arith) in
-      two end (n / 10) (n % 10) bytes rest (omega arith) (omega arith) (omega arith)
-      (begins.1 ∙ ap (λ (ds : List ℕ). 99 ∷ (ds ++ end ∷ rest)) text)
+      let name = name_of_two n great begins.0 in
+      let whole = begins.1 ∙ ap (λ (ds : List ℕ). ds ++ end ∷ rest) name in
+      no_two n great begins.0 (omega (arith, ap length whole)) (ap (take 4) whole ∙ ap (λ (ds : List ℕ). ds ++ end ∷ []) (sym name))
 ]
-
--- what has such bytes is a register
-pub one_digit : (end : ℕ) (bytes : List ℕ) → 3 ≤ length bytes → get_or bytes 0 0 ≡ 99 → 48 ≤ get_or bytes 1 0 → get_or bytes 1 0 ≤ 57
-    → get_or bytes 2 0 ≡ end → Begins IsRegister register_spelling end bytes (get_or bytes 1 0 - 48) (drop 3 bytes)
-one_digit end [] long letter low high ended = absurd (omega arith)
-one_digit end (a ∷ []) long letter low high ended = absurd (omega arith)
-one_digit end (a ∷ b ∷ []) long letter low high ended = absurd (omega arith)
-one_digit end (a ∷ b ∷ x ∷ rest) long letter low high ended =
-    let digit : 48 + (b - 48) ≡ b = omega arith in
-    (omega arith, rw (letter, ended, decimal_digit (b - 48) (omega arith), digit) refl)
-
-pub two_digit : (end : ℕ) (bytes : List ℕ) → get_or bytes 0 0 ≡ 99 → get_or bytes 1 0 ≤ 57 → HasSecond end bytes
-    → Begins IsRegister register_spelling end bytes (10 * (get_or bytes 1 0 - 48) + (get_or bytes 2 0 - 48)) (drop 4 bytes)
-two_digit end [] letter high has = let long = has.long in absurd (omega arith)
-two_digit end (a ∷ []) letter high has = let long = has.long in absurd (omega arith)
-two_digit end (a ∷ b ∷ []) letter high has = let long = has.long in absurd (omega arith)
-two_digit end (a ∷ b ∷ x ∷ []) letter high has = let long = has.long in absurd (omega arith)
-two_digit end (a ∷ b ∷ x ∷ y ∷ rest) letter high has =
-    let low : 49 ≤ b = has.first in
-    let range : (48 ≤ x) × (x ≤ 57) = has.second in
-    let tens : 48 + (b - 48) ≡ b = omega arith in
-    let ones : 48 + (x - 48) ≡ x = omega arith in
-    let text = two_digits (b - 48) (x - 48) (omega arith) (omega arith) (omega arith) in
-    (has.small, rw (letter, has.ended, text, tens, ones) refl)

@@ -1,9 +1,8 @@
 -- Parts at the front of some bytes, with the byte that ends them.
-use Rattle.std.proofs.Common.{◌≡◌, ℕ, ◌+◌, ◌<◌, ◌≤◌, Bool, List, [], ◌∷◌, ◌++◌, length, take, drop, get_or, sym, ap}
+use Rattle.std.proofs.Common.{◌≡◌, ℕ, ◌+◌, ◌<◌, ◌≤◌, List, ◌∷◌, ◌++◌, length, take, drop, get_or, sym, ap}
 use Rattle.std.proofs.Common.{◌∙◌, arith, append_assoc, length-append, take-append-drop, take_at}
 use Rattle.std.proofs.lemmas.List.{drop_more, get_or_at}
-use Rattle.cap_word.specs.Digits.{hex_digits}
-use Rattle.cap_log.specs.{Lines.tag_spelling, Parts.{Begins, BeginsWithNone, FitBoth, HasNoSpace, spaced}}
+use Rattle.cap_log.specs.{Parts.{Begins, BeginsWithNone, FitBoth, HasNoSpace, spaced}}
 use Rattle.cap_log.proofs.Cuts.{same_cut}
 
 module _ {A : Type 0} (Fits : A → Type 0) (spelled : A → List ℕ) (end : ℕ) where
@@ -30,22 +29,6 @@ pub cut_behind : (n end : ℕ) (bytes : List ℕ) → n < length bytes → get_o
 cut_behind n end bytes before ended =
     sym (take-append-drop n bytes)
     ∙ ap (λ (rest : List ℕ). take n bytes ++ rest) (drop_more bytes n 0 before ∙ ap (λ (b : ℕ). b ∷ drop (n + 1) bytes) ended)
-
--- a result in front: what stands before its word, the word's digits, and the byte that ends them
-pub result_in_front : (tag : Bool) (end n : ℕ) (bytes : List ℕ) → 36 < length bytes → get_or bytes 36 0 ≡ end → get_or bytes 0 0 ≡ 61
-    → get_or bytes 1 0 ≡ 32 → get_or bytes 2 0 ∷ [] ≡ tag_spelling tag → get_or bytes 3 0 ≡ 32 → take 32 (drop 4 bytes) ≡ hex_digits 32 n
-    → bytes ≡ (61 ∷ 32 ∷ (tag_spelling tag ++ 32 ∷ hex_digits 32 n)) ++ end ∷ drop 37 bytes
-result_in_front tag end n [] long _ _ _ _ _ _ = absurd (omega arith)
-result_in_front tag end n (a ∷ []) long _ _ _ _ _ _ = absurd (omega arith)
-result_in_front tag end n (a ∷ b ∷ []) long _ _ _ _ _ _ = absurd (omega arith)
-result_in_front tag end n (a ∷ b ∷ x ∷ []) long _ _ _ _ _ _ = absurd (omega arith)
-result_in_front tag end n (a ∷ b ∷ x ∷ d ∷ rest) long ended first second third fourth digits =
-    let word = cut_behind 32 end rest (omega arith) ended ∙ ap (λ (ds : List ℕ). ds ++ end ∷ drop 33 rest) digits in
-    ap (λ (k : ℕ). k ∷ b ∷ x ∷ d ∷ rest) first ∙ ap (λ (k : ℕ). 61 ∷ k ∷ x ∷ d ∷ rest) second
-    ∙ ap (λ (ts : List ℕ). 61 ∷ 32 ∷ (ts ++ d ∷ rest)) third
-    ∙ ap (λ (k : ℕ). 61 ∷ 32 ∷ (tag_spelling tag ++ k ∷ rest)) fourth
-    ∙ ap (λ (bs : List ℕ). 61 ∷ 32 ∷ (tag_spelling tag ++ 32 ∷ bs)) word
-    ∙ ap (λ (bs : List ℕ). 61 ∷ 32 ∷ bs) (sym (append_assoc (tag_spelling tag) (32 ∷ hex_digits 32 n) (end ∷ drop 33 rest)))
 
 -- two parts, of which the first is one word
 module _ {A B : Type 0} (P : A → Type 0) (first : A → List ℕ) (Q : B → Type 0) (second : B → List ℕ) (end : ℕ) (bytes : List ℕ) where

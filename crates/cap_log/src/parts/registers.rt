@@ -1,6 +1,6 @@
 //! Registers, and the places of roots.
 
-ghost use Rattle.std.specs.Prelude.{◌≡◌, ◌+◌, ◌≤◌, length, IfNone, IfSome, MatchOption};
+ghost use Rattle.std.specs.Prelude.{◌≡◌, ◌↔◌, ℕ, ◌+◌, ◌<◌, ◌≤◌, [], ◌∷◌, ◌++◌, length, take, IfNone, IfSome, MatchOption};
 ghost use Rattle.cap_log.specs.Lines.{IsPlace, place_spelling, register_spelling};
 ghost use Rattle.cap_log.specs.{Parts.{Begins, BeginsWithNone, IsEnd}, Ranges.{IsRegister, IsRegisterFrom}};
 ghost use Rattle.cap_log.specs.Spaceless.{place-spaceless, register-spaceless, register-within};
@@ -15,8 +15,8 @@ use std::marker::Model;
 /// The greatest register.
 const GREATEST_REGISTER: u8 = 31;
 
-/// The least digit before another one.
-const LEAST_TENS: u8 = 1;
+/// The least register whose name has two digits.
+const LEAST_OF_TWO_DIGITS: u32 = 10;
 
 /// A register from a least one on.
 #[derive(Clone, Copy, Debug, PartialEq, Eq)]
@@ -136,27 +136,64 @@ fn take_number(bytes: &[u8], end: u8) -> Option<(u8, &[u8])>
     ensures some { IfSome result (λ p. Begins IsRegister register_spelling end bytes.now p.0 p.1.now) }
     ensures none { IfNone result (BeginsWithNone IsRegister register_spelling end bytes.now) }
 {
-    if bytes.len() < 3 || bytes[0] != b'c' {
-        return None;
+    let Some((front, rest)) = bytes.split_first_chunk::<4>() else {
+        return take_last(bytes, end);
+    };
+    let digit = one_digit(front, end);
+    if digit < 10 {
+        return Some((digit as u8, &bytes[3..]));
     }
-    if !bytes[1].is_ascii_digit() {
-        return None;
-    }
-    let first = bytes[1] - b'0';
-    if bytes[2] == end {
-        return Some((first, &bytes[3..]));
-    }
-    if bytes.len() < 4 || bytes[3] != end {
-        return None;
-    }
-    if first < LEAST_TENS || !bytes[2].is_ascii_digit() {
-        return None;
-    }
-    let number = 10 * first + (bytes[2] - b'0');
-    if number <= GREATEST_REGISTER {
-        Some((number, &bytes[4..]))
+    let number = two_digits(front, end);
+    if number >= LEAST_OF_TWO_DIGITS && number <= u32::from(GREATEST_REGISTER) {
+        Some((number as u8, rest))
     } else {
         None
+    }
+}
+
+// The same where fewer than four bytes stand there.
+#[inline(never)]
+fn take_last(bytes: &[u8], end: u8) -> Option<(u8, &[u8])>
+    requires { length bytes.now < 4 }
+    ensures some { IfSome result (λ p. Begins IsRegister register_spelling end bytes.now p.0 p.1.now) }
+    ensures none { IfNone result (BeginsWithNone IsRegister register_spelling end bytes.now) }
+{
+    let [letter, digit, last] = bytes else {
+        return None;
+    };
+    let digit = one_digit(&[*letter, *digit, *last, 0], end);
+    if digit < 10 {
+        Some((digit as u8, &bytes[3..]))
+    } else {
+        None
+    }
+}
+
+// The register whose name of one digit stands in front, with this end behind it, or a number above 9 if
+// none does: four bytes are compared as one number.
+#[inline(always)]
+fn one_digit(front: &[u8; 4], end: u8) -> u32
+    ensures { (n : ℕ) → n < 10 → (result ≡ n) ↔ (take 3 front.now ≡ register_spelling n ++ end ∷ []) }
+{
+    let word = u32::from_le_bytes(*front);
+    let least = u32::from_le_bytes([0, b'c', b'0', end]);
+    let apart = (word << 8).wrapping_sub(least);
+    (apart >> 16) + (apart << 16)
+}
+
+// The same with a name of two digits, or a number below 10 or above 31.
+#[inline(always)]
+fn two_digits(front: &[u8; 4], end: u8) -> u32
+    ensures { (n : ℕ) → 10 ≤ n → n ≤ 31 → (result ≡ n) ↔ (front.now ≡ register_spelling n ++ end ∷ []) }
+{
+    let word = u32::from_le_bytes(*front);
+    let least = u32::from_le_bytes([b'c', b'0', b'0', end]);
+    let apart = word.wrapping_sub(least);
+    let digits = (apart >> 8) + (apart << 24);
+    if digits < 2560 {
+        10 * (digits % 256) + digits / 256
+    } else {
+        0
     }
 }
 

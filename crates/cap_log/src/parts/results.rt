@@ -4,6 +4,7 @@ ghost use Rattle.cap_word.specs.Digits.{hex_digits};
 ghost use Rattle.cap_log.specs.{Lines.IsWord, Parts.result_spelling, Spaceless.digits-spaceless};
 
 use crate::buffers::put;
+use crate::parts::fronts::are_four;
 use crate::parts::{Part, Single};
 use cap_word::{Cap, Word, read_word, word_text};
 
@@ -52,11 +53,11 @@ impl Part for Cap {
         if bytes.len() <= RESULT_LENGTH || bytes[RESULT_LENGTH] != end {
             return None;
         }
-        let tag = match bytes {
-            [b'=', b' ', b'1', b' ', ..] => true,
-            [b'=', b' ', b'0', b' ', ..] => false,
-            _ => return None,
-        };
+        let (front, _) = bytes.split_first_chunk::<WORD_START>()?;
+        let tag = are_four(front, b"= 1 ");
+        if !tag && !are_four(front, b"= 0 ") {
+            return None;
+        }
         let word = read_word(&bytes[WORD_START..RESULT_LENGTH])?;
         Some((Cap { tag, word }, &bytes[RESULT_LENGTH + 1..]))
     }
