@@ -161,7 +161,7 @@ mark-short : (is_load : Bool) → length (value_mark is_load) ≤ 2
 mark-short true = lit≤ tt
 mark-short false = lit≤ tt
 
-behind_mark : (is_load : Bool) (x y : List ℕ) → value_mark is_load ++ x ≡ value_mark is_load ++ y → x ≡ y
+pub behind_mark : (is_load : Bool) (x y : List ℕ) → value_mark is_load ++ x ≡ value_mark is_load ++ y → x ≡ y
 behind_mark true x y e = ap (λ (bs : List ℕ). drop 2 bs) e
 behind_mark false x y e = e
 

@@ -1,39 +1,14 @@
 -- Sizes and values behind them: what the readers' answers mean.
-use Rattle.std.proofs.Common.{Bool, ◌≡◌, ℕ, zero, suc, ◌+◌, ◌*◌, ◌-◌, ◌<◌, ◌≤◌, List, [], ◌∷◌, ◌++◌, length, take, drop}
-use Rattle.std.proofs.Common.{get_or, not, eqb, inl, inr, refl, sym, ap, subst, ◌∙◌, arith, decimal, append_assoc}
+use Rattle.std.proofs.Common.{Bool, ◌≡◌, ℕ, zero, suc, ◌+◌, ◌*◌, ◌-◌, ◌≤◌, List, ◌∷◌, ◌++◌, length, take, drop}
+use Rattle.std.proofs.Common.{not, eqb, inl, inr, sym, ap, subst, ◌∙◌, arith, decimal, append_assoc}
 use Rattle.std.proofs.{Common.{length-append, take_all}, lemmas.Bool.Decides.eqb_tells}
-use Rattle.std.proofs.lemmas.Fmt.{decimal_digit, decimal_injective}
+use Rattle.std.proofs.lemmas.Fmt.{decimal_injective}
 use Rattle.cap_word.specs.Digits.{hex_digits}
 use Rattle.cap_word.proofs.DigitLemmas.{length-hex_digits}
 use Rattle.cap_log.specs.Parts.{Begins, BeginsWithNone, accessed_spelling, value_mark}
 use Rattle.cap_log.specs.Ranges.{Datum, IsDataSize, IsDataValue, IsDatum}
 use Rattle.cap_streams.specs.Written.{Writes}
 use Rattle.cap_log.proofs.{Cuts.same_cut, PartLemmas.{size-small, size-spaceless}, WriteLemmas.length-Writes}
-
--- a size is one of four texts
-pub size_text : (n : ℕ) → n < 10 → decimal n ≡ (48 + n) ∷ []
-size_text n small = decimal_digit n small
-
--- a size at the front of some bytes, with a space behind it, by their places
-pub size_in_front : (n : ℕ) (bytes : List ℕ) → n < 10 → 2 ≤ length bytes → get_or bytes 0 0 ≡ 48 + n → get_or bytes 1 0 ≡ 32
-    → bytes ≡ decimal n ++ 32 ∷ drop 2 bytes
-size_in_front n [] small long digit space = absurd (omega arith)
-size_in_front n (a ∷ []) small long digit space = absurd (omega arith)
-size_in_front n (a ∷ b ∷ rest) small long digit space = rw (digit, space, size_text n small) refl
-
-pub record HasSize (n : ℕ) (bytes : List ℕ) : Type 0 where
-  pub long : 2 ≤ length bytes
-  pub digit : get_or bytes 0 0 ≡ 48 + n
-  pub space : get_or bytes 1 0 ≡ 32
-
-pub size_facts : (n : ℕ) (bytes rest : List ℕ) → Begins IsDataSize decimal 32 bytes n rest → HasSize n bytes
-size_facts n bytes rest begins =
-    let whole = begins.1 ∙ ap (λ (ds : List ℕ). ds ++ 32 ∷ rest) (size_text n (omega (arith, size-small n begins.0))) in
-    record {
-      long = omega (arith, ap length whole);
-      digit = ap (λ (bs : List ℕ). get_or bs 0 0) whole;
-      space = ap (λ (bs : List ℕ). get_or bs 1 0) whole;
-    }
 
 -- the sizes at the front of the same bytes are one, and what stands behind them too
 pub same_size : (m n : ℕ) (bytes x y : List ℕ) → Begins IsDataSize decimal 32 bytes m x

@@ -59,6 +59,15 @@ impl Part for Offset {
 
     #[inline(always)]
     fn take(bytes: &[u8], end: u8) -> Option<(Offset, &[u8])> {
+        // One digit is the most usual: it and its end are compared as one number.
+        if let Some((front, rest)) = bytes.split_first_chunk::<2>() {
+            let word = u16::from_le_bytes(*front);
+            let digit = word.wrapping_sub(u16::from_le_bytes([b'0', end]));
+            if digit < 10 {
+                let number = digit as i16;
+                return Some((Offset { number }, rest));
+            }
+        }
         let (first, digits) = bytes.split_first()?;
         if *first == b'-' {
             let (number, rest) = take_decimal::<4, 1, 2049>(digits, end)?;

@@ -1,15 +1,15 @@
 //! Numbers of 1, 2, 4 or 8 bytes: their size, and two hexadecimal digits for each byte.
 
 ghost use Rattle.std.specs.Prelude.{◌≡◌, ℕ, ◌*◌, ◌+◌, ◌≤◌, length, List, ◌++◌, decimal, IfSome, IfNone, IsTrue};
-ghost use Rattle.std.specs.Prelude.{MatchOption, ◌↔◌};
+ghost use Rattle.std.specs.Prelude.{MatchOption, ◌↔◌, ◌<◌, ◌∷◌};
 ghost use Rattle.cap_word.specs.Digits.{hex_digits};
-ghost use Rattle.cap_log.specs.Parts.{Begins, BeginsWithNone, accessed_spelling};
+ghost use Rattle.cap_log.specs.Parts.{Begins, BeginsWithNone, accessed_spelling, value_mark};
 ghost use Rattle.cap_log.specs.Ranges.{IsDataSize, IsDataValue, IsDatum};
 ghost use Rattle.cap_streams.specs.Written.{Writes};
 
 use crate::buffers::{put, put_few};
 use crate::parts::Part;
-use crate::parts::fronts::strip_word;
+use crate::parts::fronts::{are_four, are_two, strip_word};
 use cap_word::{number_text, take_bytes, take_u64};
 use std::marker::Model;
 
@@ -141,13 +141,8 @@ impl<const IS_LOAD: bool> Part for Accessed<IS_LOAD> {
 
     #[inline(always)]
     fn take(bytes: &[u8], end: u8) -> Option<(Self, &[u8])> {
-        let (count, rest) = take_size(bytes)?;
+        let (count, digits) = take_size::<IS_LOAD>(bytes)?;
         let size = Size { bytes: count };
-        let digits = if IS_LOAD {
-            rest.strip_prefix(b"= ")?
-        } else {
-            rest
-        };
         let (value, rest) = take_value(digits, size, end)?;
         Some((Accessed(Datum { size, value }), rest))
     }
@@ -180,19 +175,45 @@ fn put_value(buffer: &mut [u8], at: usize, size: Size, value: u64) -> usize
     }
 }
 
-// Takes a size, 1, 2, 4 or 8, and a space.
+// Takes a size, 1, 2, 4 or 8, a space, and `= ` where it is a load's. Eight bytes are the most usual.
 #[inline(always)]
-fn take_size(bytes: &[u8]) -> Option<(u8, &[u8])>
-    ensures some { IfSome result (λ p. Begins IsDataSize decimal 32 bytes.now p.0 p.1.now) }
-    ensures none { IfNone result (BeginsWithNone IsDataSize decimal 32 bytes.now) }
+fn take_size<const IS_LOAD: bool>(bytes: &[u8]) -> Option<(u8, &[u8])>
+    ensures some { IfSome result (λ p. Begins IsDataSize decimal 32 bytes.now p.0 (value_mark IS_LOAD ++ p.1.now)) }
+    ensures none { IfNone result ((n : ℕ) (rest : List ℕ)
+        → Begins IsDataSize decimal 32 bytes.now n (value_mark IS_LOAD ++ rest) → ⊥) }
 {
-    match bytes {
-        [b'1', b' ', rest @ ..] => Some((1, rest)),
-        [b'2', b' ', rest @ ..] => Some((2, rest)),
-        [b'4', b' ', rest @ ..] => Some((4, rest)),
-        [b'8', b' ', rest @ ..] => Some((8, rest)),
-        _ => None,
+    if let Some(rest) = strip_size::<IS_LOAD>(bytes, 8) {
+        return Some((8, rest));
     }
+    if let Some(rest) = strip_size::<IS_LOAD>(bytes, 4) {
+        return Some((4, rest));
+    }
+    if let Some(rest) = strip_size::<IS_LOAD>(bytes, 2) {
+        return Some((2, rest));
+    }
+    let rest = strip_size::<IS_LOAD>(bytes, 1)?;
+    Some((1, rest))
+}
+
+// What follows this size and what stands behind it, compared as one number.
+#[inline(always)]
+fn strip_size<const IS_LOAD: bool>(bytes: &[u8], size: u8) -> Option<&[u8]>
+    requires { size < 10 }
+    ensures some { IfSome result (λ rest. bytes.now ≡ decimal size ++ 32 ∷ (value_mark IS_LOAD ++ rest.now)) }
+    ensures none { IfNone result ((rest : List ℕ) → bytes.now ≡ decimal size ++ 32 ∷ (value_mark IS_LOAD ++ rest) → ⊥) }
+{
+    if IS_LOAD {
+        let (front, rest) = bytes.split_first_chunk::<4>()?;
+        if are_four(front, &[b'0' + size, b' ', b'=', b' ']) {
+            return Some(rest);
+        }
+    } else {
+        let (front, rest) = bytes.split_first_chunk::<2>()?;
+        if are_two(front, &[b'0' + size, b' ']) {
+            return Some(rest);
+        }
+    }
+    None
 }
 
 // Takes a value of so many bytes, two digits for each, and the byte that ends it.
