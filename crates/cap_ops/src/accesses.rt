@@ -1,10 +1,11 @@
 //! Accesses to memory through an authority.
 
-ghost use Rattle.std.specs.Prelude.{◌≡◌, ◌<◌, ◌≤◌, ◌%◌, ◌+◌, ◌↔◌, true, IfOk, IsTrue, option_map};
+ghost use Rattle.std.specs.Prelude.{◌≡◌, ◌==◌, ◌<◌, ◌≤◌, ◌%◌, ◌+◌, ◌∷◌, ◌↔◌, not, true, IfOk, IsTrue, option_map};
+ghost use Rattle.cap_ops.specs.declared.refusal.Refusal.TheVariants.{Misaligned};
 ghost use Rattle.cap_bounds.specs.Bounds.{IsSound};
 ghost use Rattle.cap_ops.specs.Accesses.{IsAllowed, access_address, access_checks, loaded_result, permission_for};
 ghost use Rattle.cap_ops.specs.{Accesses.stored_checks, Authority.StaysWithin, Checks.{Ends, first_of}};
-ghost use Rattle.cap_ops.specs.{Operations.covers, Refusals.refusal_of};
+ghost use Rattle.cap_ops.specs.{Operations.{authority_checks, covers}, Refusals.refusal_of};
 
 use crate::access::Access;
 use crate::bits::{
@@ -38,12 +39,16 @@ fn is_aligned(address: u64, access: Access) -> bool
     address & u64::from(access.size - 1) == 0
 }
 
-/// The first test that refuses to store a capability.
+/// The first test that refuses an access after those of its authority: of its address, and of what it stores.
 #[inline(always)]
-fn stored_fault(authority: Word, kind: Kind) -> Option<OpFault>
-    ensures { option_map refusal_of result ≡ first_of (stored_checks authority.0 kind) }
+fn other_fault(authority: Word, access: Access, address: u64) -> Option<OpFault>
+    ensures { option_map refusal_of result
+        ≡ first_of ((not (address % access.size == 0), Misaligned) ∷ stored_checks authority.0 access.kind) }
 {
-    let Kind::StoreCap(stored) = kind else {
+    if !is_aligned(address, access) {
+        return Some(OpFault::Misaligned);
+    }
+    let Kind::StoreCap(stored) = access.kind else {
         return None;
     };
     if !stored.tag {
@@ -66,6 +71,54 @@ fn target_of(authority: Word, offset: i16) -> u64
     authority.address().wrapping_add_signed(i64::from(offset))
 }
 
+/// The first test of an authority that refuses an access to these bytes.
+fn authority_fault(
+    tag: bool,
+    word: Word,
+    permission: u32,
+    address: u64,
+    size: u8,
+) -> Option<OpFault>
+    requires { permission < 12 }
+    ensures { option_map refusal_of result
+        ≡ first_of (authority_checks (record { tag = tag; word = word }) permission address (address + size)) }
+{
+    if !tag {
+        Some(OpFault::AuthorityUntagged)
+    } else if sealed(word) {
+        Some(OpFault::AuthoritySealed)
+    } else if !permits(word, permission) {
+        Some(OpFault::AuthorityPermission)
+    } else if !covers(word, address, u128::from(address) + u128::from(size)) {
+        Some(OpFault::AuthorityBounds)
+    } else {
+        None
+    }
+}
+
+/// The same for an authority that is sound if it is tagged; it is kept, if it is unsealed. By a function of its own, of
+/// numbers alone: most accesses don't call it.
+#[inline(never)]
+fn fault_anew(
+    recent: &mut RecentAuthority,
+    tag: bool,
+    word: Word,
+    permission: u32,
+    address: u64,
+    size: u8,
+) -> Option<OpFault>
+    requires permission { permission < 12 }
+    requires some { 0 < size }
+    requires sound { IsTrue tag → IsSound word.0 }
+    ensures { option_map refusal_of result
+        ≡ first_of (authority_checks (record { tag = tag; word = word }) permission address (address + size)) }
+{
+    if tag && recent.holds_anew(word, address, u64::from(size - 1)) && permits(word, permission) {
+        return None;
+    }
+    authority_fault(tag, word, permission, address, size)
+}
+
 /// The first test that refuses an access at an address.
 #[tactic(auto, unfolding(crate::specs::Accesses::access_checks))]
 #[inline(always)]
@@ -74,19 +127,11 @@ fn access_fault(authority: Cap, access: Access, address: u64) -> Option<OpFault>
     ensures { option_map refusal_of result ≡ first_of (access_checks authority access.kind access.offset access.size) }
 {
     let word = authority.word;
-    if !authority.tag {
-        Some(OpFault::AuthorityUntagged)
-    } else if sealed(word) {
-        Some(OpFault::AuthoritySealed)
-    } else if !permits(word, needed(access.kind)) {
-        Some(OpFault::AuthorityPermission)
-    } else if !covers(word, address, u128::from(address) + u128::from(access.size)) {
-        Some(OpFault::AuthorityBounds)
-    } else if !is_aligned(address, access) {
-        Some(OpFault::Misaligned)
-    } else {
-        stored_fault(word, access.kind)
+    let permission = needed(access.kind);
+    if let Some(fault) = authority_fault(authority.tag, word, permission, address, access.size) {
+        return Some(fault);
     }
+    other_fault(word, access, address)
 }
 
 /// The first test that refuses an access at an address through an authority that is sound if it is tagged. Most accesses
@@ -103,16 +148,16 @@ fn sound_access_fault(
     requires address { address ≡ access_address authority.word.0 access.offset }
     ensures { option_map refusal_of result ≡ first_of (access_checks authority access.kind access.offset access.size) }
 {
-    let word = authority.word;
-    if authority.tag
-        && (recent.holds(word, access, address)
-            || recent.holds_anew(word, address, u64::from(access.size - 1)))
-        && permits(word, needed(access.kind))
-        && is_aligned(address, access)
-    {
-        return stored_fault(word, access.kind);
+    let Cap { tag, word } = authority;
+    let permission = needed(access.kind);
+    let is_held = tag && recent.holds(word, access, address) && permits(word, permission);
+    if !is_held {
+        let fault = fault_anew(recent, tag, word, permission, address, access.size);
+        if fault.is_some() {
+            return fault;
+        }
     }
-    access_fault(authority, access, address)
+    other_fault(word, access, address)
 }
 
 /// Whether an authority permits an access. If it does, returns the address: the authority's plus the offset, modulo

@@ -47,8 +47,8 @@ impl RecentAuthority {
     }
 
     /// Whether a sound word is unsealed, and has an address and the `more` after it in its bounds. It is kept, if it is
-    /// unsealed and holds any address. By a function of its own, of numbers alone: most accesses don't call it.
-    #[inline(never)]
+    /// unsealed and holds any address.
+    #[inline(always)]
     pub(crate) fn holds_anew(&mut self, word: Word, address: u64, more: u64) -> bool
         requires sound { IsSound word.0 }
         ensures unsealed { result ≡ true → is_sealed word.0 ≡ false }
