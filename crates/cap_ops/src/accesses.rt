@@ -150,11 +150,9 @@ fn sound_access_fault(
 {
     let Cap { tag, word } = authority;
     let permission = needed(access.kind);
-    let is_held = tag && recent.holds(word, access, address) && permits(word, permission);
-    if !is_held {
-        let fault = fault_anew(recent, tag, word, permission, address, access.size);
-        if fault.is_some() {
-            return fault;
+    if !tag || !recent.holds(word, access, address) || !permits(word, permission) {
+        if let Some(fault) = fault_anew(recent, tag, word, permission, address, access.size) {
+            return Some(fault);
         }
     }
     other_fault(word, access, address)
