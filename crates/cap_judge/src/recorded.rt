@@ -137,7 +137,7 @@ fn strip_result(bytes: &[u8], recorded: Cap) -> Option<&[u8]>
     let (low, others) = others.split_first_chunk::<16>()?;
     let (last, rest) = others.split_first()?;
     let word = recorded.word.0;
-    // One half after the other: the compiler forgets what it loaded after more code than one of them takes.
+    // One half after the other: compared at once, a move takes two instructions more.
     if !is_same(high, &number_text((word >> 64) as u64)) {
         return None;
     }
