@@ -169,7 +169,7 @@ fn take_last(bytes: &[u8], end: u8) -> Option<(u8, &[u8])>
     }
 }
 
-// The register whose name of one digit stands in front, with this end behind it, or a number above 9 if
+// The register whose name of one digit stands in front, with this end after it, or a number above 9 if
 // none does: four bytes are compared as one number.
 #[inline(always)]
 fn one_digit(front: &[u8; 4], end: u8) -> u32

@@ -195,7 +195,7 @@ fn take_size<const IS_LOAD: bool>(bytes: &[u8]) -> Option<(u8, &[u8])>
     Some((1, rest))
 }
 
-// What follows this size and what stands behind it, compared as one number.
+// What follows this size and its mark, compared as one number.
 #[inline(always)]
 fn strip_size<const IS_LOAD: bool>(bytes: &[u8], size: u8) -> Option<&[u8]>
     requires { size < 10 }
