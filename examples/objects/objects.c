@@ -3,28 +3,28 @@
  *   cc -O2 -fno-builtin -fno-tree-loop-distribute-patterns -shared -fPIC -IINCLUDE -o objects.so objects.c LIB/libcapcheck_c.a -ldl -pthread
  *   CAP_LOGS=FOLDER LD_PRELOAD=$PWD/objects.so PROGRAM
  *
- * writes FOLDER/NAME.PID.log; if CAP_LOGS is a pipe, the log goes there. c1 is the root, the whole address space. c2 to c29
- * hold capabilities of objects, each derived from c1 with the object's address and length, in a register chosen by the
- * address; one that its register doesn't hold is derived anew. memcpy, memmove, memset, calloc and realloc are recorded as accesses to the first and the
- * last byte that they reach, through the object at whose bytes they begin (by c30). A value that is loaded is first stored through
- * c31: the program and the kernel wrote it unseen. A child that doesn't call exec isn't recorded. */
-#define _GNU_SOURCE
+ * writes FOLDER/NAME.PID.log; if CAP_LOGS is a pipe, the log goes there, and the programs that PROGRAM starts aren't recorded.
+ * When the log ends, a line on standard error says what is in it, and why it ended early if it did. c1 is the root, the whole
+ * address space. c2 to c29 hold capabilities of objects, each derived from c1 with the object's address and length, in a
+ * register chosen by the address; one that its register doesn't hold is derived anew. memcpy, memmove, memset, calloc and
+ * realloc are recorded as accesses to the first and the last byte that they reach, through the object at whose bytes they begin
+ * (by c30). A value that is loaded is first stored through c31: the program and the kernel wrote it unseen. A child that doesn't
+ * call exec isn't recorded. */
+#define RECORDER "objects"
+#include "../preload.h"
 #include <capcheck.h>
-#include <dlfcn.h>
-#include <errno.h>
-#include <fcntl.h>
+#include <ctype.h>
 #include <pthread.h>
 #include <signal.h>
-#include <stdio.h>
-#include <stdlib.h>
-#include <string.h>
 #include <sys/mman.h>
 #include <sys/stat.h>
 #include <sys/syscall.h>
 #include <time.h>
-#include <unistd.h>
 
-enum { ROOT = 1, FIRST = 2, SLOTS = 28, REACHING = 30, KERNEL = 31, NODES = 1 << 22 };
+#ifndef NODES
+#define NODES (1 << 22) /* one more than the objects that may live at once */
+#endif
+enum { ROOT = 1, FIRST = 2, SLOTS = 28, REACHING = 30, KERNEL = 31 };
 
 /* ---- The objects, in a treap by address ---- */
 
@@ -35,6 +35,7 @@ typedef struct node {
 } node;
 static node *nodes; /* node 0 is none */
 static unsigned made, freed, top;
+static const char *limit; /* what the recorder reached */
 
 static void split(unsigned at, uintptr_t base, unsigned *below, unsigned *above) {
     if (at == 0) *below = *above = 0;
@@ -62,7 +63,7 @@ static void keep(uintptr_t base, size_t length) {
     drop(base);
     if (at) freed = nodes[at].left;
     else if (made + 1 < NODES) at = ++made;
-    else return;
+    else { limit = "more objects live at once than it has room for"; return; }
     nodes[at] = (node){base, length, 0, 0, (unsigned)(base * UINT64_C(0x9e3779b97f4a7c15) >> 32)};
     split(top, base, &below, &above);
     top = merged(merged(below, at), above);
@@ -81,9 +82,10 @@ static node *holding(uintptr_t address) { /* the object in which an address lies
 static pthread_mutex_t lock = PTHREAD_MUTEX_INITIALIZER;
 static __thread int depth __attribute__((tls_model("initial-exec"))); /* what the recorder calls isn't the program's */
 static int file = -1, owner;
-static char text[1 << 16];
+static char path[4096], text[1 << 16];
 static size_t used;
-static uint64_t steps, accesses, most = 200000;
+static uint64_t steps, objects, accesses, most = 200000;
+static const char *fault; /* why the log can't be written */
 static capcheck_cap root, held[SLOTS];
 static uintptr_t bases[SLOTS];
 static size_t lengths[SLOTS];
@@ -93,12 +95,12 @@ static void flush(void) { /* a pipe without a reader ends the log, and not the p
     sigemptyset(&pipe_signal);
     sigaddset(&pipe_signal, SIGPIPE);
     pthread_sigmask(SIG_BLOCK, &pipe_signal, &before);
-    for (size_t at = 0; at < used && file >= 0;) {
+    for (size_t at = 0; at < used && !fault;) {
         ssize_t count = write(file, text + at, used - at);
         if (count > 0) at += (size_t)count;
         else if (errno != EINTR) {
+            fault = errno == EPIPE ? "the pipe has no reader" : strerror(errno);
             if (errno == EPIPE) sigtimedwait(&pipe_signal, NULL, &(struct timespec){0, 0});
-            file = -1;
         }
     }
     used = 0;
@@ -111,8 +113,17 @@ static void put(size_t length) {
 #define STEP(kind, ...) (put(capcheck_line_##kind(text + used, __VA_ARGS__)), steps++)
 static void finish_log(void) {
     if (file < 0 || getpid() != owner) return;
-    put(capcheck_line_end(text + used, steps));
-    flush();
+    if (objects) {
+        put(capcheck_line_end(text + used, steps));
+        flush();
+        SAY("%llu objects, %llu accesses, %s%s%s", (unsigned long long)objects, (unsigned long long)accesses, path,
+            fault || limit ? "; ended early: " : "", fault ? fault : limit ? limit : "");
+    } else { /* a log without objects would be accepted */
+        struct stat status;
+        SAY("no malloc of the C library was called, and %s has its own or needs none: nothing is recorded", program_invocation_short_name);
+        if (fstat(file, &status) == 0 && S_ISREG(status.st_mode)) unlink(path);
+    }
+    close(file);
     file = -1;
 }
 
@@ -139,10 +150,8 @@ static void one_byte(const node *object, uintptr_t address, uint8_t value, int i
     STEP(setaddr, REACHING, number, address, reaching);
     if (is_store) STEP(store, REACHING, 0, 1, value);
     else STEP(load, REACHING, 0, 1, value);
-    if (++accesses == most) {
-        dprintf(2, "objects: %llu accesses are recorded, and no more\n", (unsigned long long)most);
-        finish_log();
-    }
+    if (++accesses == most) limit = "CAP_MOST permits no more accesses";
+    if (fault || limit) finish_log();
 }
 static void accessed(const void *start, size_t count, const uint8_t *values, int is_store) {
     node *object = file >= 0 && count && getpid() == owner ? holding((uintptr_t)start) : NULL;
@@ -151,27 +160,48 @@ static void accessed(const void *start, size_t count, const uint8_t *values, int
     if (file >= 0 && count > 1) one_byte(object, (uintptr_t)start + count - 1, values[count - 1], is_store);
 }
 
-static void quiet(const char *why, const char *what) { dprintf(2, "objects: %s%s: nothing is recorded\n", why, what); }
+static int is_count(const char *given, uint64_t *count) { /* whether a text is a number from 1 on */
+    char *end;
+    errno = 0;
+    *count = strtoull(given, &end, 10);
+    return isdigit((unsigned char)*given) && *end == 0 && errno == 0 && *count > 0;
+}
 static void begin(void) {
-    char path[4096];
     struct stat status;
-    const char *place = getenv("CAP_LOGS"), *count = getenv("CAP_MOST");
-    if (!place) { quiet("CAP_LOGS is not set", ""); return; }
-    if (count) most = strtoull(count, NULL, 10);
-    snprintf(path, sizeof path, "%s/%s.%d.log", place, program_invocation_short_name, getpid());
-    if (stat(place, &status) == 0 && !S_ISDIR(status.st_mode)) snprintf(path, sizeof path, "%s", place);
+    const char *place = place_of("CAP_LOGS"), *count = getenv("CAP_MOST");
+    if (!place) return;
+    if (count && *count && !is_count(count, &most)) { SAY("CAP_MOST is %s, and no number from 1 on: nothing is recorded", count); return; }
+    if (*place == '|') { SAY("%s has the log of the program that started %s: nothing is recorded", place + 1, program_invocation_short_name); return; }
+    name_absolutely("CAP_LOGS");
+    place = getenv("CAP_LOGS");
+    int is_folder = stat(place, &status) != 0 || S_ISDIR(status.st_mode);
+    if (is_folder) snprintf(path, sizeof path, "%s/%s.%d.log", place, program_invocation_short_name, getpid());
+    else snprintf(path, sizeof path, "%s", place);
     int opened = open(path, O_WRONLY | O_CREAT | O_TRUNC | O_CLOEXEC, 0644);
-    if (opened < 0) { quiet("cannot write ", path); return; }
-    file = fcntl(opened, F_DUPFD_CLOEXEC, 900);
-    close(opened);
+    if (opened < 0) { SAY("cannot write %s: %s: nothing is recorded", path, strerror(errno)); return; }
     nodes = mmap(NULL, sizeof(node) * NODES, PROT_READ | PROT_WRITE, MAP_PRIVATE | MAP_ANONYMOUS | MAP_NORESERVE, -1, 0);
-    if (nodes == MAP_FAILED) { quiet("no memory", ""); file = -1; return; }
+    if (nodes == MAP_FAILED) { SAY("no memory for %d objects: nothing is recorded", NODES); return; }
+    if (!is_folder) { /* one log fits in a pipe or a file: what this program starts is told so */
+        char taken[4200];
+        snprintf(taken, sizeof taken, "|%s", path);
+        change("CAP_LOGS", taken);
+    }
+    file = fcntl(opened, F_DUPFD_CLOEXEC, 900);
+    if (file < 0) file = opened; else close(opened);
     owner = getpid();
     root.word = capcheck_root(0, (capcheck_wide){1, 0}, CAPCHECK_ALL_PERMISSIONS).word;
     root.tag = 1;
     put(capcheck_line_version(text + used, 2));
     put(capcheck_line_mode(text + used, 0));
     put(capcheck_line_root(text + used, ROOT, root.word));
+}
+/* A child of a program with threads finds no lock held, and isn't recorded. */
+static void before_fork(void) { pthread_mutex_lock(&lock); }
+static void in_parent(void) { pthread_mutex_unlock(&lock); }
+static void in_child(void) {
+    if (file >= 0) { close(file); close(said_on); }
+    file = -1;
+    pthread_mutex_unlock(&lock);
 }
 
 /* ---- The calls that it stands before ---- */
@@ -188,13 +218,16 @@ static void start(void) {
     next_memmove = dlsym(RTLD_NEXT, "memmove"); next_memset = dlsym(RTLD_NEXT, "memset");
     next_free = dlsym(RTLD_NEXT, "free"); next_calloc = dlsym(RTLD_NEXT, "calloc"); next_realloc = dlsym(RTLD_NEXT, "realloc");
     next_memalign = dlsym(RTLD_NEXT, "memalign"); next_malloc = dlsym(RTLD_NEXT, "malloc");
+    keep_standard_error();
     begin();
+    pthread_atfork(before_fork, in_parent, in_child);
     depth--;
 }
 __attribute__((constructor)) static void at_start(void) { start(); }
 __attribute__((destructor)) static void at_end(void) {
-    depth++;
-    pthread_mutex_lock(&lock); finish_log(); pthread_mutex_unlock(&lock);
+    if (depth++ == 0 && file >= 0 && getpid() == owner) { /* a signal's handler may end the program inside the recorder */
+        pthread_mutex_lock(&lock); finish_log(); pthread_mutex_unlock(&lock);
+    }
     depth--;
 }
 void _exit(int status) { at_end(); for (;;) syscall(SYS_exit_group, status); }
@@ -207,7 +240,7 @@ static void *give_early(size_t size) {
 }
 static void lives(void *address, size_t length) {
     if (!address || depth != 1 || file < 0) return;
-    pthread_mutex_lock(&lock); keep((uintptr_t)address, length); pthread_mutex_unlock(&lock);
+    pthread_mutex_lock(&lock); keep((uintptr_t)address, length); objects++; if (limit) finish_log(); pthread_mutex_unlock(&lock);
 }
 #define ASK(p, size, call) start(); if (!next_malloc) return give_early(size); depth++; void *p = call; lives(p, size); depth--; return p
 void *malloc(size_t size) { ASK(p, size, next_malloc(size)); }
@@ -262,7 +295,7 @@ void *realloc(void *old, size_t size) {
     void *p = next_realloc(old, size);
     if (tells && (p || !size)) {
         size_t before = drop((uintptr_t)old);
-        if (p) { keep((uintptr_t)p, size); accessed(p, before < size ? before : size, p, 1); }
+        if (p) { keep((uintptr_t)p, size); objects++; accessed(p, before < size ? before : size, p, 1); }
     }
     if (tells) pthread_mutex_unlock(&lock);
     depth--;
