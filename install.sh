@@ -6,10 +6,12 @@
 #   PREFIX/lib/libcapcheck_judge.a   the judge for C, and libcapcheck_judge.so made of it
 #   PREFIX/lib/libcapcheck_freestanding.a  the judge without a heap, and libcapcheck_freestanding.so made of it
 #   PREFIX/lib/pkgconfig/*.pc        what `pkg-config --cflags --libs capcheck` reads, or `capcheck_judge` or
-#                                    `capcheck_freestanding` for the judges, with the library for C
+#                                    `capcheck_freestanding` for the judges, with the library for C. A program that is linked
+#                                    with these flags finds the libraries below PREFIX
 #   PREFIX/include/capcheck*.h       their headers
 #   PREFIX/share/man/man1/*.1        the programs' manual pages
-#   PREFIX/share/capcheck/           the Python package, and the commands for GDB that use it: docs/PYTHON.md, docs/GDB.md
+#   PREFIX/share/capcheck/           the Python package, the commands for GDB that use it, the Rust crate, and sources: the
+#                                    recorders and the example emulators
 #   PREFIX/share/gdb/auto-load/      a file by which a GDB installed below PREFIX loads these commands with the library
 #
 # DESTDIR goes in front of PREFIX, and is named in no file. What isn't built yet is proved and built first, which
@@ -42,6 +44,7 @@ done
 RT_LIB=true sh judge/build.sh
 
 mkdir -p "$to/bin" "$to/lib/pkgconfig" "$to/include" "$to/share/man/man1" "$to/share/capcheck/capcheck"
+mkdir -p "$to/share/capcheck/rust/src" "$to/share/capcheck/examples/emulator" "$to/share/capcheck/examples/objects" "$to/share/capcheck/examples/allocator"
 cp "$program" "$to/bin/capcheck"
 cp "$diagnosis" "$to/bin/capdiag"
 cp "$library" "$to/lib/libcapcheck_c.a"
@@ -51,6 +54,13 @@ cp include/*.h "$to/include/"
 cp docs/capcheck.1 docs/capdiag.1 "$to/share/man/man1/"
 cp python/capcheck/*.py python/capcheck/py.typed "$to/share/capcheck/capcheck/"
 cp gdb/capcheck_gdb.py "$to/share/capcheck/"
+cp rust/Cargo.toml rust/build.rs "$to/share/capcheck/rust/"
+cp rust/src/*.rs "$to/share/capcheck/rust/src/"
+cp examples/preload.h "$to/share/capcheck/examples/"
+cp examples/*.log "$to/share/capcheck/examples/"
+cp examples/emulator/first.c examples/emulator/emulator.c "$to/share/capcheck/examples/emulator/"
+cp examples/objects/objects.c examples/objects/overruns.c "$to/share/capcheck/examples/objects/"
+cp examples/allocator/*.c "$to/share/capcheck/examples/allocator/"
 mkdir -p "$to/share/gdb/auto-load$prefix/lib"
 echo "import sys; sys.path.insert(0, '$prefix/share/capcheck'); import capcheck_gdb" > "$to/share/gdb/auto-load$prefix/lib/libcapcheck_c.so.1-gdb.py"
 # shared NAME HEADER: makes a shared library of an archive. It exports the functions that the header declares.
@@ -74,7 +84,7 @@ Name: capcheck
 Description: 128-bit CHERI capabilities: what a word means, bounds, operations, and the lines of a log
 Version: $version
 Cflags: -I\${prefix}/include
-Libs: -L\${libdir} -lcapcheck_c
+Libs: -L\${libdir} -Wl,-rpath,\${libdir} -lcapcheck_c
 PC
 cat > "$to/lib/pkgconfig/capcheck_judge.pc" <<PC
 prefix=$prefix
@@ -85,7 +95,7 @@ Description: the judge of logs of 128-bit CHERI capabilities, linked into a prog
 Version: $version
 Requires: capcheck
 Cflags: -I\${prefix}/include
-Libs: -L\${libdir} -lcapcheck_judge
+Libs: -L\${libdir} -Wl,-rpath,\${libdir} -lcapcheck_judge
 PC
 cat > "$to/lib/pkgconfig/capcheck_freestanding.pc" <<PC
 prefix=$prefix
@@ -96,6 +106,6 @@ Description: the judge of logs of 128-bit CHERI capabilities without a heap
 Version: $version
 Requires: capcheck
 Cflags: -I\${prefix}/include
-Libs: -L\${libdir} -lcapcheck_freestanding
+Libs: -L\${libdir} -Wl,-rpath,\${libdir} -lcapcheck_freestanding
 PC
 echo "capcheck $version is installed below $to"

@@ -38,6 +38,8 @@ bin/                            the programs capcheck and capdiag; share/man has
 include/, lib/                  the C libraries: docs/C.md. PKG_CONFIG_PATH=\$PWD/lib/pkgconfig finds them
 *.whl                           the Python package, with the libraries in it: python3 -m pip install FILE; docs/PYTHON.md
 share/capcheck/capcheck_gdb.py  commands for GDB: source FILE; docs/GDB.md
+share/capcheck/rust             the Rust crate: docs/C.md
+share/capcheck/examples         sources: the recorders, and example emulators; docs/RECORDING.md, docs/ALLOCATORS.md
 web/capcheck.html               the page, for a browser
 examples/                       logs to judge: bin/capcheck judge examples/moves.log
 KIT                             the Rattle kit that proved and built it

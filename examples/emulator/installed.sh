@@ -1,6 +1,7 @@
 #!/usr/bin/env bash
 # Installs into a folder of its own, and builds and runs the examples from there, by pkg-config alone: against the
-# libraries' archives and against their shared forms. Where there is no pkg-config, it says that this wasn't tried.
+# libraries' shared forms and against their archives. A program is run in an empty environment: nothing but its own flags says
+# where the libraries are. Where there is no pkg-config, it says that this wasn't tried.
 set -eu
 cd "$(dirname "$0")/../.."
 work=$(mktemp -d)
@@ -9,16 +10,16 @@ sh install.sh "$work/there" > "$work/said" 2>&1 || { cat "$work/said" >&2; exit 
 command -v pkg-config > /dev/null || { echo 'installed: the examples were not built, since there is no pkg-config' >&2; exit 0; }
 export PKG_CONFIG_PATH=$work/there/lib/pkgconfig
 ${CC:-cc} -std=c99 -Wall -Wextra -Werror -pedantic -O2 examples/emulator/emulator.c $(pkg-config --cflags --libs capcheck) -o "$work/emulator"
-LD_LIBRARY_PATH=$work/there/lib "$work/emulator" > "$work/log"
+env -i "$work/emulator" > "$work/log"
 [ "$("$work/there/bin/capcheck" judge "$work/log")" = 'yes 27 1' ] || { echo 'installed.sh: the installed program gives another verdict' >&2; exit 1; }
 # Builds the program that judges files, and compares what it prints of a log with what the installed program does.
 judging() {
     ${CC:-cc} -std=c99 -Wall -Wextra -Werror -pedantic -O2 examples/emulator/judging.c $(pkg-config --cflags --libs capcheck_judge capcheck_freestanding) -o "$work/judging"
-    [ "$(LD_LIBRARY_PATH=$work/there/lib "$work/judging" "$work/log")" = 'yes 27 1' ] || { echo 'installed.sh: the installed judge gives another verdict' >&2; exit 1; }
+    [ "$(env -i "$work/judging" "$work/log")" = 'yes 27 1' ] || { echo 'installed.sh: the installed judge gives another verdict' >&2; exit 1; }
 }
 judging
 rm "$work"/there/lib/libcapcheck_*.so
 judging
 ${CC:-cc} -std=c99 -Wall -Wextra -Werror -pedantic -O2 examples/emulator/calls.c $(pkg-config --cflags --libs capcheck) -o "$work/calls"
-"$work/calls"
+env -i "$work/calls"
 echo 'installed: the examples were built by pkg-config, and judged'

@@ -40,7 +40,7 @@ static void show_expected(capcheck_judge *judge) {
 static int stop(capcheck_judge *judge, const char *line, unsigned long long count) {
     capcheck_answer answer = capcheck_judge_answer(judge);
     printf("no %llu %u %s\n", (unsigned long long)answer.line, (unsigned)answer.refusal,
-           capcheck_refusal_name(answer.refusal).text);
+           capcheck_refusal_text(answer.refusal));
     fprintf(stderr, "stopped after %llu lines: %s", count, line);
     show_expected(judge);
     show_registers(judge);
@@ -54,7 +54,7 @@ static int finish(capcheck_judge *judge) {
         return 0;
     }
     printf("no %llu %u %s\n", (unsigned long long)answer.line, (unsigned)answer.refusal,
-           capcheck_refusal_name(answer.refusal).text);
+           capcheck_refusal_text(answer.refusal));
     return 1;
 }
 

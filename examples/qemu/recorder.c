@@ -69,7 +69,7 @@ static bool put(size_t length) {
     if (state == CAPCHECK_NO && no.refusal == CAPCHECK_LIMIT_PASSED)
         return false;
     tell("recorder: %s %llu %s\n", state == CAPCHECK_NO_MEMORY ? "no memory, line" : "line", (unsigned long long)no.line,
-         capcheck_refusal_name(no.refusal).text);
+         capcheck_refusal_text(no.refusal));
     used += state == CAPCHECK_NO ? length : 0;
     flush();
     has_ended = true;
