@@ -1,13 +1,15 @@
 """Capabilities in GDB: source this file. docs/GDB.md has examples.
 
-  capcheck[/v] EXPRESSION      print a capability; see `help capcheck`
+  capcheck[/v][/N] EXPRESSION  print a capability, or N of them; see `help capcheck`
   capcheck-report JUDGE        print why a judge of the program refused a line
+  capcheck-judge JUDGE ..      ask a judge of the program; see `help capcheck-judge`
   print EXPRESSION             prints the structs of the C headers with their bounds
   $cap_base(EXPRESSION) and so on, for conditions of breakpoints; see `help function`
 """
 import contextlib
 import os
 import re
+import struct
 import sys
 
 import gdb
@@ -15,16 +17,18 @@ import gdb.printing
 
 _here = os.path.dirname(os.path.abspath(__file__))
 sys.path[:0] = [it for it in (_here, os.path.join(_here, "../python")) if os.path.isdir(f"{it}/capcheck")]
-from capcheck import Capability, Kind, Refusal, State  # noqa: E402
-from capcheck.judges import _REPORT_SIZE  # noqa: E402
+from capcheck import Capability, Kind, Refusal  # noqa: E402
+from capcheck.judges import (State, _EXPECTS_CAPABILITY, _EXPECTS_NUMBER, _GRANULE, _REGISTER,  # noqa: E402
+                             _REPORT_SIZE)
 
+_STRUCTS = (gdb.TYPE_CODE_STRUCT, gdb.TYPE_CODE_UNION)
 _REFERENCES = (gdb.TYPE_CODE_REF, gdb.TYPE_CODE_RVALUE_REF)
 _INTEGERS = (gdb.TYPE_CODE_INT, gdb.TYPE_CODE_ENUM)
 
 
 def _fields(kind):
     """The names of a struct's or a union's fields."""
-    return {field.name for field in kind.fields()} if kind.code in (gdb.TYPE_CODE_STRUCT, gdb.TYPE_CODE_UNION) else set()
+    return {field.name for field in kind.fields()} if kind.code in _STRUCTS else set()
 
 
 def _whole(value):
@@ -34,16 +38,21 @@ def _whole(value):
     return int(value.format_string(format="x"), 16)  # int() takes 64 bits
 
 
+def _is_word(kind):
+    return {"high", "low"} <= _fields(kind) or (kind.code in _INTEGERS and kind.sizeof == 16)
+
+
 def _of_struct(value, fields):
     """The capability of a struct, and whether it has a tag; None if there is none in it."""
-    if {"word", "tag"} <= fields:
+    if {"word", "tag"} <= fields and _is_word(value["word"].type.strip_typedefs()):
         return Capability(_whole(value["word"]), int(value["tag"]) != 0), True
     if {"cr_pesbt", "_cr_cursor", "cr_tag"} <= fields:  # cheri-compressed-cap
         return Capability(int(value["cr_pesbt"]) << 64 | int(value["_cr_cursor"]), int(value["cr_tag"]) != 0), True
-    if "cap" in fields:
-        return capability_of(value["cap"])
+    if "cap" in fields:  # a result; another struct's field of this name may be a number
+        return _of_struct(value["cap"], _fields(value["cap"].type.strip_typedefs()))
     if "word" in fields or {"high", "low"} <= fields:
-        return Capability(_whole(value["word"] if "word" in fields else value)), False
+        word = value["word"] if "word" in fields else value
+        return (Capability(_whole(word)), False) if _is_word(word.type.strip_typedefs()) else None
     if "uint128" in fields:  # a register
         return Capability(_whole(value["uint128"])), False
     return None
@@ -58,14 +67,39 @@ def capability_of(value):
         return found
     if kind.code in _INTEGERS and kind.sizeof == 16:
         return Capability(_whole(value)), False
-    if kind.code == gdb.TYPE_CODE_PTR and (found := _of_struct(value.dereference(), _fields(kind.target().strip_typedefs()))):
-        return found
+    if kind.code == gdb.TYPE_CODE_PTR and kind.target().strip_typedefs().code in _STRUCTS:
+        if found := _of_struct(value.dereference(), _fields(kind.target().strip_typedefs())):
+            return found
+    return Capability.from_memory(_memory(_place(value, 16), 16)), False
+
+
+def _place(value, size):
+    """The address that a value is, or at which an array of as many bytes lies."""
+    kind = value.type.strip_typedefs()
     if kind.code == gdb.TYPE_CODE_ARRAY:
+        if kind.sizeof < size:
+            raise gdb.GdbError(f"a value of type {value.type} has {kind.sizeof} bytes, and not {size}")
         value = value.address
     elif kind.code not in (gdb.TYPE_CODE_PTR, *_INTEGERS):
         raise gdb.GdbError(f"a value of type {value.type} has no capability")
-    memory = gdb.selected_inferior().read_memory(int(value) % 2**64, 16)
-    return Capability.from_memory(memory.tobytes()), False
+    return int(value) % 2**64
+
+
+def _memory(address, size):
+    return gdb.selected_inferior().read_memory(address, size).tobytes()
+
+
+def several(value, count):
+    """As many capabilities, each with the name of its place: elements of an array, or granules from an address on."""
+    kind = value.type.strip_typedefs()
+    if kind.code in (gdb.TYPE_CODE_ARRAY, gdb.TYPE_CODE_PTR):
+        if kind.code == gdb.TYPE_CODE_ARRAY and kind.target().strip_typedefs().code in _STRUCTS:
+            count = min(count, kind.range()[1] + 1)
+        element = kind.target().strip_typedefs()
+        if element.code in _STRUCTS and _of_struct(value[0], _fields(element)):
+            return [(f"[{number}]", *capability_of(value[number])) for number in range(count)]
+    address = _place(value, 16 * count)
+    return [(f"{address + 16 * it:#x}", Capability.from_memory(_memory(address + 16 * it, 16)), False) for it in range(count)]
 
 
 @contextlib.contextmanager
@@ -82,65 +116,169 @@ def _short(cap, tagged):
     return str(cap if tagged else Capability(cap.word, True))
 
 
+def _in_one_line(cap, tagged):
+    return f"{int(cap.tag) if tagged else '-'} {cap.digits} {_short(cap, tagged)}"
+
+
 class Explain(gdb.Command):
-    """Print a capability: capcheck[/v] EXPRESSION
+    """Print a capability: capcheck[/v][/N] EXPRESSION
 
 EXPRESSION is the 32 hexadecimal digits of a word, with its tag, 0 or 1, before them or not; or any expression:
   a struct of capcheck.h, or cheri-compressed-cap's, or a pointer to one
-  an address or another pointer: the 16 bytes of memory there
+  an address or another pointer, also a void *: the 16 bytes of memory there
+  an array of at least 16 bytes: its first 16
   a number or a register of 128 bits: the word in the register layout
 It prints the tag (- if it isn't known), the word, the address, the permissions and the bounds.
-With /v it prints what `capcheck explain` prints, too."""
+With /v it prints what `capcheck explain` prints, too. With a number, such as /4, it prints as many elements of an array of
+structs, or as many granules of memory, each after its place."""
 
     def __init__(self):
         super().__init__("capcheck", gdb.COMMAND_DATA, gdb.COMPLETE_EXPRESSION)
 
     def invoke(self, text, from_tty):
-        verbose, what = re.fullmatch(r"(/v\b)?\s*(.*)", text.strip()).groups()
+        flags, what = re.fullmatch(r"((?:/(?:v|[0-9]+)\b)*)\s*(.*)", text.strip()).groups()
         if not what or what.startswith("/"):
-            raise gdb.GdbError("capcheck[/v] EXPRESSION: see help capcheck")
+            raise gdb.GdbError("capcheck[/v][/N] EXPRESSION: see help capcheck")
+        counts = [int(it) for it in re.findall("[0-9]+", flags)]
         digits = re.fullmatch(r"(?:([01])[ :])?((?:0x)?[0-9a-fA-F]{16}[ _:]?(?:0x)?[0-9a-fA-F]{16})", what)
         if digits:
-            cap, tagged = Capability.parse(re.sub("0x", "", digits[2]), digits[1] == "1"), digits[1] is not None
+            found = [("", Capability.parse(re.sub("0x", "", digits[2]), digits[1] == "1"), digits[1] is not None)]
         else:
             with _plain_errors():
-                cap, tagged = capability_of(gdb.parse_and_eval(what))
-        print(int(cap.tag) if tagged else "-", cap.digits, _short(cap, tagged))
-        if verbose:
-            print(cap.explain(), end="")
+                value = gdb.parse_and_eval(what)
+                found = several(value, counts[-1]) if counts else [("", *capability_of(value))]
+        for place, cap, tagged in found:
+            print(f"{place}: " if place else "", _in_one_line(cap, tagged), sep="")
+            if "/v" in flags:
+                print(cap.explain(), end="")
+
+
+@contextlib.contextmanager
+def _alone():
+    """Calls of the program's functions let no other thread run, and leave nothing on the stack if one fails."""
+    before = {name: gdb.parameter(name) for name in ("scheduler-locking", "unwindonsignal")}
+    gdb.execute("set unwindonsignal on", to_string=True)
+    with contextlib.suppress(gdb.error):
+        gdb.execute("set scheduler-locking on", to_string=True)
+    try:
+        yield
+    finally:
+        gdb.execute(f"set unwindonsignal {'on' if before['unwindonsignal'] else 'off'}", to_string=True)
+        with contextlib.suppress(gdb.error):
+            gdb.execute(f"set scheduler-locking {before['scheduler-locking']}", to_string=True)
+
+
+def _call(name, *numbers):
+    """What a function of the program's library returns for numbers, as a number."""
+    types = ", ".join(["unsigned long"] * len(numbers))
+    return int(gdb.parse_and_eval(f"((unsigned long (*)({types})){name})({', '.join(map(str, numbers))})"))
+
+
+class Asked:
+    """A judge of the program, asked through its own library, which has room for the answers: nothing is allocated."""
+
+    def __init__(self, value):
+        kind = value.type.strip_typedefs()
+        if kind.code in _REFERENCES:
+            value = value.referenced_value()
+        elif kind.code == gdb.TYPE_CODE_PTR and kind.target().strip_typedefs().code in _STRUCTS:
+            value = value.dereference()
+        if value.type.strip_typedefs().unqualified().name != "capcheck_judge" or value.address is None:
+            raise gdb.GdbError(f"a value of type {kind} is no judge: name a capcheck_judge, or a pointer to one")
+        if gdb.selected_thread() is None:
+            raise gdb.GdbError("the program isn't running: its own library has to answer")
+        if int.from_bytes(_memory(int(value["held"].address), 1), "little") != 1:
+            raise gdb.GdbError("the judge isn't open")
+        _memory(int(value["at"]), 64)  # What was never opened rarely points anywhere.
+        self.at = int(value.address)
+
+    @contextlib.contextmanager
+    def _asking(self):
+        """The room for an answer. A question that fails leaves the judge as it was."""
+        before = _memory(self.at, 16)
+        try:
+            with _alone():
+                yield _call("capcheck_judge_text", 0)
+        except gdb.error:
+            gdb.selected_inferior().write_memory(self.at, before)
+            raise
+
+    def answer(self, name, size, *numbers):
+        """The bytes of the struct that a question returns."""
+        with self._asking() as room:
+            _call(f"capcheck_judge_{name}", room, self.at, *numbers)
+            return _memory(room, size)
+
+    def verdict(self, name):
+        """An answer, as `print` shows it."""
+        return _answer_text(*struct.unpack("<QIIBB", self.answer(name, 18)))
+
+    def capability(self, name, number):
+        high, low, tag = struct.unpack("<QQB", self.answer(name, 17, number))
+        return Capability(high << 64 | low, tag == 1)
+
+    def expected(self):
+        high, low, tag, number, size, kind = struct.unpack("<QQB7xQBB", self.answer("expected", 34))
+        if kind == _EXPECTS_CAPABILITY:
+            return _in_one_line(Capability(high << 64 | low, tag == 1), True)
+        return f"{number:#0{2 * size + 2}x}" if kind == _EXPECTS_NUMBER else "nothing: no line records another result than the rules give"
+
+    def report(self):
+        with self._asking() as room:
+            return _memory(room, _call("capcheck_judge_report", self.at, room, _REPORT_SIZE)).decode()
 
 
 class Report(gdb.Command):
     """Print why a judge refused a line: capcheck-report JUDGE
 
 JUDGE is a capcheck_judge of the program, or a pointer to one. The program's own library writes what `capdiag why`
-prints of the lines so far, so the program has to be linked with libcapcheck_judge and run."""
+prints of the lines so far, so the program has to be linked with libcapcheck_judge and run. It calls no malloc."""
 
     def __init__(self):
         super().__init__("capcheck-report", gdb.COMMAND_DATA, gdb.COMPLETE_EXPRESSION)
 
     def invoke(self, text, from_tty):
-        long = "unsigned long"
         with _plain_errors():
-            judge = gdb.parse_and_eval(text)
-            at = int(judge if judge.type.strip_typedefs().code == gdb.TYPE_CODE_PTR else judge.address)
-            room = int(gdb.parse_and_eval(f"(({long} (*)({long}))malloc)({_REPORT_SIZE})"))
-            call = f"(({long} (*)({long}, {long}, {long}))capcheck_judge_report)({at}, {room}, {_REPORT_SIZE})"
-            size = int(gdb.parse_and_eval(call))
-            report = gdb.selected_inferior().read_memory(room, size).tobytes().decode()
-            gdb.parse_and_eval(f"((void (*)({long}))free)({room})")
-        print(report or "no line is faulty\n", end="")
+            print(Asked(gdb.parse_and_eval(text)).report() or "no line is faulty\n", end="")
+
+
+class AskJudge(gdb.Command):
+    """Ask a judge of the program: capcheck-judge JUDGE QUESTION
+
+JUDGE is a capcheck_judge of the program, or a pointer to one. QUESTION is one of
+  register N      what the log's machine holds in a register, 0 to 31
+  granule A       what it holds in the 16 aligned bytes that contain the address A
+  expected        after a `no` for WrongResult, what the rules give
+  end             the verdict on the lines so far as a whole log
+After a faulty line, the first two are as before that line."""
+
+    def __init__(self):
+        super().__init__("capcheck-judge", gdb.COMMAND_DATA, gdb.COMPLETE_EXPRESSION)
+
+    def invoke(self, text, from_tty):
+        asked = re.fullmatch(r"(.+?)\s+(?:(register|granule)\s+(.+)|(expected|end))", text.strip())
+        if not asked:
+            raise gdb.GdbError("capcheck-judge JUDGE register N | granule A | expected | end")
+        with _plain_errors():
+            judge = Asked(gdb.parse_and_eval(asked[1]))
+            if asked[4]:
+                print(judge.expected() if asked[4] == "expected" else judge.verdict("end"))
+                return
+            number = int(gdb.parse_and_eval(asked[3]).cast(gdb.lookup_type("unsigned long")))
+            if asked[2] == "register" and number > 31:
+                raise gdb.GdbError(f"there is no register {number}: they are 0 to 31")
+            print(_in_one_line(judge.capability(asked[2], number), True))
 
 
 class Number(gdb.Function):
-    """What a capability has, as a number."""
-
-    def __init__(self, name):
+    def __init__(self, name, doc):
+        self.__doc__ = f"$cap_{name}(EXPRESSION): {doc}"
         super().__init__(f"cap_{name}")
         self.name = name
 
     def invoke(self, value):
-        found = int(getattr(capability_of(value)[0], self.name))
+        with _plain_errors():
+            found = int(getattr(capability_of(value)[0], self.name))
         return gdb.Value(found if found < 2**64 else float(found))
 
 
@@ -153,14 +291,48 @@ def _present(value):
     return _short(*capability_of(value)) if int(value["present"]) else "none"
 
 
-def _answer(value):
-    state = int(value["state"])
+def _answer_text(line, steps, roots, state, refusal):
     if state == State.YES:
-        return f"yes {int(value['steps'])} {int(value['roots'])}"
-    if state == State.NO:
-        refusal = Refusal(int(value["refusal"]))
-        return f"no {int(value['line'])} {refusal.value} {refusal.title}"
-    return State(state).title
+        return f"yes {steps} {roots}"
+    return f"no {line} {refusal} {Refusal(refusal).title}" if state == State.NO else State(state).title
+
+
+def _answer(value):
+    return _answer_text(*(int(value[name]) for name in ("line", "steps", "roots", "state", "refusal")))
+
+
+def _judge(value):
+    """The verdict so far. An older GDB can't call the program's library while it prints."""
+    if int(value["held"]) != 1:
+        return "not open"
+    if int(gdb.VERSION.split(".")[0]) >= 13:
+        with contextlib.suppress(gdb.error, gdb.GdbError):
+            return Asked(value).verdict("answer")
+    return "open"
+
+
+def _expected(value):
+    if int(value["kind"]) == _EXPECTS_CAPABILITY:
+        return _short(*capability_of(value["cap"]))
+    return f"{int(value['number']):#x}" if int(value["kind"]) == _EXPECTS_NUMBER else "nothing"
+
+
+def _place_text(value):
+    number, kind = int(value["number"]), int(value["kind"])
+    return f"c{number}" if kind == _REGISTER else f"@{number:016x}" if kind == _GRANULE else "no place"
+
+
+def _rounded(value):
+    return f"{int(value['base']):#x}-{_whole(value['top']):#x}" + ("" if int(value["exact"]) else " (rounded)")
+
+
+def _range(value):
+    return "every address" if int(value["every"]) else f"{int(value['size']):#x} addresses from {int(value['start']):#x}"
+
+
+def _fields_text(value):
+    names = ("address", "otype", "perms", "b", "t", "e", "ie", "flag", "reserved")
+    return " ".join(f"{name} {int(value[name]):#x}" for name in names)
 
 
 def _line(value):
@@ -183,6 +355,12 @@ _PRINTED = {
     "capcheck_made": lambda value: _refused(value, lambda made: _short(*capability_of(made["cap"]))),
     "capcheck_access": lambda value: _refused(value, lambda access: f"{int(access['address']):#x}"),
     "capcheck_answer": _answer,
+    "capcheck_judge": _judge,
+    "capcheck_expected": _expected,
+    "capcheck_place": _place_text,
+    "capcheck_rounded": _rounded,
+    "capcheck_range": _range,
+    "capcheck_fields": _fields_text,
     "capcheck_line": _line,
 }
 
@@ -209,6 +387,11 @@ class Printers(gdb.printing.PrettyPrinter):
 
 Explain()
 Report()
-for _name in ("base", "top", "length", "address", "permissions", "otype", "sound", "sealed", "in_bounds"):
-    Number(_name)
+AskJudge()
+for _name, _doc in (("base", "its least address"), ("top", "the first address after its bounds"),
+                    ("length", "the number of bytes in its bounds"), ("address", "where it points"),
+                    ("permissions", "its permissions in the architectural view"), ("otype", "its object type"),
+                    ("sound", "1 if its word is sound"), ("sealed", "1 if it is sealed"),
+                    ("in_bounds", "1 if its address is in its bounds")):
+    Number(_name, _doc)
 gdb.printing.register_pretty_printer(None, Printers(), replace=True)

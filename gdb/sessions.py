@@ -9,6 +9,7 @@ loads the commands with the library, and compares `capcheck/v` of 10,000 random 
 in the file that EXPLAINED names. A session is lines `(gdb) COMMAND`, each with the lines that the command prints after it; a
 line `..` stands for any lines. The status is 1 if anything differs."""
 import os
+import shutil
 import subprocess
 import sys
 import tempfile
@@ -51,9 +52,12 @@ def agrees(wanted, given):
 
 
 def values(prefix, work):
-    """The session over values.c."""
-    flags = [f"-I{prefix}/include", f"-L{prefix}/lib", f"-Wl,-rpath,{prefix}/lib", "-lcapcheck_judge", "-lcapcheck_c"]
-    subprocess.run([os.environ.get("CC", "cc"), "-g", "-O0", f"{HERE}/values.c", *flags, "-o", f"{work}/values"], check=True)
+    """The session over values.c, linked as docs/GDB.md says."""
+    flags = f'$(PKG_CONFIG_PATH="{prefix}/lib/pkgconfig" pkg-config --cflags --libs capcheck_judge)'
+    if not shutil.which("pkg-config"):
+        flags = f"-I{prefix}/include -L{prefix}/lib -Wl,-rpath,{prefix}/lib -lcapcheck_judge -lcapcheck_c"
+    command = f'{os.environ.get("CC", "cc")} -g -O0 -pthread "{HERE}/values.c" {flags} -o "{work}/values"'
+    subprocess.run(command, shell=True, check=True)
     with open(f"{HERE}/values.txt", encoding="utf-8") as file:
         wanted = [line for line in file.read().split("\n") if line]
     sourced = f"{PROMPT}source {prefix}/share/capcheck/capcheck_gdb.py"
