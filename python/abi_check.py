@@ -27,7 +27,7 @@ LIBRARIES = {"capcheck": "capcheck_c", "capcheck_judge": "capcheck_judge", "capc
 LEFT_OUT = {
     "capcheck_text_of": "Python writes the digits", "capcheck_word_text": "capcheck_text_of",
     "capcheck_judge_memory": "the judge uses malloc", "capcheck_judge_bytes_in": "capcheck_judge_bytes",
-    "capcheck_judge_report": "capcheck_judge_end_report",
+    "capcheck_judge_report": "capcheck_judge_end_report", "capcheck_judge_text": "capcheck_judge_end_report",
     "CAPCHECK_VERSION": "capcheck_version", "CAPCHECK_NOT_REFUSED": "no Refusal", "CAPCHECK_KIND_NONE": "no Kind",
     "CAPCHECK_EXPECTS_NOTHING": "None", "CAPCHECK_NO_PLACE": "None", "CAPCHECK_OTYPE_GREATEST": "capcheck_seal",
 }
@@ -52,13 +52,13 @@ class Header:
 
 
 class Comparison:
-    def __init__(self):
-        self.count, self.wrong = 0, []
+    def __init__(self, language="Python"):
+        self.count, self.wrong, self.language = 0, [], language
 
     def same(self, what, header, python):
         self.count += 1
         if header != python:
-            self.wrong.append(f"{what}: {header} in C, {python} in Python")
+            self.wrong.append(f"{what}: {header} in C, {python} in {self.language}")
 
 
 def struct_of(name):

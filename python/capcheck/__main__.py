@@ -1,10 +1,11 @@
-"""python3 -m capcheck explain|judge|why|shorten: what the programs print, and the shortest log with the same fault."""
+"""python3 -m capcheck explain|judge|why|shorten: what the programs print, and a short log with the fault of a rejected one."""
 from __future__ import annotations
 
 import argparse
 import sys
+from typing import BinaryIO
 
-from . import Capability, judge_bytes, shorten, version, why
+from . import Capability, judge, shorten, version, why
 
 
 def _arguments() -> argparse.Namespace:
@@ -15,32 +16,58 @@ def _arguments() -> argparse.Namespace:
     command.add_argument("words", nargs="+", metavar="WORD", help="32 hexadecimal digits")
     command.add_argument("--tag", action="store_true", help="the words are tagged")
     for name, told in (("judge", "print the verdict on a log"), ("why", "print the verdict and the diagnosis"),
-                       ("shorten", "print the shortest log with the fault of a rejected one")):
+                       ("shorten", "print a short log with the fault of a rejected one")):
         command = commands.add_parser(name, help=told)
-        command.add_argument("log", metavar="LOG", nargs="?", type=argparse.FileType("rb"), default=sys.stdin.buffer,
-                             help="a file; without it, standard input")
+        command.add_argument("log", metavar="LOG", nargs="?", help="a file; without it, standard input")
+        if name == "why":
+            command.add_argument("--origins", action="store_true", help="after a yes, print the origins")
     command.add_argument("--seconds", type=float, default=5, help="stop looking for a shorter one after this time")
+    command.add_argument("--replayable", action="store_true", help="take lines of the log alone")
     return parser.parse_args()
 
 
+def _printed(given: argparse.Namespace, log: BinaryIO) -> tuple[bytes, int]:
+    """What is printed of a log, and the status."""
+    if given.command == "shorten":
+        return shorten(log, given.seconds, given.replayable), 0
+    text = why(log, given.origins) if given.command == "why" else f"{judge(log)}\n"
+    return text.encode(), int(not text.startswith("yes"))
+
+
+def _read(given: argparse.Namespace) -> tuple[bytes, int]:
+    """The same of the log that is named, or of standard input."""
+    if given.log is None:
+        return _printed(given, sys.stdin.buffer)
+    with open(given.log, "rb") as log:
+        return _printed(given, log)
+
+
+def _failed(status: int, why_it_failed: object) -> int:
+    print(f"capcheck: {why_it_failed}", file=sys.stderr)
+    return status
+
+
 def main() -> int:
-    """0: all is printed, and a log that was to be judged is accepted. 1: it is rejected; for `shorten`, accepted. 2: an
-    argument is wrong."""
+    """The statuses of `capcheck` and `capdiag`. 0: all is printed, and a log that was to be judged is accepted. 1: it is
+    rejected; for `shorten`, accepted. 2: an argument is wrong. 3: reading, writing or an allocation failed."""
     given = _arguments()
     try:
         if given.command == "explain":
-            print("\n".join(Capability.parse(word, given.tag).explain() for word in given.words), end="")
-            return 0
-        log = given.log.read()
-        if given.command == "shorten":
-            sys.stdout.buffer.write(shorten(log, given.seconds))
-            return 0
-        text = why(log) if given.command == "why" else f"{judge_bytes(log)}\n"
-        sys.stdout.write(text)
-        return int(not text.startswith("yes"))
+            text, status = "\n".join(Capability.parse(word, given.tag).explain() for word in given.words).encode(), 0
+        else:
+            text, status = _read(given)
     except ValueError as wrong:
-        print(f"capcheck: {wrong}", file=sys.stderr)
-        return 1 if given.command == "shorten" else 2
+        return _failed(1 if given.command == "shorten" else 2, wrong)
+    except MemoryError:
+        return _failed(3, "no memory")
+    except OSError as fault:
+        return _failed(3, f"read fault: {fault}")
+    try:
+        with open(1, "wb", closefd=False) as output:
+            output.write(text)
+    except OSError as fault:
+        return _failed(3, f"write fault: {fault}")
+    return status
 
 
 if __name__ == "__main__":

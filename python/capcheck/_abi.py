@@ -3,6 +3,7 @@ from __future__ import annotations
 
 import ctypes as c
 import os
+from operator import index
 from pathlib import Path
 
 u8, u16, u32, u64, i16, i64 = c.c_uint8, c.c_uint16, c.c_uint32, c.c_uint64, c.c_int16, c.c_int64
@@ -102,21 +103,30 @@ class Why(c.Structure):
     _fields_ = [("answer", Answer), ("length", u64)]
 
 
-# The numbers of a step, as its call takes them after the buffer or the judge.
-STEPS: dict[str, tuple] = {
-    "move": (u64, u64, Cap), "cleartag": (u64, u64, Cap),
-    "setbounds": (u64, u64, u64, Cap), "setboundsexact": (u64, u64, u64, Cap),
-    "setaddr": (u64, u64, u64, Cap), "andperm": (u64, u64, u64, Cap),
-    "seal": (u64, u64, u64, Cap), "unseal": (u64, u64, u64, Cap),
-    "lc": (u64, u64, i64, Cap), "sc": (u64, u64, i64),
-    "load": (u64, i64, u64, u64), "store": (u64, i64, u64, u64),
+# The numbers of a step, as its call takes them after the buffer or the judge: the name of each, its type, the least that it
+# may be, and the one above the greatest. A capability comes after the numbers.
+_TARGET, _SOURCE, _AUTHORITY = ("target", u64, 1, 32), ("source", u64, 0, 32), ("authority", u64, 0, 32)
+_OFFSET, _SIZE, _VALUE = ("offset", i64, -2048, 2048), ("size", u64, 1, 9), ("value", u64, 0, 2**64)
+_NUMBERS: dict[str, tuple] = {
+    "version": (("number", u64, 1, 3),), "mode": (("clear", u8, 0, 2),), "root": (_TARGET,),
+    "root_at": (("address", u64, 0, 2**64),), "end": (("steps", u64, 0, 2**32),),
+    "move": (_TARGET, _SOURCE), "cleartag": (_TARGET, _SOURCE),
+    "setbounds": (_TARGET, _SOURCE, ("length", u64, 0, 2**64)),
+    "setboundsexact": (_TARGET, _SOURCE, ("length", u64, 0, 2**64)),
+    "setaddr": (_TARGET, _SOURCE, ("address", u64, 0, 2**64)), "andperm": (_TARGET, _SOURCE, ("mask", u64, 0, 2**64)),
+    "seal": (_TARGET, _SOURCE, _AUTHORITY), "unseal": (_TARGET, _SOURCE, _AUTHORITY),
+    "lc": (_TARGET, _AUTHORITY, _OFFSET), "sc": (_SOURCE, _AUTHORITY, _OFFSET),
+    "load": (_AUTHORITY, _OFFSET, _SIZE, _VALUE), "store": (_AUTHORITY, _OFFSET, _SIZE, _VALUE),
 }
-# The numbers of every line.
-LINES: dict[str, tuple] = {"version": (u64,), "mode": (u8,), "root": (u64, Wide), "root_at": (u64, Wide), **STEPS,
-                           "end": (u64,)}
-# Of the numbers of each line, the least that its type has, and the one above the greatest.
-_LIMITS = {u8: (0, 2**8), u64: (0, 2**64), i64: (-2**63, 2**63)}
-RANGES = {name: [_LIMITS[it] for it in numbers if it in _LIMITS] for name, numbers in LINES.items()}
+RANGES = {name: [(it, least, limit) for it, _, least, limit in numbers] for name, numbers in _NUMBERS.items()}
+_NO_CAPABILITY = ("version", "mode", "root", "root_at", "end", "sc", "load", "store")
+# The types that the call of each line takes.
+LINES: dict[str, tuple] = {
+    name: (*(kind for _, kind, _, _ in numbers), *([] if name in _NO_CAPABILITY else [Cap]))
+    for name, numbers in _NUMBERS.items()}
+LINES["root"] += (Wide,)
+LINES["root_at"] += (Wide,)
+STEPS = {name: types for name, types in LINES.items() if name not in ("version", "mode", "root", "root_at", "end")}
 # The result and the arguments of each call, by its name without `capcheck_`, `capcheck_line_` or `capcheck_judge_`.
 WORDS: dict[str, tuple] = {
     "version": (Name,), "null": (Wide,), "split": (Fields, Wide), "join": (OptionalWord, Fields),
@@ -146,12 +156,14 @@ JUDGE: dict[str, tuple] = {
 
 
 def _load(name: str, kind: type[c.CDLL]) -> c.CDLL:
-    """Opens a library: in the folder CAPCHECK_LIB, beside this file, in the lib of the PREFIX that this file is
-    installed below, or where the system finds it."""
-    here = Path(__file__).resolve().parent
-    for folder in (os.environ.get("CAPCHECK_LIB"), here, here / "../../../lib"):
-        if folder and (path := Path(folder) / f"{name}.so.1").exists():
+    """Opens a library: in the folder CAPCHECK_LIB if that is set; otherwise beside this file, in the lib of the PREFIX that
+    this file is installed below, or where the system finds it."""
+    here, given = Path(__file__).resolve().parent, os.environ.get("CAPCHECK_LIB")
+    for folder in (Path(given),) if given else (here, here / "../../../lib"):
+        if (path := folder / f"{name}.so.1").exists():
             return kind(str(path))
+    if given:
+        raise ImportError(f"CAPCHECK_LIB is {given}, where there is no {name}.so.1")
     try:
         return kind(f"{name}.so.1")
     except OSError as error:
@@ -172,11 +184,27 @@ whole_logs = _load("libcapcheck_judge", c.CDLL)
 freestanding = _load("libcapcheck_freestanding", c.CDLL)
 
 
+def shown(number: int) -> str:
+    """A limit as people write it."""
+    return "2**64 - 1" if number == 2**64 - 1 else "2**32 - 1" if number == 2**32 - 1 else str(number)
+
+
 def check(name: str, values: tuple) -> None:
-    """Refuses a number of a line or a step that ctypes would cut. A capability comes after the numbers."""
-    for value, (least, limit) in zip(values, RANGES[name]):
-        if not least <= value < limit:
-            raise ValueError(f"{name}: {value} is out of range")
+    """Refuses a number of a line or a step that is out of its range."""
+    for (argument, least, limit), value in zip(RANGES[name], values):
+        if not least <= index(value) < limit:
+            raise ValueError(f"{name}: {argument} {value} isn't from {least} to {shown(limit - 1)}")
+
+
+def refused(name: str, values: tuple) -> ValueError:
+    """What is wrong with numbers that are in the ranges above, and that the call for a line or a step refuses."""
+    if name == "root_at":
+        return ValueError(f"root_at: address {values[0]:#x} isn't a multiple of 16")
+    if name in ("load", "store") and values[2] not in (1, 2, 4, 8):
+        return ValueError(f"{name}: size {values[2]} isn't 1, 2, 4 or 8")
+    if name in ("load", "store"):
+        return ValueError(f"{name}: value {values[3]:#x} has more than {values[2]} bytes")
+    return ValueError(f"{name}: a number is out of range: {values}")
 
 
 _declare(words, "capcheck_", WORDS)

@@ -3,18 +3,21 @@ from __future__ import annotations
 
 import ctypes
 import os
+import re
 from enum import IntEnum
-from typing import NamedTuple
+from operator import index
+from typing import Any, NamedTuple
 
 from . import _abi
 from ._abi import freestanding as _freestanding, judges as _c, whole_logs as _whole_logs
-from .words import Capability, Refusal, _address, _capability
+from .words import Capability, Refusal, _address, _capability, _formatted, _mask, _passed
 
 _REPORT_SIZE = 3136
 _REGISTER, _GRANULE = 1, 2
 _EXPECTS_CAPABILITY, _EXPECTS_NUMBER = 1, 2
 _MOST_GRANULES = 2**20
 _PIECE = 2**18
+_PLACE = re.compile(r"c([0-9]|[12][0-9]|3[01])|@([0-9a-f]{16})", re.A)
 
 
 class State(IntEnum):
@@ -36,16 +39,23 @@ class State(IntEnum):
         """What the state means."""
         return _abi.words.capcheck_state_sentence(self).text.decode()
 
+    def __str__(self) -> str:
+        return self.title
+
+    def __format__(self, spec: str) -> str:
+        return _formatted(self, spec)
+
 
 _GOES_ON, _NO = int(State.GOES_ON), int(State.NO)  # Faster than the members.
 
 
 class Verdict(NamedTuple):
-    """The verdict on a log; true if the log is accepted."""
+    """The verdict on a log; true if the log is accepted. A rejected one has no steps and roots, an accepted one no faulty
+    line and no refusal: they are None."""
     yes: bool
-    steps: int = 0
-    roots: int = 0
-    line: int = 0
+    steps: int | None = None
+    roots: int | None = None
+    line: int | None = None
     refusal: Refusal | None = None
 
     def __bool__(self) -> bool:
@@ -58,6 +68,32 @@ class Verdict(NamedTuple):
         return f"no {self.line} {self.refusal.value} {self.refusal.title}"
 
 
+class Rejected(Exception):
+    """A line of a log is faulty. Only a judge that was made with `raises` raises it."""
+
+    def __init__(self, verdict: Verdict, diagnosis: str) -> None:
+        super().__init__(verdict, diagnosis)
+        self.verdict, self.diagnosis = verdict, diagnosis
+
+    def __str__(self) -> str:
+        return self.diagnosis.rstrip("\n")
+
+
+def _bytes(log: Any) -> bytes:
+    """The bytes of a log: of bytes, of another buffer, or of a binary file from where it is."""
+    if isinstance(log, bytes):
+        return log
+    try:
+        return memoryview(log).tobytes()
+    except TypeError:
+        read = getattr(log, "read", None)
+    if read is None:
+        raise TypeError(f"a log is bytes, a buffer or a binary file, and not {type(log).__name__}")
+    if not isinstance(data := read(), (bytes, bytearray)):
+        raise TypeError("a log is read from a binary file: open it with mode 'rb'")
+    return bytes(data)
+
+
 def _checked(state: int) -> int:
     """A state in which there is a verdict so far; otherwise raises what it means."""
     if state <= _NO:
@@ -66,7 +102,7 @@ def _checked(state: int) -> int:
         raise MemoryError("the judge is out of memory")
     if state == State.NO_JUDGE:
         raise ValueError("the judge is closed")
-    raise ValueError("a number is out of range")
+    raise ValueError("a number of a step is out of range")
 
 
 def _verdict(answer: _abi.Answer) -> Verdict:
@@ -83,12 +119,13 @@ class Judge:
             if not judge.load(1, 0, 4, 0x12345678):
                 print(judge.diagnosis())
 
-    `feed` and the steps return whether all lines so far pass. Threads may share a judge, one call at a time."""
+    `feed` and the steps return whether all lines so far pass. With `raises` they raise Rejected at a faulty line instead.
+    Threads may share a judge, one call at a time."""
 
-    def __init__(self) -> None:
+    def __init__(self, *, raises: bool = False) -> None:
         self._judge = _abi.Judge()
         self._pointer = ctypes.byref(self._judge)
-        self._rest = b""
+        self._rest, self._raises = b"", raises
         _checked(_c.capcheck_judge_open(self._pointer))
 
     def __enter__(self) -> Judge:
@@ -97,31 +134,51 @@ class Judge:
     def __exit__(self, *_: object) -> None:
         self.close()
 
+    def __repr__(self) -> str:
+        if not self._judge.held:
+            return "<Judge: closed>"
+        return f"<Judge: {'no line so far is faulty' if (verdict := self.verdict) is None else verdict}>"
+
     def close(self) -> None:
-        """Frees the judge's memory. What is fed or asked later raises an exception."""
+        """Frees the judge's memory. What is fed or asked later raises ValueError."""
         _c.capcheck_judge_close(self._pointer)
 
     def __del__(self) -> None:
         self.close()
 
+    @property
+    def _open(self) -> Any:
+        """The judge as C takes it."""
+        if not self._judge.held:
+            raise ValueError("the judge is closed")
+        return self._pointer
+
+    def _passes(self, state: int) -> bool:
+        """Whether all lines so far pass, by a state."""
+        if _checked(state) == _GOES_ON:
+            return True
+        if self._raises:
+            raise Rejected(_verdict(_c.capcheck_judge_answer(self._pointer)), self.diagnosis())
+        return False
+
     def feed(self, piece: bytes) -> bool:
-        """Passes the next bytes of the log. They may begin and end anywhere in a line: an incomplete last line waits
-        for the next bytes."""
-        log = self._rest + piece
+        """Passes the next bytes of the log: bytes or another buffer. They may begin and end anywhere in a line: an
+        incomplete last line waits for the next bytes."""
+        pointer, log = self._open, self._rest + (piece if isinstance(piece, bytes) else memoryview(piece))
         start = ctypes.cast(ctypes.c_char_p(log), ctypes.c_void_p)
-        taken = _c.capcheck_judge_lines(self._pointer, start, len(log))
+        taken = _c.capcheck_judge_lines(pointer, start, len(log))
         self._rest = b"" if taken.state == _NO else log[taken.bytes:]
-        return _checked(taken.state) == _GOES_ON
+        return self._passes(taken.state)
 
     @property
     def verdict(self) -> Verdict | None:
         """The verdict if a line so far is faulty; None otherwise."""
-        answer = _c.capcheck_judge_answer(self._pointer)
+        answer = _c.capcheck_judge_answer(self._open)
         return None if answer.state == State.GOES_ON else _verdict(answer)
 
     def end(self) -> Verdict:
         """The verdict on the bytes so far as a whole log. More may follow."""
-        found = _verdict(_c.capcheck_judge_end(self._pointer))
+        found = _verdict(_c.capcheck_judge_end(self._open))
         if found and self._rest:  # Any byte after the end line is faulty.
             _checked(_c.capcheck_judge_line(self._pointer, self._rest + b"\n", len(self._rest) + 1))
             found = _verdict(_c.capcheck_judge_end(self._pointer))
@@ -130,110 +187,125 @@ class Judge:
     def diagnosis(self) -> str:
         """What `capdiag why` prints of the whole lines so far."""
         text = ctypes.create_string_buffer(_REPORT_SIZE)
-        length = _c.capcheck_judge_end_report(self._pointer, text, _REPORT_SIZE)
-        if length == 0:
-            raise ValueError("the judge is closed")
+        length = _c.capcheck_judge_end_report(self._open, text, _REPORT_SIZE)
         return text.raw[:length].decode()
 
     @property
     def expected(self) -> Capability | int | None:
-        """After WRONG_RESULT: what the rules give, a capability or the number that is loaded."""
-        found = _c.capcheck_judge_expected(self._pointer)
+        """After WRONG_RESULT: what the rules give, a capability or the number that is loaded. Otherwise None."""
+        found = _c.capcheck_judge_expected(self._open)
         if found.kind == _EXPECTS_CAPABILITY:
             return _capability(found.cap)
         return found.number if found.kind == _EXPECTS_NUMBER else None
 
     def register(self, number: int) -> Capability:
         """What the log's machine holds in a register, 0 to 31; after a faulty line, what it held before that line."""
-        return self._held(_c.capcheck_judge_register(self._pointer, number if 0 <= number < 32 else 32))
+        if not 0 <= index(number) < 32:
+            raise ValueError(f"register {number} isn't from 0 to 31")
+        return _capability(_c.capcheck_judge_register(self._open, number).cap)
 
     def granule(self, address: int) -> Capability:
         """The same of the granule (16 aligned bytes of memory) that contains an address."""
-        return self._held(_c.capcheck_judge_granule(self._pointer, _address(address)))
+        return _capability(_c.capcheck_judge_granule(self._open, _address(address)).cap)
 
     def origin(self, place: str) -> str | None:
         """The place of the root that the tagged capability at a place descends from; None if there is none. Places
         are written as in a log: c3, or @0000000000001000."""
-        is_register = place.startswith("c")
-        number = int(place[1:]) if is_register else int(place.removeprefix("@"), 16)
-        found = _c.capcheck_judge_origin(self._pointer,
-                                         _abi.Place(_address(number), _REGISTER if is_register else _GRANULE))
+        if not (named := _PLACE.fullmatch(place)):
+            raise ValueError(f"{place!r} isn't a place of a log, such as c3 or @0000000000001000")
+        number, kind = (int(named[1]), _REGISTER) if named[1] else (int(named[2], 16), _GRANULE)
+        found = _c.capcheck_judge_origin(self._open, _abi.Place(number, kind))
         if found.kind == _REGISTER:
             return f"c{found.number}"
         return f"@{found.number:016x}" if found.kind == _GRANULE else None
 
-    @staticmethod
-    def _held(found: _abi.OptionalCap) -> Capability:
-        if not found.present:
-            raise LookupError("there is no such register, or the judge is closed")
-        return _capability(found.cap)
-
     # ---- Steps by their numbers: each does what feed does with the line that the function of `lines` writes ----
 
-    def _step(self, name: str, *values: object) -> bool:
+    def _step(self, name: str, *values: Any) -> bool:
+        pointer = self._open
         if self._rest:
             raise ValueError("the last line that was fed is incomplete")
         _abi.check(name, values)
-        state = getattr(_c, f"capcheck_judge_{name}")(self._pointer, *values)
-        return _checked(state) == _GOES_ON
+        state = getattr(_c, f"capcheck_judge_{name}")(pointer, *values)
+        if state == State.NO_LINE:
+            raise _abi.refused(name, values)
+        return self._passes(state)
 
     def move(self, target: int, source: int, recorded: Capability) -> bool:
-        return self._step("move", target, source, recorded._cap)
+        """A copy of a register."""
+        return self._step("move", target, source, _passed(recorded, "recorded"))
 
     def cleartag(self, target: int, source: int, recorded: Capability) -> bool:
-        return self._step("cleartag", target, source, recorded._cap)
+        """A copy without the tag."""
+        return self._step("cleartag", target, source, _passed(recorded, "recorded"))
 
     def setbounds(self, target: int, source: int, length: int, recorded: Capability) -> bool:
-        return self._step("setbounds", target, source, length, recorded._cap)
+        """Bounds of `length` bytes from the address, rounded."""
+        return self._step("setbounds", target, source, length, _passed(recorded, "recorded"))
 
     def setboundsexact(self, target: int, source: int, length: int, recorded: Capability) -> bool:
-        return self._step("setboundsexact", target, source, length, recorded._cap)
+        """Such bounds, refused if they are rounded."""
+        return self._step("setboundsexact", target, source, length, _passed(recorded, "recorded"))
 
     def setaddr(self, target: int, source: int, address: int, recorded: Capability) -> bool:
-        return self._step("setaddr", target, source, address, recorded._cap)
+        """Another address."""
+        return self._step("setaddr", target, source, address, _passed(recorded, "recorded"))
 
     def andperm(self, target: int, source: int, mask: int, recorded: Capability) -> bool:
-        return self._step("andperm", target, source, mask, recorded._cap)
+        """Permissions are removed: those that the mask lacks."""
+        return self._step("andperm", target, source, _mask(mask), _passed(recorded, "recorded"))
 
     def seal(self, target: int, source: int, authority: int, recorded: Capability) -> bool:
-        return self._step("seal", target, source, authority, recorded._cap)
+        """A capability is sealed by an authority."""
+        return self._step("seal", target, source, authority, _passed(recorded, "recorded"))
 
     def unseal(self, target: int, source: int, authority: int, recorded: Capability) -> bool:
-        return self._step("unseal", target, source, authority, recorded._cap)
+        """A capability is unsealed by an authority."""
+        return self._step("unseal", target, source, authority, _passed(recorded, "recorded"))
 
     def lc(self, target: int, authority: int, offset: int, recorded: Capability) -> bool:
-        return self._step("lc", target, authority, offset, recorded._cap)
+        """A load of a capability."""
+        return self._step("lc", target, authority, offset, _passed(recorded, "recorded"))
 
     def sc(self, source: int, authority: int, offset: int) -> bool:
+        """A store of a capability."""
         return self._step("sc", source, authority, offset)
 
     def load(self, authority: int, offset: int, size: int, value: int) -> bool:
+        """A load of data."""
         return self._step("load", authority, offset, size, value)
 
     def store(self, authority: int, offset: int, size: int, value: int) -> bool:
+        """A store of data."""
         return self._step("store", authority, offset, size, value)
 
 
-def judge_bytes(log: bytes) -> Verdict:
-    """The verdict on a log in memory. Other threads run meanwhile."""
-    return _verdict(_whole_logs.capcheck_judge_bytes(ctypes.cast(ctypes.c_char_p(log), ctypes.c_void_p), len(log)))
+def judge_bytes(log: Any) -> Verdict:
+    """The verdict on a log in memory: bytes, another buffer, or a binary file, which is read whole. Other threads run
+    meanwhile."""
+    data = _bytes(log)
+    return _verdict(_whole_logs.capcheck_judge_bytes(ctypes.cast(ctypes.c_char_p(data), ctypes.c_void_p), len(data)))
 
 
-def judge(path: str | os.PathLike[str]) -> Verdict:
-    """The verdict on a file or a pipe. It is read up to the first faulty line, in pieces."""
-    with open(path, "rb", buffering=0) as log, Judge() as judging:
-        while (piece := log.read(_PIECE)) and judging.feed(piece):
+def judge(log: Any) -> Verdict:
+    """The verdict on a file or a pipe: its path, or an open binary file. It is read up to the first faulty line, in pieces."""
+    if isinstance(log, (str, bytes, os.PathLike)):
+        with open(log, "rb", buffering=0) as file:
+            return judge(file)
+    read = getattr(log, "read1", None) or log.read
+    with Judge() as judging:
+        while (piece := read(_PIECE)) and judging.feed(piece):
             pass
         return judging.end()
 
 
-def why(log: bytes, origins: bool = False) -> str:
+def why(log: Any, origins: bool = False) -> str:
     """What `capdiag why` prints of a log: the verdict, and after a `no` the diagnosis. With `origins`, what
-    `capdiag why --origins` prints."""
-    granules, room = 4096, 4096
+    `capdiag why --origins` prints. The log is bytes, another buffer, or a binary file."""
+    data, granules, room = _bytes(log), 4096, 4096
     while True:
         slots, text = (_abi.Slot * granules)(), ctypes.create_string_buffer(room)
-        found = _freestanding.capcheck_judge_why(origins, log, len(log), slots, granules, text, room)
+        found = _freestanding.capcheck_judge_why(bool(origins), data, len(data), slots, granules, text, room)
         if found.answer.state != State.NO_MEMORY and found.length <= room:
             return text.raw[:found.length].decode()
         if found.answer.state == State.NO_MEMORY:

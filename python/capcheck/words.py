@@ -5,13 +5,18 @@ import ctypes
 from dataclasses import dataclass
 from enum import IntEnum, IntFlag
 from operator import index
-from typing import NamedTuple
+from typing import Any, NamedTuple
 
 from . import _abi
 from ._abi import Wide, words as _c
 
 _OTYPE_UNSEALED, _OTYPE_SENTRY, _OTYPE_LEAST_RESERVED = 0x3FFFF, 0x3FFFE, 0x3FFFC
 _EXPLAIN_SIZE = 512
+
+
+def _formatted(number: IntEnum | IntFlag, spec: str) -> str:
+    """A number of an enum by its name, or as a number if the format is one of numbers."""
+    return format(int(number) if spec[-1:] in tuple("bcdnoxX") else str(number), spec)
 
 
 class Permissions(IntFlag):
@@ -40,6 +45,21 @@ class Permissions(IntFlag):
         """The letters that CHERI's debuggers print: r, w and x for data and code, R and W for capabilities."""
         return "".join(letter for letter, permission in _LETTERS if permission in self)
 
+    # The same in every version of Python.
+    def __invert__(self) -> Permissions:
+        return Permissions(int(Permissions.ALL_PERMISSIONS) & ~int(self))
+
+    def __str__(self) -> str:
+        return "|".join(it.name or "" for it in _SINGLE if int(it) & int(self)) or "0"
+
+    def __repr__(self) -> str:
+        return f"<Permissions {self}: {int(self):#x}>"
+
+    def __format__(self, spec: str) -> str:
+        return _formatted(self, spec)
+
+
+_SINGLE = [it for it in Permissions.__members__.values() if int(it) & int(it) - 1 == 0]
 
 _LETTERS = (("r", Permissions.LOAD), ("w", Permissions.STORE), ("x", Permissions.EXECUTE),
             ("R", Permissions.LOAD_CAPABILITY), ("W", Permissions.STORE_CAPABILITY))
@@ -84,13 +104,22 @@ class Refusal(IntEnum):
         """What the refusal means."""
         return _c.capcheck_refusal_sentence(self).text.decode()
 
+    def __str__(self) -> str:
+        return self.title
+
+    def __format__(self, spec: str) -> str:
+        return _formatted(self, spec)
+
 
 class Refused(Exception):
     """An operation or an access is refused: a machine that traps would trap here."""
 
     def __init__(self, refusal: Refusal) -> None:
-        super().__init__(refusal.title)
+        super().__init__(refusal)
         self.refusal = refusal
+
+    def __str__(self) -> str:
+        return self.refusal.title
 
 
 class Fields(NamedTuple):
@@ -106,8 +135,10 @@ class Fields(NamedTuple):
     reserved: int
 
 
-class Range(NamedTuple):
-    """A representable range: `address in range` says whether an address keeps the bounds."""
+@dataclass(frozen=True)
+class Range:
+    """A representable range, `size` addresses from `start` on, modulo 2**64: `address in range` says whether an address
+    keeps the bounds."""
     start: int
     size: int
 
@@ -127,14 +158,15 @@ class Rounded(NamedTuple):
 
     @property
     def length(self) -> int:
+        """The top minus the base."""
         return self.top - self.base
 
 
 def _number(value: int, bits: int, name: str) -> int:
     """Refuses a number that ctypes would cut."""
-    if not 0 <= index(value) < 1 << bits:
+    if not 0 <= (number := index(value)) < 1 << bits:
         raise ValueError(f"{name} {value} isn't from 0 to 2**{bits} - 1")
-    return value
+    return number
 
 
 def _address(value: int) -> int:
@@ -156,29 +188,65 @@ def _offset(value: int) -> int:
     return value
 
 
-@dataclass(frozen=True, slots=True)
-class Capability:
-    """A capability: its word in the register layout, and its tag."""
-    word: int
-    tag: bool = False
+def _size(value: int) -> int:
+    if index(value) not in (1, 2, 4, 8):
+        raise ValueError(f"size {value} isn't 1, 2, 4 or 8")
+    return value
 
-    def __post_init__(self) -> None:
-        _number(self.word, 128, "word")
-        object.__setattr__(self, "tag", bool(_number(self.tag, 1, "tag")))
+
+def _passed(cap: Capability, name: str) -> _abi.Cap:
+    """A capability as C takes it."""
+    if not isinstance(cap, Capability):
+        raise TypeError(f"{name} is a Capability, and not {type(cap).__name__}")
+    return cap._cap
+
+
+class Capability:
+    """A capability: its word in the register layout, and its tag. It is immutable, and compares by both. An operation on an
+    untagged one checks nothing, as on the machine."""
+
+    __slots__ = ("word", "tag")
+    __match_args__ = ("word", "tag")
+    word: int
+    tag: bool
+
+    def __init__(self, word: int, tag: bool = False) -> None:
+        object.__setattr__(self, "word", _number(word, 128, "word"))
+        object.__setattr__(self, "tag", bool(_number(tag, 1, "tag")))
+
+    def __setattr__(self, name: str, value: object) -> None:
+        raise AttributeError(f"a Capability is immutable: {name} can't be set; see replace")
+
+    def __delattr__(self, name: str) -> None:
+        raise AttributeError(f"a Capability is immutable: {name} can't be deleted")
+
+    def __eq__(self, other: object) -> bool:
+        return (self.word, self.tag) == (other.word, other.tag) if isinstance(other, Capability) else NotImplemented
+
+    def __hash__(self) -> int:
+        return hash((self.word, self.tag))
+
+    def __reduce__(self) -> tuple[Any, ...]:
+        return Capability, (self.word, self.tag)
 
     # ---- Making one ----
 
     @classmethod
-    def parse(cls, text: str, tag: bool = False) -> Capability:
-        """Reads the 32 hexadecimal digits of a word. 0x before them, and spaces, underscores and colons among them,
-        are skipped."""
-        digits = text.strip().lower().removeprefix("0x")
+    def parse(cls, text: str, tag: bool | None = None) -> Capability:
+        """Reads a word of 32 hexadecimal digits. A tag, 0 or 1, and a space may come before them, as a log and GDB print
+        it; otherwise the tag is `tag`, by default False. 0x before the digits, and spaces, underscores and colons among
+        them, are skipped."""
+        said = text.strip().lower()
+        if said[:2] in ("0 ", "1 ", "- "):
+            tag = (said[0] == "1" if said[0] != "-" else False) if tag is None else tag
+            said = said[2:].lstrip()
+        digits = said.removeprefix("0x")
         for blank in " _:":
             digits = digits.replace(blank, "")
         found = _c.capcheck_read_word(digits.encode(), len(digits.encode()))
         if not found.present:
             raise ValueError(f"{text!r} isn't a word of 32 hexadecimal digits")
-        return cls(int(found.word), tag)
+        return cls(int(found.word), bool(tag))
 
     @classmethod
     def from_memory(cls, data: bytes, tag: bool = False) -> Capability:
@@ -193,18 +261,26 @@ class Capability:
         found = _c.capcheck_root(_number(base, 64, "base"), Wide.of(_number(length, 65, "length")),
                                  _number(permissions, 32, "permissions"))
         if not found.present:
-            raise ValueError("the bounds end above 2**64, or a permission has no meaning")
+            if base + length > 2**64:
+                raise ValueError(f"base {base:#x} + length {length:#x} is above 2**64")
+            raise ValueError(f"permissions {permissions:#x} has a bit that isn't in ALL_PERMISSIONS")
         return cls(int(found.word), True)
 
     @classmethod
-    def join(cls, fields: Fields, tag: bool = False) -> Capability:
+    def from_fields(cls, fields: Fields, tag: bool = False) -> Capability:
         """The capability of fields: the inverse of `fields`."""
-        widths = {"address": 64, "otype": 32, "perms": 16, "b": 16, "t": 16, "e": 8, "ie": 8, "flag": 8, "reserved": 8}
+        widths = {"address": 64, "otype": 18, "perms": 16, "b": 14, "t": 12, "e": 6, "ie": 1, "flag": 1, "reserved": 2}
         found = _c.capcheck_join(_abi.Fields(*(_number(value, widths[name], name)
                                                for name, value in fields._asdict().items())))
         if not found.present:
-            raise ValueError(f"a field is out of range: {fields}")
+            raise ValueError("with ie, b and t are multiples of 8; without it, e is 0: " + str(fields))
         return cls(int(found.word), tag)
+
+    def replace(self, *, tag: bool | None = None, **fields: int) -> Capability:
+        """The same with other `fields`, or another tag. Nothing is checked: a test makes a forged capability with it."""
+        if unknown := set(fields) - set(Fields._fields):
+            raise TypeError(f"a word has no field {unknown.pop()!r}")
+        return Capability.from_fields(self.fields._replace(**fields), self.tag if tag is None else tag)
 
     # ---- What it says ----
 
@@ -230,6 +306,7 @@ class Capability:
 
     @property
     def fields(self) -> Fields:
+        """The fields of the word."""
         found = _c.capcheck_split(self._word)
         return Fields(*(getattr(found, name) for name in Fields._fields))
 
@@ -240,6 +317,7 @@ class Capability:
 
     @property
     def address(self) -> int:
+        """Where it points."""
         return self.word & 0xFFFFFFFFFFFFFFFF
 
     @property
@@ -249,11 +327,18 @@ class Capability:
         return found.base, int(found.top)
 
     @property
+    def offset(self) -> int:
+        """The address minus the base; negative if the address is below it."""
+        return self.address - self.base
+
+    @property
     def base(self) -> int:
+        """The least address in the bounds."""
         return self.bounds[0]
 
     @property
     def top(self) -> int:
+        """The first address after the bounds, at most 2**64 if the word is sound."""
         return self.bounds[1]
 
     @property
@@ -263,6 +348,7 @@ class Capability:
 
     @property
     def sound(self) -> bool:
+        """Whether the top is the base plus the length, and at most 2**64."""
         return _c.capcheck_sound(self._word)
 
     @property
@@ -273,6 +359,7 @@ class Capability:
 
     @property
     def permissions(self) -> Permissions:
+        """The permissions in the architectural view."""
         return Permissions(_c.capcheck_perm_view(self._word))
 
     @property
@@ -282,10 +369,11 @@ class Capability:
 
     @property
     def sealed(self) -> bool:
+        """Whether the object type isn't that of an unsealed word."""
         return _c.capcheck_sealed(self._word)
 
     @property
-    def kind(self) -> str:
+    def otype_kind(self) -> str:
         """The kind of its object type, as `capcheck explain` prints it: unsealed, sealed or reserved."""
         otype = self.otype
         return "unsealed" if otype == _OTYPE_UNSEALED else "reserved" if otype >= _OTYPE_LEAST_RESERVED else "sealed"
@@ -321,6 +409,9 @@ class Capability:
     def __repr__(self) -> str:
         return f"<Capability {int(self.tag)} {self.digits} {self}>"
 
+    def __format__(self, spec: str) -> str:
+        return format(str(self), spec)
+
     # ---- Operations: each raises Refused if a check fails. Those in `_clear` clear the tag of the result instead ----
 
     def set_bounds(self, length: int, exact: bool = False) -> Capability:
@@ -328,7 +419,16 @@ class Capability:
         return _made(_c.capcheck_set_bounds(self._cap, _length(length), bool(exact)))
 
     def set_address(self, address: int) -> Capability:
+        """Sets the address, which has to be in the representable range."""
         return _made(_c.capcheck_set_addr(self._cap, _address(address)))
+
+    def __add__(self, count: int) -> Capability:
+        """The address moved by a number of bytes, modulo 2**64 (CIncOffset)."""
+        return self.set_address((self.address + index(count)) % 2**64)
+
+    def __sub__(self, count: int) -> Capability:
+        """The address moved down."""
+        return self + -index(count)
 
     def and_permissions(self, mask: int) -> Capability:
         """Removes the permissions that the mask lacks."""
@@ -336,27 +436,34 @@ class Capability:
 
     def seal(self, authority: Capability) -> Capability:
         """Seals it with the authority's address as its object type."""
-        return _made(_c.capcheck_seal(self._cap, authority._cap))
+        return _made(_c.capcheck_seal(self._cap, _passed(authority, "authority")))
 
     def unseal(self, authority: Capability) -> Capability:
-        return _made(_c.capcheck_unseal(self._cap, authority._cap))
+        """Unseals it by an authority whose address is its object type."""
+        return _made(_c.capcheck_unseal(self._cap, _passed(authority, "authority")))
 
     def set_bounds_clear(self, length: int, exact: bool = False) -> Capability:
+        """As `set_bounds`, on a machine that clears the tag if a check fails."""
         return _capability(_c.capcheck_set_bounds_clear(self._cap, _length(length), bool(exact)))
 
     def set_address_clear(self, address: int) -> Capability:
+        """As `set_address`, on a machine that clears the tag if a check fails."""
         return _capability(_c.capcheck_set_addr_clear(self._cap, _address(address)))
 
     def and_permissions_clear(self, mask: int) -> Capability:
+        """As `and_permissions`, on a machine that clears the tag if a check fails."""
         return _capability(_c.capcheck_and_perm_clear(self._cap, _mask(mask)))
 
     def seal_clear(self, authority: Capability) -> Capability:
-        return _capability(_c.capcheck_seal_clear(self._cap, authority._cap))
+        """As `seal`, on a machine that clears the tag if a check fails."""
+        return _capability(_c.capcheck_seal_clear(self._cap, _passed(authority, "authority")))
 
     def unseal_clear(self, authority: Capability) -> Capability:
-        return _capability(_c.capcheck_unseal_clear(self._cap, authority._cap))
+        """As `unseal`, on a machine that clears the tag if a check fails."""
+        return _capability(_c.capcheck_unseal_clear(self._cap, _passed(authority, "authority")))
 
     def clear_tag(self) -> Capability:
+        """The same word without the tag."""
         return _capability(_c.capcheck_clear_tag(self._cap))
 
     def with_bounds(self, base: int, length: int) -> Capability:
@@ -366,20 +473,24 @@ class Capability:
     # ---- Accesses with this capability as the authority: the address, or Refused ----
 
     def may_load(self, offset: int, size: int) -> int:
-        return _accessed(_c.capcheck_may_load(self._cap, _offset(offset), _number(size, 64, "size")))
+        """Checks a load of 1, 2, 4 or 8 bytes at the address plus the offset, -2048 to 2047."""
+        return _accessed(_c.capcheck_may_load(self._cap, _offset(offset), _size(size)))
 
     def may_store(self, offset: int, size: int) -> int:
-        return _accessed(_c.capcheck_may_store(self._cap, _offset(offset), _number(size, 64, "size")))
+        """Checks a store of as many bytes."""
+        return _accessed(_c.capcheck_may_store(self._cap, _offset(offset), _size(size)))
 
     def may_load_capability(self, offset: int) -> int:
+        """Checks a load of a capability."""
         return _accessed(_c.capcheck_may_load_cap(self._cap, _offset(offset)))
 
     def may_store_capability(self, offset: int, stored: Capability) -> int:
-        return _accessed(_c.capcheck_may_store_cap(self._cap, _offset(offset), stored._cap))
+        """Checks a store of this capability."""
+        return _accessed(_c.capcheck_may_store_cap(self._cap, _offset(offset), _passed(stored, "stored")))
 
     def loaded(self, stored: Capability) -> Capability:
         """What a load of this stored capability puts into the register."""
-        return _capability(_c.capcheck_loaded(self._cap, stored._cap))
+        return _capability(_c.capcheck_loaded(self._cap, _passed(stored, "stored")))
 
 
 NULL = Capability(int(_c.capcheck_null()))

@@ -1,5 +1,8 @@
 """Logs: reading and writing lines, judging, diagnoses, shortening. python/check.sh sets CAPDIAG, a built program."""
+import io
+import mmap
 import os
+import pickle
 import random
 import subprocess
 import tempfile
@@ -33,18 +36,11 @@ def operands(line):
         return line.source, line.authority, line.offset
     if line.kind in (Kind.LOAD, Kind.STORE):
         return line.authority, line.offset, line.size, line.number
-    if line.kind in (Kind.ROOT, Kind.ROOT_AT):
-        return line.target if line.kind == Kind.ROOT else line.number, line.cap
-    return (line.number,)
-
-
-def write(line):
-    return getattr(lines, line.kind.name.lower())(*operands(line))
 
 
 def pass_step(judge, line):
     """Passes a step by its numbers; any other line as it is written."""
-    return getattr(judge, line.kind.name.lower())(*operands(line)) if Kind.MOVE <= line.kind <= Kind.STORE else judge.feed(write(line))
+    return getattr(judge, line.kind.name.lower())(*operands(line)) if Kind.MOVE <= line.kind <= Kind.STORE else judge.feed(bytes(line))
 
 
 def diagnosed(log, *options):
@@ -81,7 +77,7 @@ class Verdicts(unittest.TestCase):
         for path, verdict in VERDICTS.items():
             if verdict.startswith("yes"):
                 read = list(lines.read(path.read_bytes()))
-                self.assertEqual(b"".join(map(write, read)), path.read_bytes())
+                self.assertEqual(b"".join(map(bytes, read)), path.read_bytes())
                 with Judge() as judge:
                     self.assertTrue(all(pass_step(judge, line) for line in read), path)
                     self.assertEqual(str(judge.end()), verdict)
@@ -117,11 +113,51 @@ class Judging(unittest.TestCase):
             self.assertEqual((judge.expected, judge.register(2), judge.granule(0x101F)), (cap, cap, cap))
             self.assertEqual((judge.register(3), judge.register(0)), (NULL, NULL))
             self.assertEqual([judge.origin(it) for it in ("c2", "@0000000000001010", "c3")], ["c1", "c1", None])
-            self.assertRaises(LookupError, judge.register, -1)
-            self.assertRaises(LookupError, judge.register, 32)
-        for call in (lambda: judge.feed(b"end 0\n"), judge.end, judge.diagnosis, lambda: judge.verdict, lambda: judge.sc(1, 1, 0)):
-            self.assertRaises(ValueError, call)
-        self.assertRaises(LookupError, judge.register, 1)
+            for number in (-1, 32):
+                self.assertRaisesRegex(ValueError, f"register {number} isn't from 0 to 31", judge.register, number)
+            for place in ("c 1", "c01", "1000", "c32", "@1000", "@000000000000100G", "c\u0661"):
+                self.assertRaises(ValueError, judge.origin, place)
+        self.assertEqual(repr(judge), "<Judge: closed>")
+        for call in (lambda: judge.feed(b"x"), judge.end, judge.diagnosis, lambda: judge.verdict, lambda: judge.sc(1, 1, 0),
+                     lambda: judge.register(1), lambda: judge.granule(0), lambda: judge.origin("c1"), lambda: judge.expected):
+            with self.assertRaises(ValueError) as raised:
+                call()
+            self.assertEqual(str(raised.exception), "the judge is closed")
+
+    def test_a_judge_that_raises(self):
+        with Judge(raises=True) as judge:
+            self.assertTrue(judge.feed(f"capcheck 1\n{ROOT}".encode()))
+            with self.assertRaises(capcheck.Rejected) as raised:
+                judge.move(3, 1, NULL)
+            self.assertEqual(str(raised.exception.verdict), "no 3 23 WrongResult")
+            self.assertEqual(str(pickle.loads(pickle.dumps(raised.exception))), judge.diagnosis().rstrip("\n"))
+            self.assertEqual(repr(judge), "<Judge: no 3 23 WrongResult>")
+            self.assertRaises(capcheck.Rejected, judge.feed, b"end 1\n")
+
+    def test_buffers_and_files(self):
+        path = TOP / "examples/escaped_bound.log"
+        log, verdict = path.read_bytes(), capcheck.judge(path)
+        with open(path, "rb") as file, mmap.mmap(file.fileno(), 0, access=mmap.ACCESS_READ) as mapped:
+            for given in (log, bytearray(log), memoryview(log), mapped):
+                self.assertEqual((capcheck.judge_bytes(given), capcheck.why(given)), (verdict, capcheck.why(log)))
+                self.assertEqual((list(lines.read(given)), capcheck.shorten(given)), (list(lines.read(log)), capcheck.shorten(log)))
+                with Judge() as judge:
+                    judge.feed(given)
+                    self.assertEqual(judge.verdict, verdict)
+            self.assertEqual((capcheck.judge(file), capcheck.judge(io.BytesIO(log))), (verdict, verdict))
+            file.seek(0)
+            self.assertEqual(capcheck.why(file), capcheck.why(log))
+        for call in (capcheck.judge_bytes, capcheck.why, lines.read, capcheck.shorten):
+            self.assertRaises(TypeError, call, "x")
+            self.assertRaises(TypeError, call, io.StringIO("x"))
+        self.assertEqual(verdict, (False, None, None, 5, Refusal.BOUNDS_ESCAPE))
+
+    def test_modes_and_places_of_lines(self):
+        self.assertEqual([lines.mode(it) for it in ("strict", False, "clear", True)], [b"mode strict\n"] * 2 + [b"mode clear\n"] * 2)
+        for wrong in ("Strict", 1, None, b"strict"):
+            self.assertRaises(TypeError, lines.mode, wrong)
+        log = (TOP / "examples/clear_mode.log").read_bytes()
+        self.assertTrue(all(log[line.at:].startswith(bytes(line)) for line in lines.read(log)))
 
     def test_numbers_out_of_range(self):
         with Judge() as judge:
@@ -188,7 +224,20 @@ class Shortening(unittest.TestCase):
                 if not capcheck.judge_bytes(log):
                     self.assertLessEqual(len(self.shortened(log)), 9)
 
-    def test_shortest(self):
+    def test_lines_of_the_log_itself(self):
+        for path in [*EXAMPLES, *VERDICTS]:
+            log = path.read_bytes()
+            if not capcheck.judge_bytes(log):
+                short, own = capcheck.shorten(log), capcheck.shorten(log, replayable=True)
+                self.assertLessEqual(len(short.splitlines()), len(own.splitlines()))
+                self.assertEqual(fault(own), fault(log), path)
+                rest = iter(log.splitlines(True))
+                self.assertTrue(all(line in rest for line in own.splitlines(True)), path)
+        # The store of a capability is kept, and no other is made in its place.
+        log = (TOP / "examples/stale_tag.log").read_bytes()
+        self.assertEqual([line.kind for line in lines.read(capcheck.shorten(log))], [line.kind for line in lines.read(log)][:-1])
+
+    def test_short(self):
         log = (TOP / "examples/escaped_bound.log").read_bytes()
         self.assertEqual(capcheck.shorten(log), b"capcheck 1\nroot c3 ffff1ffff80810000000000000001000\n"
                          b"setbounds c4 c3 0000000000000021 = 1 ffff1ffff80850000000000000001000\n")
@@ -214,6 +263,20 @@ class Command(unittest.TestCase):
         self.assertEqual(self.run_command("shorten", TOP / "examples/moves.log"), (1, "", "capcheck: the log is accepted: yes 2 1\n"))
         self.assertEqual(self.run_command("explain", "--tag", NULL.digits)[1], Capability(NULL.word, True).explain())
         self.assertEqual(self.run_command("explain", "12")[0], 2)
+        self.assertEqual(self.run_command("shorten", "--replayable", log)[1], capcheck.shorten(log.read_bytes(), replayable=True).decode())
+        self.assertEqual(self.run_command("why", "--origins", log)[1], diagnosed(log.read_bytes(), "--origins"))
+
+    def test_statuses_of_the_program(self):
+        for words in ("judge examples/moves.log > /dev/full", "judge missing.log", "why examples", "explain %s > /dev/full" % NULL.digits,
+                      "why examples/moves.log >&-"):
+            ran = subprocess.run(f"python3 -m capcheck {words}", shell=True, capture_output=True, text=True, cwd=TOP)
+            self.assertEqual(ran.returncode, 3, words)
+            self.assertRegex(ran.stderr, r"\Acapcheck: (read|write) fault: .*\n\Z")
+        self.assertEqual(self.run_command("judge", "--strange")[0], 2)
+
+    def test_a_folder_without_the_libraries(self):
+        ran = subprocess.run(["python3", "-c", "import capcheck"], env={**os.environ, "CAPCHECK_LIB": "/nosuch"}, capture_output=True, text=True)
+        self.assertIn("CAPCHECK_LIB is /nosuch, where there is no libcapcheck_c.so.1", ran.stderr)
 
 
 if __name__ == "__main__":

@@ -1,6 +1,8 @@
 """Words, bounds and operations. `python3 -m unittest discover python/tests`; python/check.sh sets the environment:
 CAPCHECK, a built program, and EXPLAINED, what it prints of random words."""
+import copy
 import os
+import pickle
 import random
 import re
 import subprocess
@@ -9,6 +11,7 @@ import unittest
 
 import capcheck
 from capcheck import NULL, Capability, Kind, Permissions, Refusal, Refused, lines
+from capcheck.judges import State
 
 PROGRAM = os.environ["CAPCHECK"]
 COUNT = 10000
@@ -48,7 +51,7 @@ class Words(unittest.TestCase):
             self.assertEqual(told["memory"], cap.memory.hex())
             self.assertEqual(told["tag"], str(int(tag)))
             self.assertEqual((int(told["base"], 16), int(told["top"], 16)), cap.bounds)
-            self.assertEqual(told["otype"], f"{cap.otype:05x} {cap.kind}")
+            self.assertEqual(told["otype"], f"{cap.otype:05x} {cap.otype_kind}")
             self.assertEqual(told["perms"], f"{cap.permissions:08x}")
             self.assertEqual((told["t"], told["sound"]), (f"{cap.mantissa:04x}", "yes" if cap.sound else "no"))
             self.assertEqual(cap.fields.t, cap.mantissa & 0xFFF)
@@ -74,7 +77,7 @@ class Words(unittest.TestCase):
     def test_there_and_back(self):
         for word, tag in words(3):
             cap = Capability(word, tag)
-            self.assertEqual(Capability.join(cap.fields, tag), cap)
+            self.assertEqual(Capability.from_fields(cap.fields, tag), cap)
             self.assertEqual(Capability.from_memory(cap.memory, tag), cap)
             self.assertEqual(Capability.parse(cap.digits, tag), cap)
 
@@ -84,11 +87,62 @@ class Words(unittest.TestCase):
                      lambda: NULL.may_load(0, 2**64 + 1), lambda: NULL.keeps_bounds(-1), lambda: Capability.parse("12"),
                      lambda: Capability.parse("ffff1ffffbffd00000000000000010\u0660\u0660"), lambda: Capability.from_memory(b"1"),
                      lambda: Capability.root(1), lambda: Capability.root(permissions=2**32), lambda: capcheck.round_bounds(2**64, 0),
-                     lambda: Capability.join(NULL.fields._replace(e=256)), lambda: Capability.join(NULL.fields._replace(e=64)),
+                     lambda: Capability.from_fields(NULL.fields._replace(e=256)), lambda: Capability.from_fields(NULL.fields._replace(e=64)),
                      lambda: lines.end(2**64), lambda: lines.end(2**32), lambda: lines.load(257 + 2**64, 0, 1, 0),
                      lambda: lines.load(1, 2**63, 1, 0), lambda: lines.move(0, 1, NULL), lambda: lines.version(3)):
             self.assertRaises(ValueError, call)
         self.assertRaises(TypeError, lambda: Capability(1.5))
+
+    def test_errors_name_the_argument_and_its_range(self):
+        cap = Capability.root()
+        for call, error, text in (
+                (lambda: lines.root(32, cap), ValueError, "root: target 32 isn't from 1 to 31"),
+                (lambda: lines.root_at(8, cap), ValueError, "root_at: address 0x8 isn't a multiple of 16"),
+                (lambda: lines.store(1, 0, 3, 0), ValueError, "store: size 3 isn't 1, 2, 4 or 8"),
+                (lambda: lines.store(1, 0, 1, 256), ValueError, "store: value 0x100 has more than 1 bytes"),
+                (lambda: lines.sc(1, 1, 2048), ValueError, "sc: offset 2048 isn't from -2048 to 2047"),
+                (lambda: lines.end(2**32), ValueError, "end: steps 4294967296 isn't from 0 to 2**32 - 1"),
+                (lambda: lines.move(1, 2, 5), TypeError, "recorded is a Capability, and not int"),
+                (lambda: lines.setaddr(1, 2, "5", cap), TypeError, "'str' object cannot be interpreted as an integer"),
+                (lambda: cap.seal(5), TypeError, "authority is a Capability, and not int"),
+                (lambda: cap.may_load(0, 3), ValueError, "size 3 isn't 1, 2, 4 or 8"),
+                (lambda: cap.may_load(5000, 1), ValueError, "offset 5000 isn't from -2048 to 2047"),
+                (lambda: NULL.replace(e=64), ValueError, "e 64 isn't from 0 to 2**6 - 1"),
+                (lambda: NULL.replace(e=5, ie=0), ValueError, "with ie, b and t are multiples of 8; without it, e is 0: "),
+                (lambda: NULL.replace(colour=1), TypeError, "a word has no field 'colour'"),
+                (lambda: Capability.root(1), ValueError, "base 0x1 + length 0x10000000000000000 is above 2**64"),
+                (lambda: setattr(cap, "foo", 1), AttributeError, "a Capability is immutable: foo can't be set; see replace")):
+            with self.assertRaises(error) as raised:
+                call()
+            self.assertIn(text, str(raised.exception))
+
+    def test_values_of_python(self):
+        cap = Capability.root().set_address(0x1000).set_bounds(0x1000)
+        with self.assertRaises(Refused) as raised:
+            cap.set_bounds(0x1001)
+        again = pickle.loads(pickle.dumps(raised.exception))
+        self.assertEqual((str(again), again.refusal), ("BoundsEscape", Refusal.BOUNDS_ESCAPE))
+        self.assertEqual((pickle.loads(pickle.dumps(cap)), copy.deepcopy(cap), {cap: 1}[cap]), (cap, cap, 1))
+        # The same in every version of Python.
+        self.assertEqual((f"{Refusal.NOT_EXACT} {Refusal.NOT_EXACT:d} {Refusal.NOT_EXACT:>9}", str(Kind.ROOT_AT)), ("NotExact 12  NotExact", "root_at"))
+        self.assertEqual((str(~Permissions.STORE & Permissions(0xF)), int(~Permissions.STORE)), ("GLOBAL|EXECUTE|LOAD", 0x78FF7))
+        self.assertEqual((repr(Permissions.LOAD), f"{Permissions.LOAD:04x}"), ("<Permissions LOAD: 0x4>", "0004"))
+        self.assertEqual(lines.andperm(1, 2, ~8, cap), lines.andperm(1, 2, 2**64 - 9, cap))
+        self.assertEqual(f"{cap:>40}", str(cap).rjust(40))
+        self.assertEqual([Capability.parse(it) for it in (f"1 {cap.digits}", f"- {cap.digits}", f"0 0x{cap.digits}")],
+                         [cap, cap.clear_tag(), cap.clear_tag()])
+        self.assertEqual(((cap + 8 - 16).address, (cap + 8).offset, (cap - 1).offset), (0xFF8, 8, -1))
+        self.assertRaises(Refused, lambda: cap.set_bounds(16) + 2**40)
+        self.assertEqual(cap.replace(address=5, tag=False), Capability(cap.word - 0x1000 + 5))
+        reach = cap.representable
+        self.assertTrue(reach.start in reach and reach.start - 1 not in reach)
+        self.assertRaises(TypeError, list, reach)
+
+    def test_every_public_name_has_a_docstring(self):
+        for it in [lines, *(getattr(capcheck, name) for name in capcheck.__all__)]:
+            for name, value in vars(it).items() if isinstance(it, (type, type(lines))) else ():
+                if not name.startswith("_") and (callable(value) or isinstance(value, (property, classmethod))) and "capcheck" in str(getattr(value, "__module__", "capcheck")):
+                    self.assertTrue(value.__doc__, (it, name))
 
     def test_operations(self):
         cap = Capability.root().set_address(0x1000).set_bounds(0x20)
@@ -97,7 +151,6 @@ class Words(unittest.TestCase):
             cap.set_bounds(0x21)
         self.assertEqual((refused.exception.refusal, str(refused.exception)), (Refusal.BOUNDS_ESCAPE, "BoundsEscape"))
         self.assertRaises(Refused, cap.may_load, 0x20, 1)
-        self.assertRaises(Refused, cap.may_load, 0, 3)
         self.assertEqual(cap.may_load(0x18, 8), 0x1018)
         self.assertEqual(cap.set_bounds_clear(0x21).tag, False)
         self.assertEqual(cap.and_permissions(~Permissions.STORE).permissions, Permissions.ALL_PERMISSIONS & ~Permissions.STORE)
@@ -116,8 +169,8 @@ class Words(unittest.TestCase):
     def test_names(self):
         self.assertEqual([it.title for it in (Refusal.BAD_HEADER, Refusal.BAD_MODE, Refusal.BAD_ARGUMENT)],
                          ["BadHeader", "BadMode", "BadArgument"])
-        self.assertTrue(all(it.title.upper() == it.name.replace("_", "") for it in [*Refusal, *capcheck.State]))
-        self.assertTrue(all(it.sentence.endswith(".") for it in [*Refusal, *capcheck.State, *Kind] if it != Refusal.BAD_ARGUMENT))
+        self.assertTrue(all(it.title.upper() == it.name.replace("_", "") for it in [*Refusal, *State]))
+        self.assertTrue(all(it.sentence.endswith(".") for it in [*Refusal, *State, *Kind] if it != Refusal.BAD_ARGUMENT))
         self.assertTrue(all(it.word == it.name.lower() for it in Kind if it not in (Kind.VERSION, Kind.ROOT_AT)))
 
 

@@ -1,13 +1,14 @@
-"""The shortest log with the same fault."""
+"""A short log with the fault of a long one."""
 from __future__ import annotations
 
 import io
 import time
 from collections.abc import Callable, Iterator
 from contextlib import suppress
+from typing import Any
 
 from . import lines
-from .judges import Judge, judge_bytes, why
+from .judges import Judge, _bytes, judge_bytes, why
 from .lines import Kind
 from .words import NULL, Capability
 
@@ -16,23 +17,58 @@ _ROWS = frozenset("line source authority holds root length gives recorded reques
                   "cleared differs".split())
 
 
-def shorten(log: bytes, seconds: float = 5) -> bytes:
+def shorten(log: Any, seconds: float = 5, replayable: bool = False) -> bytes:
     """A short log with the fault of a rejected log: the same refusal, the same refused line and the same diagnosis, except
-    for origins and counts. No line of it can be left out, apart from the header, unless `seconds` didn't suffice.
-    ValueError if the log is accepted."""
-    verdict, until = judge_bytes(log), time.monotonic() + seconds
-    if verdict:
+    for origins and counts. No line of it can be left out, apart from the header, unless `seconds` didn't suffice. The log is
+    bytes, another buffer, or a binary file. ValueError if it is accepted.
+
+    Its lines are the log's own if no fewer lines do; otherwise others give the refused line its operands. With `replayable`
+    they are the log's own in any case. Replayed on the machine that the log is from, a short log needn't show the same bug:
+    the machine may need steps that the judge doesn't."""
+    data, until = _bytes(log), time.monotonic() + seconds
+    if verdict := judge_bytes(data):
         raise ValueError(f"the log is accepted: {verdict}")
-    texts = io.BytesIO(log).readlines()
-    header = texts[:2 if texts[:1] == [b"capcheck 2\n"] else 1][:verdict.line - 1]
-    before, faulty = texts[len(header):verdict.line - 1], b"".join(texts[verdict.line - 1:verdict.line])
-    fault = _fault(b"".join(texts[:verdict.line]))
+    texts, number = io.BytesIO(data).readlines(), verdict.line or 1
+    header = texts[:2 if texts[:1] == [b"capcheck 2\n"] else 1][:number - 1]
+    before, faulty = texts[len(header):number - 1], b"".join(texts[number - 1:number])
+    fault = _fault(b"".join(texts[:number]))
 
     def has_fault(middle: list[bytes]) -> bool:
         return _fault(b"".join([*header, *middle, faulty])) == fault
 
-    middle = next(filter(has_fault, _middles(header, before, faulty)))
-    return b"".join([*header, *_fewest(middle, has_fault, until), faulty])
+    made = [] if replayable else _fewest(next(filter(has_fault, _middles(header, before, faulty))), has_fault, until)
+    own = made
+    if made or replayable:
+        own = _fewest(next(filter(has_fault, ([], _needed(before, faulty), before))), has_fault, until)
+    return b"".join([*header, *(own if replayable or len(own) <= len(made) else made), faulty])
+
+
+def _needed(before: list[bytes], faulty: bytes) -> list[bytes]:
+    """The lines on which the operands of the faulty line depend: those that wrote its registers and its memory last, and what
+    these depend on."""
+    writers: dict[int, int] = {}  # by register, and by granule, whose address is counted from 32 on
+    addresses: dict[int, int] = {}
+    reads: list[set[int]] = []
+    with suppress(ValueError):
+        for number, line in enumerate(lines.read(b"".join([*before, faulty]))):
+            memory = (addresses.get(line.authority, 0) + line.offset) % 2**64 // 16 + 32
+            places = {line.source, line.authority}
+            if line.kind in (Kind.LC, Kind.LOAD, Kind.STORE):
+                places.add(memory)
+            reads.append({writers[place] for place in places if place in writers})
+            if line.kind in (Kind.SC, Kind.STORE):
+                writers[memory] = number
+            elif line.kind == Kind.ROOT_AT:
+                writers[line.number // 16 + 32] = number
+            elif line.target:
+                writers[line.target], addresses[line.target] = number, line.cap.address
+    if len(reads) <= len(before):  # The faulty line is none that can be read.
+        return []
+    found, left = set[int](), [len(before)]
+    while left:
+        left += (new := reads[left.pop()] - found)
+        found |= new
+    return [before[number] for number in sorted(found)]
 
 
 def _fault(log: bytes) -> list[str]:
