@@ -1,0 +1,168 @@
+//! The lines of a log.
+use crate::abi;
+use crate::words::{to_word, Capability};
+use std::{error, fmt, ops};
+
+const LINE_SIZE: usize = 96;
+
+/// A line of a log. The fields named `recorded` are what the target holds after the step; `target` is a register from 1 to 31,
+/// `source` and `authority` are registers from 0 to 31, an `offset` is from -2048 to 2047, a `size` is 1, 2, 4 or 8, and a
+/// `value` has as many bytes.
+#[derive(Clone, Copy, Debug, PartialEq, Eq, Hash)]
+#[allow(missing_docs)]
+pub enum Line {
+    /// The first line: version 1 or 2.
+    Version(u64),
+    /// The second line of a log of version 2.
+    Mode { clear: bool },
+    /// A root in a register.
+    Root { target: u64, word: u128 },
+    /// A root in the granule at an address, a multiple of 16.
+    RootAt { address: u64, word: u128 },
+    Move { target: u64, source: u64, recorded: Capability },
+    ClearTag { target: u64, source: u64, recorded: Capability },
+    SetBounds { target: u64, source: u64, length: u64, recorded: Capability },
+    SetBoundsExact { target: u64, source: u64, length: u64, recorded: Capability },
+    SetAddress { target: u64, source: u64, address: u64, recorded: Capability },
+    AndPermissions { target: u64, source: u64, mask: u64, recorded: Capability },
+    Seal { target: u64, source: u64, authority: u64, recorded: Capability },
+    Unseal { target: u64, source: u64, authority: u64, recorded: Capability },
+    LoadCapability { target: u64, authority: u64, offset: i64, recorded: Capability },
+    StoreCapability { source: u64, authority: u64, offset: i64 },
+    Load { authority: u64, offset: i64, size: u64, value: u64 },
+    Store { authority: u64, offset: i64, size: u64, value: u64 },
+    /// The last line: the number of step lines, below 2^32.
+    End { steps: u64 },
+}
+
+/// A number of a line is out of range.
+#[derive(Clone, Copy, Debug, PartialEq, Eq)]
+pub struct OutOfRange;
+
+impl fmt::Display for OutOfRange {
+    fn fmt(&self, to: &mut fmt::Formatter<'_>) -> fmt::Result {
+        to.write_str("a number of a line is out of range")
+    }
+}
+
+impl error::Error for OutOfRange {}
+
+/// The text of a line, with its line feed. It derefs to its bytes.
+#[derive(Clone, Copy)]
+pub struct LineText {
+    bytes: [u8; LINE_SIZE],
+    length: usize,
+}
+
+impl ops::Deref for LineText {
+    type Target = [u8];
+
+    fn deref(&self) -> &[u8] {
+        &self.bytes[..self.length]
+    }
+}
+
+impl Line {
+    /// Writes the line.
+    pub fn write(&self) -> Result<LineText, OutOfRange> {
+        let mut bytes = [0; LINE_SIZE];
+        let to = bytes.as_mut_ptr();
+        let length = unsafe {
+            match *self {
+                Line::Version(number) => abi::capcheck_line_version(to, number),
+                Line::Mode { clear } => abi::capcheck_line_mode(to, clear.into()),
+                Line::Root { target, word } => abi::capcheck_line_root(to, target, to_word(word)),
+                Line::RootAt { address, word } => abi::capcheck_line_root_at(to, address, to_word(word)),
+                Line::Move { target, source, recorded } => abi::capcheck_line_move(to, target, source, recorded.into()),
+                Line::ClearTag { target, source, recorded } => abi::capcheck_line_cleartag(to, target, source, recorded.into()),
+                Line::SetBounds { target, source, length, recorded } => {
+                    abi::capcheck_line_setbounds(to, target, source, length, recorded.into())
+                }
+                Line::SetBoundsExact { target, source, length, recorded } => {
+                    abi::capcheck_line_setboundsexact(to, target, source, length, recorded.into())
+                }
+                Line::SetAddress { target, source, address, recorded } => {
+                    abi::capcheck_line_setaddr(to, target, source, address, recorded.into())
+                }
+                Line::AndPermissions { target, source, mask, recorded } => {
+                    abi::capcheck_line_andperm(to, target, source, mask, recorded.into())
+                }
+                Line::Seal { target, source, authority, recorded } => {
+                    abi::capcheck_line_seal(to, target, source, authority, recorded.into())
+                }
+                Line::Unseal { target, source, authority, recorded } => {
+                    abi::capcheck_line_unseal(to, target, source, authority, recorded.into())
+                }
+                Line::LoadCapability { target, authority, offset, recorded } => {
+                    abi::capcheck_line_lc(to, target, authority, offset, recorded.into())
+                }
+                Line::StoreCapability { source, authority, offset } => abi::capcheck_line_sc(to, source, authority, offset),
+                Line::Load { authority, offset, size, value } => abi::capcheck_line_load(to, authority, offset, size, value),
+                Line::Store { authority, offset, size, value } => abi::capcheck_line_store(to, authority, offset, size, value),
+                Line::End { steps } => abi::capcheck_line_end(to, steps),
+            }
+        };
+        if length == 0 {
+            return Err(OutOfRange);
+        }
+        Ok(LineText { bytes, length })
+    }
+
+    /// Reads the line at the front of some bytes, with its line feed: the line and its length, or none.
+    pub fn read(bytes: &[u8]) -> Option<(Line, usize)> {
+        let found = unsafe { abi::capcheck_read_line(bytes.as_ptr(), bytes.len()) };
+        let (target, source, authority) = (found.target.into(), found.source.into(), found.authority.into());
+        let (offset, size, number) = (found.offset.into(), found.size.into(), found.number);
+        let recorded = Capability::from(found.cap);
+        let word = recorded.word();
+        let line = match found.kind {
+            1 => Line::Version(number),
+            2 => Line::Mode { clear: number != 0 },
+            3 => Line::Root { target, word },
+            4 => Line::RootAt { address: number, word },
+            5 => Line::Move { target, source, recorded },
+            6 => Line::ClearTag { target, source, recorded },
+            7 => Line::SetBounds { target, source, length: number, recorded },
+            8 => Line::SetBoundsExact { target, source, length: number, recorded },
+            9 => Line::SetAddress { target, source, address: number, recorded },
+            10 => Line::AndPermissions { target, source, mask: number, recorded },
+            11 => Line::Seal { target, source, authority, recorded },
+            12 => Line::Unseal { target, source, authority, recorded },
+            13 => Line::LoadCapability { target, authority, offset, recorded },
+            14 => Line::StoreCapability { source, authority, offset },
+            15 => Line::Load { authority, offset, size, value: number },
+            16 => Line::Store { authority, offset, size, value: number },
+            17 => Line::End { steps: number },
+            _ => return None,
+        };
+        Some((line, found.length))
+    }
+}
+
+/// The lines of some bytes, one after another.
+#[derive(Clone, Debug)]
+pub struct ReadLines<'a> {
+    rest: &'a [u8],
+}
+
+/// Reads lines from the front of some bytes. It ends where no line follows: see [`ReadLines::rest`].
+pub fn read_lines(bytes: &[u8]) -> ReadLines<'_> {
+    ReadLines { rest: bytes }
+}
+
+impl<'a> ReadLines<'a> {
+    /// The bytes that aren't read yet. At the end they are empty, unless they don't begin with a line.
+    pub fn rest(&self) -> &'a [u8] {
+        self.rest
+    }
+}
+
+impl Iterator for ReadLines<'_> {
+    type Item = Line;
+
+    fn next(&mut self) -> Option<Line> {
+        let (line, length) = Line::read(self.rest)?;
+        self.rest = &self.rest[length..];
+        Some(line)
+    }
+}
