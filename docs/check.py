@@ -3,15 +3,17 @@
 
     python3 docs/check.py [--unproved] [PAGE..]
 
-With `--unproved` it takes the programs that CAPCHECK and CAPDIAG name, and leaves out what needs a library for C. It wants the programs and the library for C built, or builds them. A block of a page that has lines beginning with
+A page's commands run as a reader's: HOME and PATH are set, with the installed programs in it, and of what concerns the
+libraries only what the page exports: a line `export NAME=VALUE` holds for the rest of the page. With `--unproved` it takes the programs that CAPCHECK and CAPDIAG name, and leaves out what needs a library for C. It wants the programs and the library for C built, or builds them. A block of a page that has lines beginning with
 `$ ` is a session: each such line is a command, lines that begin with `> ` go on with it, and the lines below it are
 all that it prints; a line `..` stands for any lines. A page's commands run one after another in a folder of their
-own, in which the tree's files stand by their names. Lines that begin with `(gdb) ` are commands of the GDB that the session starts;
+own, in which the tree's files stand by their names, or what is installed in share/capcheck for the pages of INSTALLED. Lines that begin with `(gdb) ` are commands of the GDB that the session starts;
 without a GDB they are left out, and a line says so. Blocks with `>>> ` are run by doctest. Other commands of the pages are those of ELSEWHERE, which says
 where each is run. Rows that give the verdict of an example or of a log are judged too, blocks that show a file of the
 tree are compared with it, each link has to lead to a file and a heading, and `judge/heap.c` has to have as many lines
 as is said. The manual pages and the changelog have to have the header's version. The phrases of PHRASES are looked for in the pages, the manual pages, the headers, and the comments of the
-crates and of the C examples; text in code font isn't read. The status is 1 where anything differs."""
+crates and of the C examples; text in code font isn't read. A block of C that prints something is the program.c of the
+page's lines `cc program.c ..`, and is run as each of them links it. The status is 1 where anything differs."""
 import glob
 import os
 import re
@@ -37,21 +39,20 @@ ELSEWHERE = {
     "python3 -m pip install ./python": "python/check.sh, into another folder",
     "sh release.sh": "by hand",
     "sh python/check.sh": "the gate",
+    "sh rust/check.sh": "the gate",
     "bash .ci/run": "the gate",
     "cd crates/capcheck_c && rt lib": "examples/emulator/check.sh",
     "sh judge/build.sh": "examples/emulator/check.sh",
     "cc -Iinclude program.c judge/out/libcapcheck_judge.a crates/capcheck_c/out/libcapcheck_c.a -o program": "examples/emulator/check.sh, with other programs",
     "bash examples/emulator/check.sh": "the gate",
-    "cc -O2 -shared -fPIC -Iinclude examples/allocator/livejudge.c judge/out/libcapcheck_judge.a crates/capcheck_c/out/libcapcheck_c.a -o livejudge.so -ldl -pthread": "examples/allocator/check.sh",
-    "cc -O2 -fno-builtin -fno-tree-loop-distribute-patterns -shared -fPIC -Iinclude examples/objects/objects.c crates/capcheck_c/out/libcapcheck_c.a -o objects.so -ldl -pthread": "examples/objects/check.sh",
     "mkdir logs": "examples/objects/check.sh, for another program",
     "CAP_LOGS=logs LD_PRELOAD=$PWD/objects.so git log -p": "examples/objects/check.sh, for another program",
     "capdiag why logs/git.*.log": "examples/objects/check.sh, for another program",
-    "sh install.sh /usr/local": "examples/emulator/installed.sh, into another folder",
-    "cc program.c $(pkg-config --cflags --libs capcheck) -o program": "examples/emulator/installed.sh, with another program",
+    "cc program.c $(pkg-config --cflags --libs capcheck) -o program": "the block of C",
+    "cc program.c -I ~/.local/include ~/.local/lib/libcapcheck_c.a -o program": "the block of C",
     "cc -Iinclude program.c crates/capcheck_c/out/libcapcheck_c.a -o program": "examples/emulator/check.sh, with another program",
     "cc -ffreestanding -Iinclude program.c crates/capcheck_freestanding/out/libcapcheck_freestanding.a -o program": "examples/emulator/check.sh, with another program",
-    "cc -shared -fPIC -Iinclude recorder.c judge/out/libcapcheck_judge.a crates/capcheck_c/out/libcapcheck_c.a -Wl,--exclude-libs,ALL -o recorder.so": "by hand, as examples/qemu/README.md has it",
+    "cc -shared -fPIC -I ~/.local/include recorder.c ~/.local/lib/libcapcheck_judge.a ~/.local/lib/libcapcheck_c.a -Wl,--exclude-libs,ALL -o recorder.so": "by hand, as examples/qemu/README.md has it",
     "cc -std=c11 -shared -fPIC -O2 -Iinclude -I/path/to/qemu/include/qemu examples/qemu/recorder.c judge/out/libcapcheck_judge.a crates/capcheck_c/out/libcapcheck_c.a -Wl,--exclude-libs,ALL -o recorder.so": "by hand, where QEMU is",
     "sh web/build.sh --keep": "by hand, after a change; web/check.sh builds the modules",
     "sh web/sources.sh --compare": "the gate",
@@ -84,11 +85,11 @@ BUILT = re.compile(r"install\.sh|libcapcheck_|pkg-config|\brt |^gdb |-m capcheck
 HAS_PACKAGE = sys.version_info >= (3, 10)
 COMMAND = re.compile(r"(\$|cc|sh|bash|cd|rt|python3|capcheck|capdiag|make|cat|git) ")
 
-# How a block of a page is run, by the word of its fence.
-PROGRAMS = {
-    "python": "python3 block.python",
-    "c": "cc -x c block.c $(pkg-config --cflags --libs capcheck) -o block && ./block",
-}
+# Pages whose commands need no repository: they run in the installation's share/capcheck.
+INSTALLED = ("docs/GDB.md", "docs/ALLOCATORS.md")
+
+# What would help a reader's program to a library or the package without a word of the page.
+HELPS = re.compile(r"LD_|PKG_CONFIG|PYTHON(PATH|HOME)|CAPCHECK|CAPDIAG|CAP_|HEAP_|CPATH|C_INCLUDE|LIBRARY_PATH|CPLUS_INCLUDE")
 
 # Files of the tree that pages show whole.
 SHOWN = {
@@ -136,12 +137,15 @@ def run(command, folder, given=None):
 
 def place(work, unproved):
     """A folder in which the tree's files stand by their names, and a home in which what is built is installed."""
-    os.environ.update(HOME=f"{work}/home", LD_LIBRARY_PATH=f"{work}/home/.local/lib", PATH=f"{work}/home/.local/bin:{os.environ['PATH']}")
-    os.environ.update(PKG_CONFIG_PATH=f"{work}/home/.local/lib/pkgconfig", PYTHONPATH=f"{work}/home/.local/share/capcheck")
+    programs = {name: os.path.abspath(os.environ[name.upper()]) for name in ("capcheck", "capdiag") if unproved}
+    for name in [*os.environ]:
+        if HELPS.match(name):
+            del os.environ[name]
+    os.environ.update(HOME=f"{work}/home", PATH=f"{work}/home/.local/bin:{os.environ['PATH']}")
     if unproved:
         os.makedirs(f"{work}/home/.local/bin")
-        for name in ("capcheck", "capdiag"):
-            os.symlink(os.path.abspath(os.environ[name.upper()]), f"{work}/home/.local/bin/{name}")
+        for name, path in programs.items():
+            os.symlink(path, f"{work}/home/.local/bin/{name}")
     else:
         subprocess.run(["sh", "install.sh", f"{work}/home/.local"], check=True, stdout=subprocess.DEVNULL)
     folder = f"{work}/tree"
@@ -152,11 +156,19 @@ def place(work, unproved):
     return folder
 
 
+def export(line, folder):
+    """Sets the variable of a line `export NAME=VALUE` for the rest of the page."""
+    if m := re.match(r"export (\w+)=", line):
+        os.environ[m[1]] = run(f'{line} && printf %s "${m[1]}"', folder)
+
+
 def sessions(page, text, folder, unproved):
     """Runs the sessions of a page; what is wrong, a line each, and how many commands it ran."""
     wrong, count, is_left = [], 0, False
     for first, _, lines in blocks(text):
         found = commands(first, lines)
+        for line in lines:
+            export(line.removeprefix("$ "), folder)
         for number, command, wanted in found:
             if unproved and BUILT.search(command[0]):
                 is_left = is_left or "install.sh" not in command[0] and "rt " not in command[0]
@@ -232,16 +244,18 @@ def shown(page, text):
 def programs(page, text, folder):
     """Runs the blocks of Python and C that a sentence follows, "It prints `..`", over the installed libraries."""
     wrong, count = [], 0
+    links = [line for _, _, lines in blocks(text) for line in lines if line.startswith("cc program.c ")]
     for first, word, lines in blocks(text):
         m = re.match(r"```\n\nIt prints `([^`]+)`", text[text.index("\n".join(lines)) + len("\n".join(lines)) + 1 :])
-        if not m or word not in PROGRAMS:
+        if not m or word not in ("python", "c"):
             continue
-        count += 1
-        with open(f"{folder}/block.{word}", "w", encoding="utf-8") as it:
+        with open(f"{folder}/program.{word}", "w", encoding="utf-8") as it:
             it.write("\n".join([*lines, ""]))
-        given = run(PROGRAMS[word], folder)
-        if given != f"{m[1]}\n":
-            wrong.append(f"{page}:{first}: the block prints\n{given}")
+        for command in ["python3 program.python"] if word == "python" else [f"{link} && ./program" for link in links]:
+            count += 1
+            given = run(command, folder)
+            if given != f"{m[1]}\n":
+                wrong.append(f"{page}:{first}: by `{command}` the block prints\n{given}")
     return wrong, count
 
 
@@ -334,10 +348,14 @@ def main(words):
                 text = it.read()
             with tempfile.TemporaryDirectory(dir=work) as room:
                 folder = f"{room}/tree"
-                shutil.copytree(tree, folder, symlinks=True)
+                shutil.copytree(f"{work}/home/.local/share/capcheck" if page in INSTALLED and not unproved else tree, folder, symlinks=True)
+                before = dict(os.environ)
+                run_sessions = sessions(page, text, folder, unproved)
                 run_blocks = ([], 0) if unproved else programs(page, text, folder)
                 run_python = ([], 0) if unproved else doctests(page, text, folder)
-                for bad, tried in (sessions(page, text, folder, unproved), rows(page, text, folder), shown(page, text), run_blocks, run_python, links(page, text), counted(page, text)):
+                os.environ.clear()
+                os.environ.update(before)
+                for bad, tried in (run_sessions, rows(page, text, folder), shown(page, text), run_blocks, run_python, links(page, text), counted(page, text)):
                     wrong += bad
                     count += tried
     if not unproved and not is_installed():
