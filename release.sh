@@ -57,5 +57,9 @@ failed() { echo "release.sh: $1" >&2; exit 1; }
 sha256sum -c --quiet SHA256SUMS
 [ "$(env -i bin/capcheck judge examples/moves.log)" = 'yes 2 1' ] || failed 'capcheck gives another verdict'
 [ "$(env -i bin/capdiag why examples/escaped_bound.log | head -n 1)" = 'no 5 11 BoundsEscape' ] || failed 'capdiag gives another verdict'
+if command -v pkg-config > /dev/null; then
+    env -i PATH="$PATH" PKG_CONFIG_PATH="$PWD/lib/pkgconfig" sh -c "${CC:-cc} "'share/capcheck/examples/emulator/emulator.c $(pkg-config --cflags --libs capcheck) -o emulator'
+    [ "$(env -i ./emulator | env -i bin/capcheck judge)" = 'yes 27 1' ] || failed 'a program over the libraries prints otherwise'
+fi
 [ "$needed" = libc.so.6 ] || failed "other libraries are needed: $needed"
 echo "out/$name.tar.gz: $(wc -c < "$OLDPWD/out/$name.tar.gz") bytes; needs libc.so.6 of ${glibc#GLIBC_} or later"

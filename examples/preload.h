@@ -18,6 +18,12 @@ static void keep_standard_error(void) {
     if (copy >= 0) said_on = copy;
 }
 
+/* What errno means. strerror would take a lock of the C library, which may hold it while it allocates. */
+static const char *reason(void) {
+    const char *text = strerrordesc_np(errno);
+    return text ? text : "unknown error";
+}
+
 /* The folder that a variable names: NULL, after a message, if there is none. */
 static char *place_of(const char *variable) {
     char *given = getenv(variable);

@@ -200,7 +200,8 @@ class Asked:
             with _alone():
                 yield _call("capcheck_judge_text", 0)
         except gdb.error:
-            gdb.selected_inferior().write_memory(self.at, before)
+            with contextlib.suppress(gdb.error):  # A core file can't be written.
+                gdb.selected_inferior().write_memory(self.at, before)
             raise
 
     def answer(self, name, size, *numbers):

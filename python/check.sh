@@ -5,7 +5,7 @@
 #   sh python/check.sh [PREFIX]
 #
 # PREFIX is the folder that install.sh installed below; without it, the script installs into a folder of its own. The words of
-# the tests are WORDS, or 10000.
+# the tests are WORDS, or 10000. The tests of words run in each Python of PYTHONS that is here, too.
 set -eu
 cd "$(dirname "$0")/.."
 work=$(mktemp -d)
@@ -30,6 +30,10 @@ while read -r word; do
     "$CAPCHECK" explain "$word"
 done < "$work/words" > "$EXPLAINED"
 PYTHONPATH="$prefix/share/capcheck" python3 -m unittest discover -q python/tests
+for other in ${PYTHONS:-python3.10 python3.12 python3.13}; do
+    "$other" -c '' 2> "$work/said" || { left_out "the tests of words in $other"; continue; }
+    PYTHONPATH="$prefix/share/capcheck" "$other" -m unittest discover -q -p test_words.py python/tests
+done
 
 if python3 -m pip --version > "$work/said" 2>&1; then
     CAPCHECK_LIB="$prefix/lib" python3 -m pip install -q --no-index --no-deps --disable-pip-version-check --root-user-action=ignore --target "$work/site" ./python

@@ -25,7 +25,7 @@ told 'an allocator that rounds' "$(judged two "$work/record.so $work/rounded.so"
 # The shell's child ends by itself, so its log, which begins with that of its parent, is whole too.
 told 'a shell and its child' "$(judged three "$work/record.so $work/rounded.so" sh -c '(exit 0); :' | cut -d ' ' -f 1 | sort | uniq -c | tr -s ' ')" ' 2 yes'
 # It says what is in a log, and why it records nothing or less. A program that changes its folder has its children recorded.
-silent() { env "$@" 2>&1 > /dev/null | sed "s|$work/||; s/[0-9][0-9]*\.log/N.log/"; }
+silent() { timeout 60 env "$@" 2>&1 > /dev/null | sed "s|$work/||; s/[0-9][0-9]*\.log/N.log/"; }
 preload="LD_PRELOAD=$work/record.so"
 mkdir "$work/four" "$work/five"
 told 'what is in a log' "$(silent "$preload" HEAP_LOGS="$work/five" "$work/asks")" 'record: 3 objects, 6 events, five/asks.N.log'

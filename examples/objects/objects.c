@@ -99,7 +99,7 @@ static void flush(void) { /* a pipe without a reader ends the log, and not the p
         ssize_t count = write(file, text + at, used - at);
         if (count > 0) at += (size_t)count;
         else if (errno != EINTR) {
-            fault = errno == EPIPE ? "the pipe has no reader" : strerror(errno);
+            fault = errno == EPIPE ? "the pipe has no reader" : reason();
             if (errno == EPIPE) sigtimedwait(&pipe_signal, NULL, &(struct timespec){0, 0});
         }
     }
@@ -178,7 +178,7 @@ static void begin(void) {
     if (is_folder) snprintf(path, sizeof path, "%s/%s.%d.log", place, program_invocation_short_name, getpid());
     else snprintf(path, sizeof path, "%s", place);
     int opened = open(path, O_WRONLY | O_CREAT | O_TRUNC | O_CLOEXEC, 0644);
-    if (opened < 0) { SAY("cannot write %s: %s: nothing is recorded", path, strerror(errno)); return; }
+    if (opened < 0) { SAY("cannot write %s: %s: nothing is recorded", path, reason()); return; }
     nodes = mmap(NULL, sizeof(node) * NODES, PROT_READ | PROT_WRITE, MAP_PRIVATE | MAP_ANONYMOUS | MAP_NORESERVE, -1, 0);
     if (nodes == MAP_FAILED) { SAY("no memory for %d objects: nothing is recorded", NODES); return; }
     if (!is_folder) { /* one log fits in a pipe or a file: what this program starts is told so */
