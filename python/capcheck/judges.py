@@ -144,7 +144,8 @@ class Judge:
         _c.capcheck_judge_close(self._pointer)
 
     def __del__(self) -> None:
-        self.close()
+        if hasattr(self, "_pointer"):  # It was made.
+            self.close()
 
     @property
     def _open(self) -> Any:

@@ -124,6 +124,10 @@ class Judging(unittest.TestCase):
                 call()
             self.assertEqual(str(raised.exception), "the judge is closed")
 
+    def test_a_judge_that_is_not_made(self):
+        ran = subprocess.run(["python3", "-c", "import capcheck\ntry: capcheck.Judge(5)\nexcept TypeError: pass"], capture_output=True, text=True)
+        self.assertEqual((ran.returncode, ran.stderr), (0, ""))
+
     def test_a_judge_that_raises(self):
         with Judge(raises=True) as judge:
             self.assertTrue(judge.feed(f"capcheck 1\n{ROOT}".encode()))
