@@ -328,7 +328,8 @@ def versions():
     if f"{number // 10000}.{number // 100 % 100}." != version[: version.rindex(".") + 1]:
         yield f"include/capcheck.h: CAPCHECK_VERSION is {number}, and the version as text {version}"
     for path, form in (("docs/capcheck.1", r'"capcheck (\S+)"'), ("docs/capdiag.1", r'"capcheck (\S+)"'), ("CHANGELOG.md", r"(?m)^## (\d\S*)"),
-                       ("crates/capcheck_c/src/names.rt", r'VERSION: &str = "(\S+)"'), ("crates/capdiag/src/help.rt", r'"capdiag (\d[^\\]*)')):
+                       ("crates/capcheck_c/src/names.rt", r'VERSION: &str = "(\S+)"'), ("crates/capdiag/src/help.rt", r'"capdiag (\d[^\\]*)'),
+                       ("rust/Cargo.toml", r'(?m)^version = "(.*)"')):
         with open(path, encoding="utf-8") as it:
             found = re.search(form, it.read())
         if not found or found[1] != version:
