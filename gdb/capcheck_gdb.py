@@ -137,9 +137,9 @@ structs, or as many granules of memory, each after its place."""
 
     def invoke(self, text, from_tty):
         flags, what = re.fullmatch(r"((?:/(?:v|[0-9]+)\b)*)\s*(.*)", text.strip()).groups()
-        if not what or what.startswith("/"):
-            raise gdb.GdbError("capcheck[/v][/N] EXPRESSION: see help capcheck")
         counts = [int(it) for it in re.findall("[0-9]+", flags)]
+        if not what or what.startswith("/") or 0 in counts:
+            raise gdb.GdbError("capcheck[/v][/N] EXPRESSION: see help capcheck")
         digits = re.fullmatch(r"(?:([01])[ :])?((?:0x)?[0-9a-fA-F]{16}[ _:]?(?:0x)?[0-9a-fA-F]{16})", what)
         if digits:
             found = [("", Capability.parse(re.sub("0x", "", digits[2]), digits[1] == "1"), digits[1] is not None)]

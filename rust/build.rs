@@ -33,8 +33,10 @@ fn folder() -> PathBuf {
     };
     let has_all = |folder: &PathBuf| LIBRARIES.iter().all(|library| archive(folder, library).exists());
     found.filter(has_all).unwrap_or_else(|| {
-        eprintln!("capcheck: libcapcheck_judge.a and libcapcheck_c.a weren't found: set CAPCHECK_LIB to their folder, \
-                   or PKG_CONFIG_PATH to that of capcheck_judge.pc");
+        eprintln!(
+            "capcheck: libcapcheck_judge.a and libcapcheck_c.a weren't found: set CAPCHECK_LIB to their folder, \
+                   or PKG_CONFIG_PATH to that of capcheck_judge.pc"
+        );
         exit(1)
     })
 }

@@ -161,7 +161,9 @@ impl Judge {
         let state = unsafe {
             match *line {
                 Line::Move { target, source, recorded } => abi::capcheck_judge_move(judge, target, source, recorded.into()),
-                Line::ClearTag { target, source, recorded } => abi::capcheck_judge_cleartag(judge, target, source, recorded.into()),
+                Line::ClearTag { target, source, recorded } => {
+                    abi::capcheck_judge_cleartag(judge, target, source, recorded.into())
+                }
                 Line::SetBounds { target, source, length, recorded } => {
                     abi::capcheck_judge_setbounds(judge, target, source, length, recorded.into())
                 }
@@ -185,7 +187,9 @@ impl Judge {
                 }
                 Line::StoreCapability { source, authority, offset } => abi::capcheck_judge_sc(judge, source, authority, offset),
                 Line::Load { authority, offset, size, value } => abi::capcheck_judge_load(judge, authority, offset, size, value),
-                Line::Store { authority, offset, size, value } => abi::capcheck_judge_store(judge, authority, offset, size, value),
+                Line::Store { authority, offset, size, value } => {
+                    abi::capcheck_judge_store(judge, authority, offset, size, value)
+                }
                 Line::Version(_) | Line::Mode { .. } | Line::Root { .. } | Line::RootAt { .. } | Line::End { .. } => {
                     return self.line(&line.write().map_err(|_| Fault::NoLine)?);
                 }

@@ -2,9 +2,9 @@
 //! words, bounds, operations, the lines of a log, and the judge, which an emulator asks after each step.
 //!
 //! ```
-//! use capcheck::{Capability, Judge, Line, Refusal, Verdict};
+//! use capcheck::{permissions, Capability, Judge, Line, Refusal, Verdict};
 //!
-//! let root = Capability::root(0, 1 << 64, capcheck::ALL_PERMISSIONS).unwrap();
+//! let root = Capability::root(0, 1 << 64, permissions::ALL_PERMISSIONS).unwrap();
 //! let object = root.set_address(0x1000)?.set_bounds(0x20)?;
 //! assert_eq!(object.to_string(), "0x1000 [rwxRW,0x1000-0x1020]");
 //! assert_eq!(object.set_bounds(0x21), Err(Refusal::BoundsEscape));
@@ -20,9 +20,12 @@
 //! ```
 //!
 //! Each function calls the function of the C headers that does the same; these say more of what it returns.
+#![warn(missing_docs)]
+
 mod abi;
 mod judges;
 mod lines;
+pub mod permissions;
 mod refusals;
 mod words;
 

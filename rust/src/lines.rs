@@ -14,25 +14,92 @@ pub enum Line {
     /// The first line: version 1 or 2.
     Version(u64),
     /// The second line of a log of version 2.
-    Mode { clear: bool },
+    Mode {
+        clear: bool,
+    },
     /// A root in a register.
-    Root { target: u64, word: u128 },
+    Root {
+        target: u64,
+        word: u128,
+    },
     /// A root in the granule at an address, a multiple of 16.
-    RootAt { address: u64, word: u128 },
-    Move { target: u64, source: u64, recorded: Capability },
-    ClearTag { target: u64, source: u64, recorded: Capability },
-    SetBounds { target: u64, source: u64, length: u64, recorded: Capability },
-    SetBoundsExact { target: u64, source: u64, length: u64, recorded: Capability },
-    SetAddress { target: u64, source: u64, address: u64, recorded: Capability },
-    AndPermissions { target: u64, source: u64, mask: u64, recorded: Capability },
-    Seal { target: u64, source: u64, authority: u64, recorded: Capability },
-    Unseal { target: u64, source: u64, authority: u64, recorded: Capability },
-    LoadCapability { target: u64, authority: u64, offset: i64, recorded: Capability },
-    StoreCapability { source: u64, authority: u64, offset: i64 },
-    Load { authority: u64, offset: i64, size: u64, value: u64 },
-    Store { authority: u64, offset: i64, size: u64, value: u64 },
+    RootAt {
+        address: u64,
+        word: u128,
+    },
+    Move {
+        target: u64,
+        source: u64,
+        recorded: Capability,
+    },
+    ClearTag {
+        target: u64,
+        source: u64,
+        recorded: Capability,
+    },
+    SetBounds {
+        target: u64,
+        source: u64,
+        length: u64,
+        recorded: Capability,
+    },
+    SetBoundsExact {
+        target: u64,
+        source: u64,
+        length: u64,
+        recorded: Capability,
+    },
+    SetAddress {
+        target: u64,
+        source: u64,
+        address: u64,
+        recorded: Capability,
+    },
+    AndPermissions {
+        target: u64,
+        source: u64,
+        mask: u64,
+        recorded: Capability,
+    },
+    Seal {
+        target: u64,
+        source: u64,
+        authority: u64,
+        recorded: Capability,
+    },
+    Unseal {
+        target: u64,
+        source: u64,
+        authority: u64,
+        recorded: Capability,
+    },
+    LoadCapability {
+        target: u64,
+        authority: u64,
+        offset: i64,
+        recorded: Capability,
+    },
+    StoreCapability {
+        source: u64,
+        authority: u64,
+        offset: i64,
+    },
+    Load {
+        authority: u64,
+        offset: i64,
+        size: u64,
+        value: u64,
+    },
+    Store {
+        authority: u64,
+        offset: i64,
+        size: u64,
+        value: u64,
+    },
     /// The last line: the number of step lines, below 2^32.
-    End { steps: u64 },
+    End {
+        steps: u64,
+    },
 }
 
 /// A number of a line is out of range.

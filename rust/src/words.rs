@@ -1,29 +1,8 @@
 //! Words, bounds and operations.
 use crate::abi::{self, Cap, Wide, Word};
+use crate::permissions::{EXECUTE, LOAD, LOAD_CAPABILITY, OTYPE_SENTRY, STORE, STORE_CAPABILITY};
 use crate::refusals::Refusal;
 use std::{error, fmt, str};
-
-/// Permissions in the architectural view, as [`Capability::permissions`] returns them.
-pub const GLOBAL: u32 = 0x1;
-pub const EXECUTE: u32 = 0x2;
-pub const LOAD: u32 = 0x4;
-pub const STORE: u32 = 0x8;
-pub const LOAD_CAPABILITY: u32 = 0x10;
-pub const STORE_CAPABILITY: u32 = 0x20;
-pub const STORE_LOCAL_CAPABILITY: u32 = 0x40;
-pub const SEAL: u32 = 0x80;
-pub const CINVOKE: u32 = 0x100;
-pub const UNSEAL: u32 = 0x200;
-pub const ACCESS_SYSTEM_REGISTERS: u32 = 0x400;
-pub const SET_CID: u32 = 0x800;
-pub const USER_PERMISSIONS: u32 = 0x78000;
-pub const ALL_PERMISSIONS: u32 = 0x78fff;
-
-/// Object types: unsealed, a sealed entry point (sentry), the least reserved type, the greatest that sealing gives.
-pub const OTYPE_UNSEALED: u32 = 0x3ffff;
-pub const OTYPE_SENTRY: u32 = 0x3fffe;
-pub const OTYPE_LEAST_RESERVED: u32 = 0x3fffc;
-pub const OTYPE_GREATEST: u32 = 0x3fffb;
 
 /// A capability: its word in the register layout, and its tag. An operation on an untagged one checks nothing.
 #[derive(Clone, Copy, PartialEq, Eq, Hash)]
@@ -134,7 +113,7 @@ impl Capability {
     }
 
     /// A tagged, unsealed root with the rounded bounds of `length` bytes from `base`. None if they end above 2^64, or if a
-    /// bit of `permissions` isn't in [`ALL_PERMISSIONS`].
+    /// bit of `permissions` isn't in [`permissions::ALL_PERMISSIONS`](crate::permissions::ALL_PERMISSIONS).
     pub fn root(base: u64, length: u128, permissions: u32) -> Option<Capability> {
         let found = unsafe { abi::capcheck_root(base, wide(length), permissions) };
         (found.present != 0).then(|| Capability::new(word_of(found.word), true))
@@ -172,7 +151,8 @@ impl Capability {
 
     /// The fields of the word.
     pub fn fields(self) -> Fields {
-        let abi::Fields { address, otype, perms, b, t, e, ie, flag, reserved } = unsafe { abi::capcheck_split(to_word(self.word)) };
+        let abi::Fields { address, otype, perms, b, t, e, ie, flag, reserved } =
+            unsafe { abi::capcheck_split(to_word(self.word)) };
         Fields { address, otype, perms, b, t, e, ie: ie != 0, flag: flag != 0, reserved }
     }
 
@@ -208,7 +188,7 @@ impl Capability {
         unsafe { abi::capcheck_perm_view(to_word(self.word)) }
     }
 
-    /// Whether the object type isn't [`OTYPE_UNSEALED`].
+    /// Whether the object type isn't [`permissions::OTYPE_UNSEALED`](crate::permissions::OTYPE_UNSEALED).
     pub fn is_sealed(self) -> bool {
         unsafe { abi::capcheck_sealed(to_word(self.word)) }
     }
@@ -340,7 +320,8 @@ impl fmt::Display for Capability {
         let letters = [('r', LOAD), ('w', STORE), ('x', EXECUTE), ('R', LOAD_CAPABILITY), ('W', STORE_CAPABILITY)];
         let letters: String = letters.iter().filter(|it| permissions & it.1 != 0).map(|it| it.0).collect();
         let sentry = self.fields().otype == OTYPE_SENTRY;
-        let notes = [("untagged", !self.tag), ("sentry", sentry), ("sealed", self.is_sealed() && !sentry), ("unsound", !self.is_sound())];
+        let notes =
+            [("untagged", !self.tag), ("sentry", sentry), ("sealed", self.is_sealed() && !sentry), ("unsound", !self.is_sound())];
         let notes: Vec<&str> = notes.iter().filter(|it| it.1).map(|it| it.0).collect();
         let notes = if notes.is_empty() { String::new() } else { format!(" ({})", notes.join(",")) };
         to.pad(&format!("{:#x} [{letters},{base:#x}-{top:#x}]{notes}", self.address()))

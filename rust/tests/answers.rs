@@ -38,8 +38,22 @@ fn read(it: Capability) -> String {
     assert_eq!(Capability::from_fields(f, it.tag()), Some(it));
     format!(
         "{base:x} {top:x} {:x} {} {} {:x} {:x} {:x} {:x} {memory} {:x} {:x} {:x} {:x} {:x} {:x} {:x} {:x} {:x}",
-        it.length(), u8::from(it.is_sound()), u8::from(it.is_sealed()), it.permissions(), it.mantissa(), reach.start, reach.size,
-        f.address, f.otype, f.perms, f.b, f.t, f.e, u8::from(f.ie), u8::from(f.flag), f.reserved
+        it.length(),
+        u8::from(it.is_sound()),
+        u8::from(it.is_sealed()),
+        it.permissions(),
+        it.mantissa(),
+        reach.start,
+        reach.size,
+        f.address,
+        f.otype,
+        f.perms,
+        f.b,
+        f.t,
+        f.e,
+        u8::from(f.ie),
+        u8::from(f.flag),
+        f.reserved
     )
 }
 
@@ -185,7 +199,10 @@ fn what_is_out_of_range_is_an_error() {
     assert_eq!(judge.end().to_string(), "no 1 1 BadHeader");
     let moved = std::thread::spawn(move || judge.goes_on()).join().unwrap();
     assert_eq!(moved.unwrap_err().to_string(), "line 1 is refused: BadHeader");
-    assert_eq!((read_lines(b"end 0\nx\n").count(), judge_bytes(b"")), (1, Ok(Verdict::No { line: 1, refusal: Refusal::Truncated })));
+    assert_eq!(
+        (read_lines(b"end 0\nx\n").count(), judge_bytes(b"")),
+        (1, Ok(Verdict::No { line: 1, refusal: Refusal::Truncated }))
+    );
 }
 
 #[test]
