@@ -195,13 +195,13 @@ static void begin(void) {
     put(capcheck_line_mode(text + used, 0));
     put(capcheck_line_root(text + used, ROOT, root.word));
 }
-/* A child of a program with threads finds no lock held, and isn't recorded. */
-static void before_fork(void) { pthread_mutex_lock(&lock); }
-static void in_parent(void) { pthread_mutex_unlock(&lock); }
+/* A child of a program with threads finds no lock held, and isn't recorded. A signal's handler may fork inside the recorder. */
+static void before_fork(void) { if (depth == 0) pthread_mutex_lock(&lock); }
+static void in_parent(void) { if (depth == 0) pthread_mutex_unlock(&lock); }
 static void in_child(void) {
     if (file >= 0) { close(file); close(said_on); }
     file = -1;
-    pthread_mutex_unlock(&lock);
+    in_parent();
 }
 
 /* ---- The calls that it stands before ---- */
