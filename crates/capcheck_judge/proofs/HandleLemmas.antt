@@ -42,9 +42,9 @@ held_origin held bytes holds judge is root key told =
 
 -- there is a place exactly if its kind isn't 0
 pub passed_some : (root : Option Place) (passed : PassedPlace) → IsPassed root passed → (passed.kind ≢ 0) ↔ IsTrue (is_some root)
-passed_some None passed is = (λ some. absurd (some is.0), λ some. absurd (some))
-passed_some (Some (Place.Register n)) passed is = (λ some. tt, λ yes none. omega (arith, none, is.0))
-passed_some (Some (Place.Granule n)) passed is = (λ some. tt, λ yes none. omega (arith, none, is.0))
+passed_some None passed is = (λ some. absurd (some is.0), λ yes none. false≢true yes)
+passed_some (Some (Place.Register n)) passed is = (λ some. refl, λ yes none. omega (arith, none, is.0))
+passed_some (Some (Place.Granule n)) passed is = (λ some. refl, λ yes none. omega (arith, none, is.0))
 
 -- what holds a judge isn't without one
 pub there : (held : HeldJudge) (judge : J) → held ≡ Some judge → held ≡ None → ⊥

@@ -85,6 +85,12 @@ pub extern "C" fn capcheck_judge_origin(
         → (holds : Holds (held_in judge.old) bytes) → IsPassed (origin_behind holds place.number) result }
     ensures granule { place.kind ≡ 2 → (bytes : List ℕ) → (holds : Holds (held_in judge.old) bytes)
         → IsPassed (origin_behind holds (granule_key (place.number / 16))) result }
+
+    // There is one exactly if the place holds a tagged capability.
+    ensures register_tag { place.kind ≡ 1 → 1 ≤ place.number → place.number ≤ 31 → (bytes : List ℕ)
+        → (holds : Holds (held_in judge.old) bytes) → (result.kind ≢ 0) ↔ IsTrue (tag_behind holds place.number) }
+    ensures granule_tag { place.kind ≡ 2 → (bytes : List ℕ) → (holds : Holds (held_in judge.old) bytes)
+        → (result.kind ≢ 0) ↔ IsTrue (tag_behind holds (granule_key (place.number / 16))) }
     ensures no_place { (place.kind ≢ 1) × (place.kind ≢ 2) → IsPassed None result }
     ensures no_register { (place.kind ≡ 1) × ((place.number ≡ 0) ⊎ (31 < place.number)) → IsPassed None result }
     ensures no_judge { held_in judge.old ≡ None → IsPassed None result }
