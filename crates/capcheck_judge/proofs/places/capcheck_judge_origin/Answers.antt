@@ -26,7 +26,7 @@ tells_tag c bytes holds place named =
     let some = c.in-Some.is in
     let same : c.in-Some.of ≡ place = cc (some, named) in
     let tag = c.origin-root.ensures.tagged
-        ∙ ap (λ (cap : Cap). cap.tag) (held_state c.args.judge.now.judge bytes holds c.deref.result.now is _ (key_of c.in-Some.of) refl) in
+    ∙ ap (λ (cap : Cap). cap.tag) (held_state c.args.judge.now.judge bytes holds c.deref.result.now is _ (key_of c.in-Some.of) refl) in
     subst (λ (b : Bool). (c.passed-in-Some-take.result.kind ≢ 0) ↔ IsTrue b) (tag ∙ ap (λ (p : Place). tag_behind holds (key_of p)) same)
     (passed_some c.origin-root.result c.passed-in-Some-take.result c.passed-in-Some-take.ensures.passed)
 
