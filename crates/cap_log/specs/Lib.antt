@@ -1,4 +1,5 @@
 pub mod Heads
+pub mod Kinds
 pub mod Lines
 pub mod Parts
 pub mod Ranges

@@ -31,11 +31,12 @@ macro_rules! first_found {
 
 mod accesses;
 mod operations;
+mod shapes;
 
 use crate::buffers::put;
-pub use crate::kinds::accesses::{Load, LoadCap, Store, StoreCap};
-pub use crate::kinds::operations::{
-    AndPerm, ClearTag, Move, Seal, SetAddr, SetBounds, SetBoundsExact, Unseal,
+pub use crate::kinds::shapes::{
+    AndPerm, Authorized, ClearTag, Data, Load, LoadCap, Move, Numbered, Plain, Seal, SetAddr,
+    SetBounds, SetBoundsExact, Store, StoreCap, Unseal,
 };
 use crate::lines::{Line, Mode, Place};
 use crate::operands::{Operands, take_parts, take_step, write_parts};
