@@ -14,19 +14,19 @@ cleartag_passed target source recorded = ClearTag (record { target = target; sou
 
 -- `setbounds`
 abbrev pub setbounds_passed : ℕ → ℕ → ℕ → Capability → Step
-setbounds_passed target source length recorded = SetBounds (record { target = target; source = source; length = length; result = cap_of recorded })
+setbounds_passed target source length recorded = SetBounds (record { target = target; source = source; number = length; result = cap_of recorded })
 
 -- `setboundsexact`
 abbrev pub setboundsexact_passed : ℕ → ℕ → ℕ → Capability → Step
-setboundsexact_passed target source length recorded = SetBoundsExact (record { target = target; source = source; length = length; result = cap_of recorded })
+setboundsexact_passed target source length recorded = SetBoundsExact (record { target = target; source = source; number = length; result = cap_of recorded })
 
 -- `setaddr`
 abbrev pub setaddr_passed : ℕ → ℕ → ℕ → Capability → Step
-setaddr_passed target source address recorded = SetAddr (record { target = target; source = source; address = address; result = cap_of recorded })
+setaddr_passed target source address recorded = SetAddr (record { target = target; source = source; number = address; result = cap_of recorded })
 
 -- `andperm`
 abbrev pub andperm_passed : ℕ → ℕ → ℕ → Capability → Step
-andperm_passed target source mask recorded = AndPerm (record { target = target; source = source; mask = mask; result = cap_of recorded })
+andperm_passed target source mask recorded = AndPerm (record { target = target; source = source; number = mask; result = cap_of recorded })
 
 -- `seal`
 abbrev pub seal_passed : ℕ → ℕ → ℕ → Capability → Step

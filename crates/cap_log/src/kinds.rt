@@ -35,8 +35,8 @@ mod shapes;
 
 use crate::buffers::put;
 pub use crate::kinds::shapes::{
-    AndPerm, Authorized, ClearTag, Data, Load, LoadCap, Move, Numbered, Plain, Seal, SetAddr,
-    SetBounds, SetBoundsExact, Store, StoreCap, Unseal,
+    ADDRESS, AndPerm, Authorized, ClearTag, Data, EXACT_LENGTH, LENGTH, Load, LoadCap, Move,
+    Numbered, Plain, Seal, SetAddr, SetBounds, SetBoundsExact, Store, StoreCap, Unseal,
 };
 use crate::lines::{Line, Mode, Place};
 use crate::operands::{Operands, take_parts, take_step, write_parts};

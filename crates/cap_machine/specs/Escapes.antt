@@ -7,8 +7,8 @@ use Rattle.cap_machine.specs.States.{State, DeclaredRoot, start}
 
 -- the register that a step takes bounds from, and the requested length
 abbrev pub asked_by : Step → Option (ℕ × ℕ)
-asked_by (SetBounds step) = Some (step.source, step.length)
-asked_by (SetBoundsExact step) = Some (step.source, step.length)
+asked_by (SetBounds step) = Some (step.source, step.number)
+asked_by (SetBoundsExact step) = Some (step.source, step.number)
 asked_by step = None
 
 -- the requested bounds, before rounding, do not lie inside those of a tagged, unsealed source
@@ -27,7 +27,7 @@ Escapes rules state step = (rules ≢ TwoClear) × AsksBeyond state (asked_by st
 abbrev pub ClearsBeyond : Rules → State → Step → State → Type 0
 ClearsBeyond rules old (SetBounds step) new =
     rules ≡ TwoClear → IsTrue (old step.source).tag → IsFalse (is_sealed (old step.source).word.0)
-    → IsFalse (new step.target).tag ↔ (HasRoomFor (old step.source) step.length → ⊥)
+    → IsFalse (new step.target).tag ↔ (HasRoomFor (old step.source) step.number → ⊥)
 ClearsBeyond rules old step new = Unit {0}
 
 -- the same of each step of a run, from the state at its moment to the next

@@ -15,9 +15,9 @@ use Rattle.cap_machine.specs.declared.shown.Request.TheVariants as requests
 -- what an operation on registers asks for: bounds of a length, an address, or an authority over object types with a
 -- permission
 abbrev pub request_of : Step → Request
-request_of (SetBounds step) = requests.Length step.length
-request_of (SetBoundsExact step) = requests.Length step.length
-request_of (SetAddr step) = requests.Address step.address
+request_of (SetBounds step) = requests.Length step.number
+request_of (SetBoundsExact step) = requests.Length step.number
+request_of (SetAddr step) = requests.Address step.number
 request_of (Seal step) = requests.Authority step.authority (2 ^ permit_seal)
 request_of (Unseal step) = requests.Authority step.authority (2 ^ permit_unseal)
 request_of step = requests.Nothing

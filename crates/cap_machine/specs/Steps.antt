@@ -76,13 +76,13 @@ abbrev pub row_of : State → Step → Row
 row_of state (Move step) = operation step.target step.source step.result [] (state step.source)
 row_of state (ClearTag step) = operation step.target step.source step.result [] (cleared (state step.source))
 row_of state (SetBounds step) =
-    operation step.target step.source step.result (set_bounds_checks (state step.source) step.length false) (set_bounds_result (state step.source) step.length)
+    operation step.target step.source step.result (set_bounds_checks (state step.source) step.number false) (set_bounds_result (state step.source) step.number)
 row_of state (SetBoundsExact step) =
-    operation step.target step.source step.result (set_bounds_checks (state step.source) step.length true) (set_bounds_result (state step.source) step.length)
+    operation step.target step.source step.result (set_bounds_checks (state step.source) step.number true) (set_bounds_result (state step.source) step.number)
 row_of state (SetAddr step) =
-    operation step.target step.source step.result (set_addr_checks (state step.source) step.address) (set_addr_result (state step.source) step.address)
+    operation step.target step.source step.result (set_addr_checks (state step.source) step.number) (set_addr_result (state step.source) step.number)
 row_of state (AndPerm step) =
-    operation step.target step.source step.result (and_perm_checks (state step.source)) (and_perm_result (state step.source) step.mask)
+    operation step.target step.source step.result (and_perm_checks (state step.source)) (and_perm_result (state step.source) step.number)
 row_of state (Seal step) =
     operation step.target step.source step.result (seal_checks (state step.source) (state step.authority)) (seal_result (state step.source) (state step.authority))
 row_of state (Unseal step) =

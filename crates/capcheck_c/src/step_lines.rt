@@ -235,19 +235,19 @@ pub(crate) fn step_read(step: Step, count: usize) -> LineRead
             count,
         ),
         Step::SetBounds(step) => LineRead {
-            number: step.length,
+            number: step.number,
             ..LineRead::recorded(SETBOUNDS, step.target, step.source, step.result, count)
         },
         Step::SetBoundsExact(step) => LineRead {
-            number: step.length,
+            number: step.number,
             ..LineRead::recorded(SETBOUNDSEXACT, step.target, step.source, step.result, count)
         },
         Step::SetAddr(step) => LineRead {
-            number: step.address,
+            number: step.number,
             ..LineRead::recorded(SETADDR, step.target, step.source, step.result, count)
         },
         Step::AndPerm(step) => LineRead {
-            number: step.mask,
+            number: step.number,
             ..LineRead::recorded(ANDPERM, step.target, step.source, step.result, count)
         },
         Step::Seal(step) => LineRead {

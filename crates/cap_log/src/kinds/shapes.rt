@@ -40,14 +40,17 @@ impl<const IS_CLEARING: bool> Plain<IS_CLEARING> {
     }
 }
 
-// What the number of a step is: the length of bounds, such a length that isn't rounded, an address, or a mask.
-pub(crate) const LENGTH: u8 = 0;
+/// The number of a step is the length of bounds.
+pub const LENGTH: u8 = 0;
 
-pub(crate) const EXACT_LENGTH: u8 = 1;
+/// It is a length that isn't rounded.
+pub const EXACT_LENGTH: u8 = 1;
 
-pub(crate) const ADDRESS: u8 = 2;
+/// It is an address.
+pub const ADDRESS: u8 = 2;
 
-pub(crate) const MASK: u8 = 3;
+// It is a mask.
+const MASK: u8 = 3;
 
 /// What a step takes that has a source and a number, and what it records.
 #[derive(Clone, Copy, Debug, PartialEq, Eq)]
