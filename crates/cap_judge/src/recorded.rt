@@ -3,7 +3,7 @@
 #![tactic(auto, unfolding(cap_log::specs::Lines::spelling))]
 
 ghost use Rattle.std.specs.Prelude.{◌≡◌, ◌∷◌, ◌++◌, IfSome, Ok, true};
-ghost use Rattle.cap_log.specs.{Heads.head_spelling, Kinds.{numbered_step, plain_step}, Lines.{IsInRange, spelling}, Parts.{Begins, result_spelling}};
+ghost use Rattle.cap_log.specs.{Heads.{head_spelling, numbered_step, plain_step}, Lines.{IsInRange, spelling}, Parts.{Begins, result_spelling}};
 ghost use Rattle.cap_log.specs.declared.lines.Line.TheVariants as lines;
 ghost use Rattle.cap_machine.specs.{Changes.result_in, Helds.{EndsBy, state_of}, States.{State, untagged_null}};
 ghost use Rattle.cap_machine.specs.Steps.{Recorded.Written, Row, row_of};

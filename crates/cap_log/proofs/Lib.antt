@@ -3,7 +3,6 @@ mod Decimals
 pub mod DecidedLines
 pub mod ElementLemmas
 mod FewLemmas
-mod KindLemmas
 mod OffsetLemmas
 mod OperandLemmas
 mod PartLemmas

@@ -1,5 +1,4 @@
 pub mod Heads
-pub mod Kinds
 pub mod Lines
 pub mod Parts
 pub mod Ranges

@@ -19,7 +19,7 @@ use Rattle.cap_log.specs.Lines.{IsStepInRange}
 use Rattle.cap_machine.specs.declared.{ends.StepEnd.{StepEnd, TheVariants.{Refused, NoMemory}}, rules.Rules.Rules}
 use Rattle.cap_machine.specs.{declared.rules.Rules.TheVariants.{One, TwoStrict, TwoClear}, Accounts.{Account, row_in}}
 use Rattle.cap_machine.specs.{Accounts.step_checks, Escapes.{AsksBeyond, ClearsBeyond, ClearsExactly, Escapes}}
-use Rattle.cap_machine.specs.{Escapes.asked_by, Helds.{Held, AnswersStep, state_of, account_of, checks_by}}
+use Rattle.cap_machine.specs.{Steps.asked_by, Helds.{Held, AnswersStep, state_of, account_of, checks_by}}
 use Rattle.cap_machine.specs.{Parents.{IsSoundState, StaysWithinParents}, Runs.{AreSound, IsRun, state_at}}
 use Rattle.cap_machine.specs.States.{State, DeclaredRoot, put, start}
 use Rattle.cap_machine.specs.Steps.{Access, Leads, Row, Written, clear_row, row_by, row_of, state_with}

@@ -3,9 +3,9 @@
 
 ghost use Rattle.std.specs.Prelude.{◌≡◌, List, ℕ, ◌∷◌, ◌++◌};
 ghost use Rattle.cap_ops.specs.{Checks.Ends, Operations.clear_result};
-ghost use Rattle.cap_log.specs.{Heads.head_spelling, Lines.IsStepInRange};
+ghost use Rattle.cap_log.specs.{declared.kinds.Step.Step, Heads.head_spelling, Lines.IsStepInRange};
 ghost use Rattle.cap_machine.specs.{Changes.{IsOperation, result_in}, Helds.{AnswersStep, EndsBy, state_of}};
-ghost use Rattle.cap_machine.specs.{Shown.{IsShown, needs_to_store, request_of, shown_of}, States.State, Steps.row_of};
+ghost use Rattle.cap_machine.specs.{Shown.{IsShown, needs_to_store, shown_of}, States.State, Steps.{request_of, row_of}};
 
 use crate::ends::StepEnd;
 use crate::machine::{MOST_STEPS, Machine};
@@ -168,16 +168,6 @@ pub fn perform_ended<O: Operation, M: TaggedStore>(
     machine.conclude(&operation, parts.target, outcome, parts.recorded, code)
 }
 
-// A capability for a call that is seldom made. It is a value of its own: so the one that it is made of needn't stand in
-// memory where the call isn't made.
-#[inline(always)]
-fn apart(cap: Cap) -> Cap
-    ensures value { result ≡ cap }
-{
-    let Cap { tag, word } = cap;
-    Cap { tag, word }
-}
-
 impl<const IS_CLEARING: bool> Operation for Plain<IS_CLEARING> {
     #[inline(always)]
     fn parts(self) -> OperationParts {
@@ -228,7 +218,7 @@ impl<const WHAT: u8> Operation for Numbered<WHAT> {
 
     #[inline(always)]
     fn clear<M: TaggedStore>(self, machine: &Machine<M>) -> Cap {
-        let source = apart(machine.register(self.source.number()));
+        let source = machine.register(self.source.number());
         match WHAT {
             LENGTH => set_bounds_clear(source, self.number, false),
             EXACT_LENGTH => set_bounds_clear(source, self.number, true),
@@ -460,7 +450,19 @@ pub fn make<M: TaggedStore>(step: &Step, machine: &mut Machine<M>) -> Result<(),
     ensures outcome { AnswersStep machine.old step.now result machine.new }
     ensures range { IsStepInRange step.now }
 {
-    by_kind!(*step, step => step.perform(machine))
+    by_kind!(*step, step => make_kind(step, machine))
+}
+
+// Makes a step that is of this kind.
+#[inline(always)]
+fn make_kind<M: TaggedStore, I: Instruction>(
+    kind: I,
+    machine: &mut Machine<M>,
+) -> Result<(), StepEnd>
+    ensures outcome { (step : Step) → step ≡ I.step kind → AnswersStep machine.old step result machine.new }
+    ensures range { IsStepInRange (I.step kind) }
+{
+    kind.perform(machine)
 }
 
 /// What a step shows, as [`Instruction::shown`] does.

@@ -2,7 +2,7 @@
 
 #![tactic(auto, using(crate::proofs::Shapes::behind_each), unfolding(crate::specs::Lines::spelling))]
 
-ghost use Rattle.cap_log.specs.Kinds.{data_head, data_step};
+ghost use Rattle.cap_log.specs.Heads.{data_head, data_step};
 ghost use Rattle.cap_log.specs.declared.kinds.Head.TheVariants as heads;
 ghost use Rattle.cap_log.specs.declared.kinds.Step.TheVariants as steps;
 

@@ -2,7 +2,7 @@
 
 #![tactic(auto, unfolding(crate::specs::Lines::spelling))]
 
-ghost use Rattle.cap_log.specs.Kinds.{authorized_head, authorized_step, numbered_head, numbered_step, plain_head, plain_step};
+ghost use Rattle.cap_log.specs.Heads.{authorized_head, authorized_step, numbered_head, numbered_step, plain_head, plain_step};
 
 use crate::kinds::shapes::{ADDRESS, Authorized, EXACT_LENGTH, LENGTH, Numbered, Plain};
 use crate::kinds::{Head, Step};

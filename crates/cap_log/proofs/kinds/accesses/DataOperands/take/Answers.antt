@@ -1,5 +1,5 @@
 use Rattle.std.proofs.Common.{not, eqb}
-use Rattle.cap_log.proofs.KindLemmas.{data_behind}
+use Rattle.cap_log.proofs.Shapes.{data_behind}
 use Rattle.cap_log.proofs.kinds.accesses.DataOperands.take.Goals as goal
 
 pub take_parts-requires : goal.take_parts-requires

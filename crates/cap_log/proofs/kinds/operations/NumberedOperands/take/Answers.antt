@@ -1,4 +1,4 @@
-use Rattle.cap_log.proofs.KindLemmas.{numbered_behind}
+use Rattle.cap_log.proofs.Shapes.{numbered_behind}
 use Rattle.cap_log.proofs.kinds.operations.NumberedOperands.take.Goals as goal
 
 pub take_parts-requires : goal.take_parts-requires

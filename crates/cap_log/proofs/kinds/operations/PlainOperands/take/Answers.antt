@@ -1,5 +1,5 @@
 use Rattle.std.proofs.Common.{not, eqb}
-use Rattle.cap_log.proofs.KindLemmas.{plain_behind}
+use Rattle.cap_log.proofs.Shapes.{plain_behind}
 use Rattle.cap_log.proofs.kinds.operations.PlainOperands.take.Goals as goal
 
 pub take_parts-requires : goal.take_parts-requires
