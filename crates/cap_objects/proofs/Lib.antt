@@ -1,0 +1,6 @@
+pub mod BelowLemmas
+pub mod KeyLemmas
+mod IndexLemmas
+mod KeptLemmas
+mod MeetLemmas
+mod SharingLemmas
