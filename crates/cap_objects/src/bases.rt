@@ -29,11 +29,11 @@ pub(crate) fn first_within(bases: &BTreeMap<u64, u32>, from: u64, last: u64) -> 
 }
 
 /// The entry with the first number from a number on.
-pub(crate) fn first_from(numbers: &BTreeMap<u32, u32>, from: u32) -> Option<(u32, u32)>
+pub(crate) fn first_from(numbers: &BTreeMap<u32, u32>, from: u32) -> Option<(u32, usize)>
     ensures { IsFirstFrom (tree.get nat_cmp numbers.now) from result }
 {
     match numbers.range(from..).next() {
-        Some((number, slot)) => Some((*number, *slot)),
+        Some((number, slot)) => Some((*number, *slot as usize)),
         None => None,
     }
 }

@@ -24,10 +24,10 @@ use std::collections::BTreeMap;
 #[derive(Debug, Clone, Copy, PartialEq, Eq)]
 pub enum HandOutFault {
     /// It shares an address with the extent of a live object: that in this slot, of several that of the least base.
-    Overlaps(u32),
+    Overlaps(usize),
     /// It shares none with a live object's, but with the extent of a freed object that is held: that in this slot, of
     /// several that of the least base.
-    StillHeld(u32),
+    StillHeld(usize),
     /// There was no memory.
     NoMemory,
 }
@@ -96,7 +96,7 @@ impl Handouts {
 
     /// The present object in a slot.
     #[inline(always)]
-    pub fn object(&self, slot: u32) -> Object
+    pub fn object(&self, slot: usize) -> Object
         requires { IsSome (objects_of self.now slot) }
         ensures there { objects_of self.now slot ≡ Some result }
     {
@@ -104,7 +104,7 @@ impl Handouts {
     }
 
     /// The slot of the live object with a number.
-    pub fn live(&self, number: u32) -> Result<u32, NumberFault>
+    pub fn live(&self, number: u32) -> Result<usize, NumberFault>
         ensures ok { IfOk result (IsLive (objects_of self.now) number) }
         ensures fault { IfErr result (HasNoLive self.now.count (objects_of self.now) number) }
     {
@@ -112,13 +112,13 @@ impl Handouts {
             return Err(NumberFault::NoObject);
         }
         match slot_by(&self.numbers, number) {
-            Some(slot) if !self.slots.get(slot).freed => Ok(slot),
+            Some(slot) if !self.slots.get(slot as usize).freed => Ok(slot as usize),
             _ => Err(NumberFault::AlreadyFreed),
         }
     }
 
     /// The present object of least number from a number on: the number and the slot.
-    pub fn next_number(&self, from: u32) -> Option<(u32, u32)>
+    pub fn next_number(&self, from: u32) -> Option<(u32, usize)>
         ensures next { IsNextNumber (objects_of self.now) from result }
     {
         first_from(&self.numbers, from)
@@ -126,7 +126,7 @@ impl Handouts {
 
     // The object of least base among those that are compared and share an address with the addresses from a base to a
     // last one: without the one left out, and live ones alone if that is asked.
-    fn first_met(&self, base: u64, last: u64, left_out: Option<u32>, live: bool) -> Option<u32>
+    fn first_met(&self, base: u64, last: u64, left_out: Option<usize>, live: bool) -> Option<usize>
         requires { base ≤ last }
         ensures { MatchOption result (MeetsNone self.now.keeps left_out live (objects_of self.now) base last)
             (IsFirstMet self.now.keeps left_out live (objects_of self.now) base last) }
@@ -136,8 +136,8 @@ impl Handouts {
             match first_within(&self.bases, from, last) {
                 None => return None,
                 Some((other, slot)) => {
-                    if self.is_asked(slot, left_out, live) {
-                        return Some(slot);
+                    if self.is_asked(slot as usize, left_out, live) {
+                        return Some(slot as usize);
                     }
                     if other == last {
                         return None;
@@ -157,13 +157,13 @@ impl Handouts {
             → base ≤ object.last → result ≤ object.base }
     {
         match last_at_or_below(&self.bases, base) {
-            Some((other, slot)) if base <= self.slots.get(slot).last => other,
+            Some((other, slot)) if base <= self.slots.get(slot as usize).last => other,
             _ => base,
         }
     }
 
     // Whether the object in a slot isn't the one left out, and is live if that is asked.
-    fn is_asked(&self, slot: u32, left_out: Option<u32>, live: bool) -> bool
+    fn is_asked(&self, slot: usize, left_out: Option<usize>, live: bool) -> bool
         requires { IsSome (objects_of self.now slot) }
         ensures { (object : ObjectIn) → objects_of self.now slot ≡ Some object
             → result ≡ (not (is_owner slot left_out) && not (live && object.freed)) }
@@ -172,7 +172,7 @@ impl Handouts {
     }
 
     // Why an interval can't be an extent, besides that of the object left out.
-    fn extent_fault(&self, base: u64, top: u128, left_out: Option<u32>) -> Option<HandOutFault>
+    fn extent_fault(&self, base: u64, top: u128, left_out: Option<usize>) -> Option<HandOutFault>
         requires { top ≤ 2 ^ 64 }
         ensures none { IfNone result (HasRoom self.now.keeps left_out (objects_of self.now) base top) }
         ensures some { IfSome result (λ fault. (fault ≢ NoMemory) × RefusesExtent self.now.keeps left_out (objects_of self.now) base top fault) }
@@ -193,7 +193,7 @@ impl Handouts {
     /// An interval becomes the extent of a new object, in the slot that is the answer, which no place holds. Or it shares
     /// an address with the extent of a live object, or else with that of a freed one that is held, if those are compared;
     /// or there is no memory. Then nothing changes. The interval may be empty: it shares no address.
-    pub fn hand_out(&mut self, base: u64, top: u128, step: u32) -> Result<u32, HandOutFault>
+    pub fn hand_out(&mut self, base: u64, top: u128, step: u32) -> Result<usize, HandOutFault>
         requires long { base ≤ top }
         requires in_memory { top ≤ 2 ^ 64 }
         requires few { self.old.count < 2 ^ 32 - 1 }
@@ -226,7 +226,7 @@ impl Handouts {
     }
 
     // Keeps an object that is handed out next.
-    fn keep(&mut self, object: Object) -> Result<u32, AllocError>
+    fn keep(&mut self, object: Object) -> Result<usize, AllocError>
         requires next { (object.number ≡ self.old.count + 1) × (object.freed ≡ false) }
         requires few { self.old.count < 2 ^ 32 - 1 }
         requires long { object.long ≡ true → object.base ≤ object.last }
@@ -242,17 +242,17 @@ impl Handouts {
             Err(error) => return Err(error),
         };
         if insert_keys(&mut self.numbers, &mut self.bases, object, slot).is_err() {
-            self.slots.remove(slot);
+            self.slots.remove(slot as usize);
             return Err(AllocError);
         }
         self.count += 1;
-        Ok(slot)
+        Ok(slot as usize)
     }
 
     /// The extent of a live object becomes the least interval that holds it and another one. Or that shares an address
     /// with the extent of another live object, or else with that of a freed one that is held, if those are compared; or
     /// there is no memory. Then nothing changes.
-    pub fn widen(&mut self, slot: u32, base: u64, top: u128) -> Result<(), HandOutFault>
+    pub fn widen(&mut self, slot: usize, base: u64, top: u128) -> Result<(), HandOutFault>
         requires live { IsSomeAnd (objects_of self.old slot) (λ object. object.freed ≡ false) }
         requires long { base ≤ top }
         requires in_memory { top ≤ 2 ^ 64 }
@@ -288,7 +288,7 @@ impl Handouts {
 
     /// One more place holds an object.
     #[inline(always)]
-    pub fn count_up(&mut self, slot: u32)
+    pub fn count_up(&mut self, slot: usize)
         requires { IsSomeAnd (objects_of self.old slot) (λ object. object.held + 1 < 2 ^ 64) }
         ensures set { (object : ObjectIn) → objects_of self.old slot ≡ Some object
             → Sets (objects_of self.old) slot (Some (with_held object (object.held + 1))) (objects_of self.new) }
@@ -301,7 +301,7 @@ impl Handouts {
 
     /// One place less holds an object. One that was freed is gone with the last place.
     #[inline(always)]
-    pub fn count_down(&mut self, slot: u32)
+    pub fn count_down(&mut self, slot: usize)
         requires { IsSomeAnd (objects_of self.old slot) (λ object. 0 < object.held) }
         ensures set { (object : ObjectIn) → objects_of self.old slot ≡ Some object
             → Sets (objects_of self.old) slot (kept (with_held object (object.held - 1))) (objects_of self.new) }
@@ -317,7 +317,7 @@ impl Handouts {
     }
 
     /// A live object is freed in a step. It is gone where no place holds it. This takes no memory.
-    pub fn free(&mut self, slot: u32, step: u32)
+    pub fn free(&mut self, slot: usize, step: u32)
         requires { IsSomeAnd (objects_of self.old slot) (λ object. object.freed ≡ false) }
         ensures set { (object : ObjectIn) → objects_of self.old slot ≡ Some object
             → Sets (objects_of self.old) slot (kept (freed_in step object)) (objects_of self.new) }
@@ -336,7 +336,7 @@ impl Handouts {
     // The object in a slot is present no more.
     #[cold]
     #[inline(never)]
-    fn let_go(&mut self, slot: u32)
+    fn let_go(&mut self, slot: usize)
         requires { IsSome (objects_of self.old slot) }
         ensures set { Sets (objects_of self.old) slot None (objects_of self.new) }
         ensures rest { (self.new.count ≡ self.old.count) × (self.new.keeps ≡ self.old.keeps) }
@@ -347,7 +347,7 @@ impl Handouts {
     }
 
     // The object in a slot was freed, and is held.
-    fn mark(&mut self, slot: u32, object: Object)
+    fn mark(&mut self, slot: usize, object: Object)
         requires was { IsSomeAnd (objects_of self.old slot) (λ old. (object ≡ freed_in object.freed_at old) × (old.freed ≡ false)) }
         requires present { is_present object ≡ true }
         ensures set { Sets (objects_of self.old) slot (Some object) (objects_of self.new) }
@@ -358,7 +358,7 @@ impl Handouts {
     }
 
     // The object in a slot, which is live, gets another extent of an address or more.
-    fn move_base(&mut self, slot: u32, object: Object, wider: Object) -> Result<(), AllocError>
+    fn move_base(&mut self, slot: usize, object: Object, wider: Object) -> Result<(), AllocError>
         requires was { (objects_of self.old slot ≡ Some object) × (object.freed ≡ false) }
         requires wider { (wider ≡ record object { base = wider.base; last = wider.last; long = true }) × (wider.base ≤ wider.last) }
         requires room { MeetsNone self.old.keeps (Some slot) false (objects_of self.old) wider.base wider.last }
@@ -366,7 +366,10 @@ impl Handouts {
         ensures err { OnErr result ((slot : ℕ) → objects_of self.new slot ≡ objects_of self.old slot) }
         ensures rest { (self.new.count ≡ self.old.count) × (self.new.keeps ≡ self.old.keeps) }
     {
-        if replace_key(&mut self.bases, slot, object, wider.base).is_err() {
+        let Some(narrow) = slot_by(&self.numbers, object.number) else {
+            return Err(AllocError);
+        };
+        if replace_key(&mut self.bases, narrow, object, wider.base).is_err() {
             return Err(AllocError);
         }
         self.slots.set(slot, wider);

@@ -8,7 +8,7 @@ use crate::handouts::Handouts;
 /// A place goes from one owner to another. It is counted up before it is counted down, so that no object is gone
 /// between.
 #[inline(always)]
-pub fn recount(objects: &mut Handouts, from: Option<u32>, to: Option<u32>)
+pub fn recount(objects: &mut Handouts, from: Option<usize>, to: Option<usize>)
     requires from { (slot : ℕ) → from ≡ Some slot → 0 < held_of (objects_of objects.old slot) }
     requires to { (slot : ℕ) → to ≡ Some slot → 0 < held_of (objects_of objects.old slot) }
     requires few { (slot : ℕ) → held_of (objects_of objects.old slot) ≤ 2 ^ 60 + 64 }
@@ -22,7 +22,7 @@ pub fn recount(objects: &mut Handouts, from: Option<u32>, to: Option<u32>)
 
 // One place more is an object's, if it is any's.
 #[inline(always)]
-fn count_up_for(objects: &mut Handouts, to: Option<u32>)
+fn count_up_for(objects: &mut Handouts, to: Option<usize>)
     requires to { (slot : ℕ) → to ≡ Some slot → 0 < held_of (objects_of objects.old slot) }
     requires few { (slot : ℕ) → held_of (objects_of objects.old slot) ≤ 2 ^ 60 + 64 }
     ensures moves { (slot : ℕ) → held_of (objects_of objects.new slot) ≡ held_of (objects_of objects.old slot) + one_for slot to }
@@ -36,7 +36,7 @@ fn count_up_for(objects: &mut Handouts, to: Option<u32>)
 
 // One place less is an object's, if it was any's.
 #[inline(always)]
-fn count_down_for(objects: &mut Handouts, from: Option<u32>)
+fn count_down_for(objects: &mut Handouts, from: Option<usize>)
     requires from { (slot : ℕ) → from ≡ Some slot → 0 < held_of (objects_of objects.old slot) }
     ensures moves { (slot : ℕ) → held_of (objects_of objects.new slot) + one_for slot from ≡ held_of (objects_of objects.old slot) }
     ensures rest { IsRecounted (objects_of objects.old) (objects_of objects.new) }

@@ -30,34 +30,35 @@ impl Slots {
 
     /// The object in a slot.
     #[inline(always)]
-    pub(crate) fn get(&self, slot: u32) -> Object
+    pub(crate) fn get(&self, slot: usize) -> Object
         requires { IsSome (present_in self.now slot) }
         ensures { present_in self.now slot ≡ Some result }
     {
-        self.objects[slot as usize]
+        self.objects[slot]
     }
 
     /// Puts an object in place of the one in a slot.
     #[inline(always)]
-    pub(crate) fn set(&mut self, slot: u32, object: Object)
+    pub(crate) fn set(&mut self, slot: usize, object: Object)
         requires there { IsSome (present_in self.old slot) }
         requires present { is_present object ≡ true }
         ensures { Sets (present_in self.old) slot (Some object) (present_in self.new) }
     {
-        self.objects[slot as usize] = object;
+        self.objects[slot] = object;
     }
 
     /// Frees a slot.
-    pub(crate) fn remove(&mut self, slot: u32)
+    pub(crate) fn remove(&mut self, slot: usize)
         requires { IsSome (present_in self.old slot) }
         ensures { Sets (present_in self.old) slot None (present_in self.new) }
     {
-        let mut object = self.objects[slot as usize];
+        let mut object = self.objects[slot];
         object.number = self.free;
         object.freed = true;
         object.held = 0;
-        self.objects[slot as usize] = object;
-        self.free = slot;
+        self.objects[slot] = object;
+        // Each slot's number fits, since none is made past them.
+        self.free = u32::try_from(slot).unwrap_or(u32::MAX);
     }
 
     /// Puts an object in a free slot, or in a new one if there is none.
