@@ -12,8 +12,9 @@ invariant_of-self g c =
     let machine = c.self.inside in
     let number = c.in-Register.number in
     let fits = subst IsPlace c.in-Register.is c.requires.in_range in
-    kept_register machine.registers machine.codes (g.M.TaggedStore.contents machine.memory) number (tagged c.args.word) c.args.label
-    c.self.invariant (search rules) fits (λ _. c.requires.sound) c.requires.coded
+    rw c.overwrite.ensures
+    (kept_register machine.registers machine.codes (g.M.TaggedStore.contents machine.memory) number (tagged c.args.word) c.args.label
+    c.self.invariant (search rules) fits (λ _. c.requires.sound) c.requires.coded)
 
 pub invariant_of-self-in-Granule : goal.invariant_of-self-in-Granule
 invariant_of-self-in-Granule g c =
