@@ -3,4 +3,5 @@ pub mod KeyLemmas
 mod IndexLemmas
 mod KeptLemmas
 mod MeetLemmas
+mod RecountLemmas
 mod SharingLemmas

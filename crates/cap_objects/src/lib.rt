@@ -12,4 +12,4 @@ mod slots;
 pub use crate::handouts::{HandOutFault, Handouts, NumberFault};
 pub use crate::laws::{counts_move, meeting_is_sharing};
 pub use crate::objects::Object;
-pub use crate::recounting::recount;
+pub use crate::recounting::{recount, recount_both};

@@ -24,7 +24,7 @@ pub fn recount(objects: &mut Handouts, from: Option<usize>, to: Option<usize>)
 #[inline(always)]
 fn count_up_for(objects: &mut Handouts, to: Option<usize>)
     requires to { (slot : ℕ) → to ≡ Some slot → 0 < held_of (objects_of objects.old slot) }
-    requires few { (slot : ℕ) → held_of (objects_of objects.old slot) ≤ 2 ^ 60 + 64 }
+    requires few { (slot : ℕ) → held_of (objects_of objects.old slot) ≤ 2 ^ 60 + 65 }
     ensures moves { (slot : ℕ) → held_of (objects_of objects.new slot) ≡ held_of (objects_of objects.old slot) + one_for slot to }
     ensures rest { IsRecounted (objects_of objects.old) (objects_of objects.new) }
     ensures same { (objects.new.count ≡ objects.old.count) × (objects.new.keeps ≡ objects.old.keeps) }
@@ -45,4 +45,27 @@ fn count_down_for(objects: &mut Handouts, from: Option<usize>)
     if let Some(slot) = from {
         objects.count_down(slot);
     }
+}
+
+/// Two places go each from one owner to another, at once: both are counted up before either is counted down.
+pub fn recount_both(
+    objects: &mut Handouts,
+    first_from: Option<usize>,
+    first_to: Option<usize>,
+    second_from: Option<usize>,
+    second_to: Option<usize>,
+)
+    requires from { (slot : ℕ) → one_for slot first_from + one_for slot second_from ≤ held_of (objects_of objects.old slot) }
+    requires first_to { (slot : ℕ) → first_to ≡ Some slot → 0 < held_of (objects_of objects.old slot) }
+    requires second_to { (slot : ℕ) → second_to ≡ Some slot → 0 < held_of (objects_of objects.old slot) }
+    requires few { (slot : ℕ) → held_of (objects_of objects.old slot) ≤ 2 ^ 60 + 64 }
+    ensures moves { (slot : ℕ) → held_of (objects_of objects.new slot) + one_for slot first_from + one_for slot second_from
+        ≡ held_of (objects_of objects.old slot) + one_for slot first_to + one_for slot second_to }
+    ensures rest { IsRecounted (objects_of objects.old) (objects_of objects.new) }
+    ensures same { (objects.new.count ≡ objects.old.count) × (objects.new.keeps ≡ objects.old.keeps) }
+{
+    count_up_for(objects, first_to);
+    count_up_for(objects, second_to);
+    count_down_for(objects, first_from);
+    count_down_for(objects, second_from);
 }

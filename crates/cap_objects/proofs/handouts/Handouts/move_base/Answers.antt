@@ -1,5 +1,5 @@
 use Rattle.std.specs.BTreeMap as tree
-use Rattle.std.proofs.Common.{◌≡◌, ℕ, Option, Some, None, if◌then◌else◌, nat_cmp, rules, subst, sym, ◌∙◌}
+use Rattle.std.proofs.Common.{◌≡◌, ℕ, Some, None, if◌then◌else◌, nat_cmp, rules, subst, sym, ◌∙◌}
 use Rattle.std.proofs.lemmas.Option.{same_Some}
 use Rattle.cap_objects.specs.{HandoutsIn.objects_of, Indexes.Rekeys, SlotsIn.present_in}
 use Rattle.cap_objects.proofs.KeptLemmas.{base_at, compared_live, kept-moved, number_at, of_ok}
