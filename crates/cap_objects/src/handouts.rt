@@ -106,6 +106,7 @@ impl Handouts {
     /// The slot of the live object with a number.
     pub fn live(&self, number: u32) -> Result<usize, NumberFault>
         ensures ok { IfOk result (IsLive (objects_of self.now) number) }
+        ensures low { IfOk result (λ slot. slot < 2 ^ 32) }
         ensures fault { IfErr result (HasNoLive self.now.count (objects_of self.now) number) }
     {
         if number == 0 || number > self.count {
@@ -171,8 +172,8 @@ impl Handouts {
         left_out != Some(slot) && !(live && self.slots.get(slot).freed)
     }
 
-    // Why an interval can't be an extent, besides that of the object left out.
-    fn extent_fault(&self, base: u64, top: u128, left_out: Option<usize>) -> Option<HandOutFault>
+    /// Why an interval can't be an extent: that of an object that is left out isn't compared.
+    pub fn extent_fault(&self, base: u64, top: u128, left_out: Option<usize>) -> Option<HandOutFault>
         requires { top ≤ 2 ^ 64 }
         ensures none { IfNone result (HasRoom self.now.keeps left_out (objects_of self.now) base top) }
         ensures some { IfSome result (λ fault. (fault ≢ NoMemory) × RefusesExtent self.now.keeps left_out (objects_of self.now) base top fault) }
@@ -199,6 +200,7 @@ impl Handouts {
         requires few { self.old.count < 2 ^ 32 - 1 }
         ensures room { OnOk result (HasRoom self.old.keeps None (objects_of self.old) base top) }
         ensures ok { IfOk result (λ slot. AddsObject (objects_of self.old) slot (handed_out (self.old.count + 1) step base top) (objects_of self.new)) }
+        ensures low { IfOk result (λ slot. slot < 2 ^ 32) }
         ensures count { OnOk result (self.new.count ≡ self.old.count + 1) }
         ensures fault { IfErr result (RefusesExtent self.old.keeps None (objects_of self.old) base top) }
         ensures err { OnErr result ((slot : ℕ) → objects_of self.new slot ≡ objects_of self.old slot) }
@@ -232,6 +234,7 @@ impl Handouts {
         requires long { object.long ≡ true → object.base ≤ object.last }
         requires room { object.long ≡ true → MeetsNone self.old.keeps None false (objects_of self.old) object.base object.last }
         ensures ok { IfOk result (λ slot. AddsObject (objects_of self.old) slot object (objects_of self.new)) }
+        ensures low { IfOk result (λ slot. slot < 2 ^ 32) }
         ensures count { OnOk result (self.new.count ≡ self.old.count + 1) }
         ensures err { OnErr result ((slot : ℕ) → objects_of self.new slot ≡ objects_of self.old slot) }
         ensures err_count { OnErr result (self.new.count ≡ self.old.count) }

@@ -1,2 +1,3 @@
 mod PlaceLemmas
 mod OwnerLemmas
+mod ObjectLemmas

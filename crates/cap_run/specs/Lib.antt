@@ -4,3 +4,4 @@ pub mod Owned
 pub mod Run
 pub mod RunSteps
 pub mod RunOf
+pub mod ObjectSteps

@@ -2,6 +2,7 @@
 #![tactic(auto)]
 
 mod ends;
+mod object_steps;
 mod places;
 mod puts;
 mod register_steps;
