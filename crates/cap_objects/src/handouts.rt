@@ -173,7 +173,12 @@ impl Handouts {
     }
 
     /// Why an interval can't be an extent: that of an object that is left out isn't compared.
-    pub fn extent_fault(&self, base: u64, top: u128, left_out: Option<usize>) -> Option<HandOutFault>
+    pub fn extent_fault(
+        &self,
+        base: u64,
+        top: u128,
+        left_out: Option<usize>,
+    ) -> Option<HandOutFault>
         requires { top ≤ 2 ^ 64 }
         ensures none { IfNone result (HasRoom self.now.keeps left_out (objects_of self.now) base top) }
         ensures some { IfSome result (λ fault. (fault ≢ NoMemory) × RefusesExtent self.now.keeps left_out (objects_of self.now) base top fault) }
