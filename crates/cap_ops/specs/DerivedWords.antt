@@ -1,4 +1,4 @@
--- DerivedWords a word from a capability, whatever the instruction, and invoking a pair of sealed capabilities
+-- Deriving a word from a capability, whatever the instruction, and invoking a pair of sealed capabilities
 -- (UCAM-CL-TR-987, the descriptions of CBuildCap, CSealEntry, CJALR and CInvoke for CHERI-RISC-V; that a derived word is
 -- only judged by what it reaches is this profile's own).
 use Rattle.std.specs.Prelude.{ℕ, ◌-◌, ◌%◌, Bool, not, ◌==◌, ◌&&◌, ◌||◌, nat_le, bit_and, List, [], ◌∷◌}

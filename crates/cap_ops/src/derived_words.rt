@@ -1,4 +1,4 @@
-//! DerivedWords a word from a capability, whatever the instruction: nothing grows, and the seal is kept. And invoking a pair
+//! Deriving a word from a capability, whatever the instruction: nothing grows, and the seal is kept. And invoking a pair
 //! of sealed capabilities.
 
 ghost use Rattle.std.specs.Prelude.{◌≡◌, None, true};
