@@ -1,3 +1,4 @@
 mod PlaceLemmas
 mod OwnerLemmas
 mod ObjectLemmas
+mod HandingLemmas

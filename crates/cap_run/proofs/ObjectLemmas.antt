@@ -1,12 +1,12 @@
 -- Owners and counts where an object is handed out, widened, given or freed.
-use Rattle.std.proofs.Common.{◌≡◌, ◌≢◌, ◌==◌, ◌+◌, ◌-◌, ◌<◌, ◌≤◌, ◌^◌, ℕ, Bool, true, false, IsTrue, Some, None, Option, inl, inr, length, IsSomeAnd}
+use Rattle.std.proofs.Common.{◌≡◌, ◌≢◌, ◌==◌, ◌+◌, ◌-◌, ◌<◌, ◌≤◌, ◌^◌, ℕ, Bool, true, false, IsTrue, Some, None, Option, inl, inr, length, IsSome, IsSomeAnd, not, ◌||◌}
 use Rattle.std.proofs.Common.{if◌then◌else◌, nat_lt, le-ltb, lt-ltb, refl, sym, ap, subst, ◌∙◌, arith, ◌⊎◌, eq-eqb, ne_eqb}
-use Rattle.std.proofs.lemmas.{Bool.{cases_lt, cond-true, cond-false, false≢true, Decides.eqb_tells}, Option.{none-some, same_Some}, List.get_or_past}
+use Rattle.std.proofs.lemmas.{Bool.{cases_Bool, cases_lt, cond-true, cond-false, false≢true, Decides.eqb_tells}, Option.{none-some, same_Some}, List.get_or_past}
 use Rattle.cap_word.specs.declared.word.Cap.{Cap}
 use Rattle.cap_log.specs.declared.lines.Place.TheVariants.{Register}
 use Rattle.cap_machine.specs.{Helds.{Held, account_of, state_of}, Places.place_at, States.{State, put}}
 use Rattle.cap_objects.specs.Counts.{CountsAre, Moves, Owners, at_key, most_places, one_for}
-use Rattle.cap_objects.specs.{declared.objects.Object.Object, Extents.{Objects, Sets}, Handed.{held_of, with_held}}
+use Rattle.cap_objects.specs.{declared.objects.Object.Object, Extents.{Objects, Sets, is_present}, Handed.{freed_in, held_of, with_held}, Indexes.kept}
 use Rattle.cap_objects.proofs.BelowLemmas.{counts_where}
 use Rattle.cap_run.specs.declared.specials.Specials.{Specials}
 use Rattle.cap_run.specs.{Owned.{AreWithin, IsWithin, object_by}, Run.{first_special, with_specials}, RunOf.{run_owners, run_state}, Specials.{cap_in, label_in}}
@@ -115,3 +115,46 @@ to_some_and {A} o P x is h = subst (λ (v : Option A). IsSomeAnd v P) (sym is) h
 
 pub main-state : (held : Held) (specials : Specials) (key : ℕ) → key < first_special → run_state held specials key ≡ state_of held key
 main-state held specials key low = cond-true (nat_lt key first_special) (state_of held key) _ (lt-ltb key first_special low)
+
+pub to_is_some : {A : Type 0} (o : Option A) (x : A) → o ≡ Some x → IsSome o
+to_is_some o x is = subst IsSome (sym is) refl
+
+not_held : (freed : Bool) (held : ℕ) → (not freed || nat_lt 0 held) ≡ false → held ≡ 0
+not_held false held is = absurd (false≢true (sym is))
+not_held true held is = elim (cases_lt 0 held) [
+  | inl some ↦ absurd (false≢true (sym is ∙ lt-ltb 0 held some))
+  | inr none ↦ omega arith
+]
+
+held-kept : (o : Object) → held_of (kept o) ≡ o.held
+held-kept o = elim (cases_Bool (is_present o)) [
+  | inl there ↦ ap held_of (cond-true (is_present o) (Some o) None there)
+  | inr gone ↦ ap held_of (cond-false (is_present o) (Some o) None gone) ∙ sym (not_held o.freed o.held gone)
+]
+
+pub counts-freed : (owners : Owners) (objects after : Objects) (slot : ℕ) (o : Object) (step : ℕ) → objects slot ≡ Some o
+    → Sets objects slot (kept (freed_in step o)) after
+    → CountsAre owners (λ n. held_of (objects n)) → CountsAre owners (λ n. held_of (after n))
+counts-freed owners objects after slot o step there set are n = elim (eqb_tells n slot) [
+  | inl same ↦
+      let now : held_of (after n) ≡ o.held = ap held_of (ap after same.1 ∙ set.0) ∙ held-kept (freed_in step o) in
+      let was : held_of (objects n) ≡ o.held = ap held_of (ap objects same.1 ∙ there) in
+      now ∙ sym was ∙ are n
+  | inr unlike ↦ ap held_of (set.1 n unlike.1) ∙ are n
+]
+
+kept_some : (o x : Object) → kept o ≡ Some x → o ≡ x
+kept_some o x is = elim (cases_Bool (is_present o)) [
+  | inl there ↦ same_Some o x (sym (cond-true (is_present o) (Some o) None there) ∙ is)
+  | inr gone ↦ absurd (none-some x (sym (cond-false (is_present o) (Some o) None gone) ∙ is))
+]
+
+pub within-freed : (state : State) (owners : Owners) (objects after : Objects) (slot : ℕ) (o : Object) (step : ℕ) → objects slot ≡ Some o
+    → Sets objects slot (kept (freed_in step o)) after → AreWithin state owners objects → AreWithin state owners after
+within-freed state owners objects after slot o step there set known key other x owned x_there = elim (eqb_tells other slot) [
+  | inl same ↦
+      let x_is = kept_some (freed_in step o) x (sym set.0 ∙ ap after (sym same.1) ∙ x_there) in
+      let w = known key other o owned (ap objects same.1 ∙ there) in
+      subst (IsWithin (state key)) x_is (record { tagged = w.tagged; some = w.some; from = w.from; until = w.until })
+  | inr unlike ↦ known key other x owned (sym (set.1 other unlike.1) ∙ x_there)
+]

@@ -3,24 +3,28 @@
 ghost use Rattle.std.specs.Prelude.{◌≡◌, ◌≤◌, ◌<◌, ◌+◌, ◌-◌, ◌^◌, ℕ, None, Some, false, true, IsTrue, IsSomeAnd, OnErr, OnOk, IfErr, IfOk, IfSome, MatchOption};
 ghost use Rattle.cap_bounds.specs.Bounds.{base_of, top_of};
 ghost use Rattle.cap_log.specs.Lines.{IsTarget};
-ghost use Rattle.cap_objects.specs.Handed.{AddsObject, HasRoom, RefusesExtent, handed_out, with_held};
+ghost use Rattle.cap_objects.specs.Handed.{AddsObject, HasRoom, IsLive, RefusesExtent, handed_out, with_held};
 ghost use Rattle.cap_objects.specs.{Counts.at_key, Extents.Sets, HandoutsIn.objects_of, Objects.top_of_extent};
 ghost use Rattle.cap_objects.specs.declared.objects.Object.{Object as ObjectIn};
-ghost use Rattle.cap_run.specs.{ObjectSteps.{ExtentEnds, HandsOut, ObjectEnds, is_capability}, Owned.IsWithin};
-ghost use Rattle.cap_run.specs.{RunOf.{run_of, run_owners, run_state}, RunSteps.IsUnstepped};
+ghost use Rattle.cap_run.specs.declared.ends.RunRefusal.TheVariants.{Usual};
+ghost use Rattle.cap_run.specs.{ObjectSteps.{ExtentEnds, FreeEnds, FreeNumberEnds, Frees, HandsOut, ObjectEnds, ended, is_capability, object_refusal}, Owned.IsWithin};
+ghost use Rattle.cap_run.specs.{RunOf.{run_of, run_owners, run_state}, RunSteps.{IsUnstepped, step_limit}};
 
 use crate::ends::{RunEnd, RunRefusal};
 use crate::places::RunRegister;
 use crate::puts::put_at;
 use crate::run_machine::RunMachine;
 use cap_bounds::bounds;
-use cap_objects::HandOutFault;
+use cap_machine::Refusal;
+use cap_objects::{HandOutFault, NumberFault};
 use cap_ops::sealed;
 use cap_word::Cap;
 use tagmem::TaggedStore;
 
 // How a step ends where an interval can't be an extent.
-fn ended(fault: HandOutFault) -> RunEnd {
+fn ended(fault: HandOutFault) -> RunEnd
+    ensures { result ≡ ended fault }
+{
     match fault {
         HandOutFault::Overlaps(slot) => RunEnd::Refused(RunRefusal::Overlaps(slot)),
         HandOutFault::StillHeld(slot) => RunEnd::Refused(RunRefusal::StillHeld(slot)),
@@ -86,5 +90,134 @@ impl<M: TaggedStore> RunMachine<M> {
             cap,
             slot as u64 + 32,
         );
+    }
+
+    // Why a register can't be an object's.
+    fn object_refusal(&self, register: u8) -> Option<RunRefusal>
+        requires { IsTarget register }
+        ensures { result ≡ object_refusal (run_of self.now.machine self.now.specials self.now.objects) register }
+    {
+        let register = RunRegister::General(register);
+        if !is_capability(self.register(register)) {
+            Some(RunRefusal::NoCapability)
+        } else if self.owner(register).is_some() {
+            Some(RunRefusal::HasOwner)
+        } else {
+            None
+        }
+    }
+
+    // How a step ends past the limit on steps, where an interval may not be an extent: that comes first.
+    #[cold]
+    fn late_end(&self, base: u64, top: u128, left_out: Option<usize>, refusal: Refusal) -> RunEnd
+        requires in_memory { top ≤ 2 ^ 64 }
+        requires late { step_limit (run_of self.now.machine self.now.specials self.now.objects) ≡ Some (Usual refusal) }
+        ensures { ExtentEnds (run_of self.now.machine self.now.specials self.now.objects) self.now.objects.keeps left_out base top result }
+    {
+        match self.objects.extent_fault(base, top, left_out) {
+            Some(fault) => ended(fault),
+            None => RunEnd::Refused(RunRefusal::Usual(refusal)),
+        }
+    }
+
+    /// What a register holds is a new object's, in the slot that is the answer. It is refused for the first of these: the
+    /// register has no tag, or is sealed (`NoCapability`); it has an owner (`HasOwner`); its bounds share an address with
+    /// the extent of a live object (`Overlaps`), or with that of a freed object that is held, if those are compared
+    /// (`StillHeld`); there are 4,294,967,295 steps (`LimitPassed`). After an error nothing has changed.
+    pub fn object(&mut self, register: u8) -> Result<usize, RunEnd>
+        requires { IsTarget register }
+        ensures ok { IfOk result (λ slot. HandsOut (run_of self.old.machine self.old.specials self.old.objects) register slot
+            (run_of self.new.machine self.new.specials self.new.objects)) }
+        ensures can { OnOk result (let old = run_of self.old.machine self.old.specials self.old.objects in let w = (old.state register).word.0 in
+            (object_refusal old register ≡ None) × HasRoom self.old.objects.keeps None old.objects (base_of w) (top_of w) × (step_limit old ≡ None)) }
+        ensures end { IfErr result (ObjectEnds (run_of self.old.machine self.old.specials self.old.objects) self.old.objects.keeps register) }
+        ensures err { OnErr result (run_of self.new.machine self.new.specials self.new.objects
+            ≡ run_of self.old.machine self.old.specials self.old.objects) }
+    {
+        if let Some(refusal) = self.object_refusal(register) {
+            return Err(RunEnd::Refused(refusal));
+        }
+        let bounds = bounds(self.register(RunRegister::General(register)).word);
+        if self.step_limit().is_some() {
+            return Err(self.late_end(bounds.base, bounds.top, None, Refusal::LimitPassed));
+        }
+        match self.add_object(bounds.base, bounds.top) {
+            Err(fault) => Err(ended(fault)),
+            Ok(slot) => {
+                if u128::from(bounds.base) < bounds.top {
+                    self.give(register, slot);
+                }
+                Ok(slot)
+            }
+        }
+    }
+
+    // The live object in a slot is freed, and a step is counted.
+    fn free_slot(&mut self, slot: usize)
+        requires live { IsSomeAnd (objects_of self.old.objects slot) (λ object. object.freed ≡ false) }
+        requires few { self.old.machine.steps < 2 ^ 32 - 1 }
+        ensures frees { Frees (run_of self.old.machine self.old.specials self.old.objects) slot
+            (run_of self.new.machine self.new.specials self.new.objects) }
+    {
+        let step = self.machine.steps() + 1;
+        self.objects.free(slot, step);
+        self.machine.count_step();
+    }
+
+    /// The object with a number is freed. It is refused for the first of these: none was handed out (`NoObject`); it was
+    /// freed (`AlreadyFreed`); there are 4,294,967,295 steps (`LimitPassed`). Then nothing has changed. It takes no
+    /// memory.
+    pub fn free_number(&mut self, number: u32) -> Result<(), RunEnd>
+        ensures ok { OnOk result ((slot : ℕ) × IsLive (objects_of self.old.objects) number slot
+            × Frees (run_of self.old.machine self.old.specials self.old.objects) slot
+            (run_of self.new.machine self.new.specials self.new.objects)) }
+        ensures can { OnOk result (step_limit (run_of self.old.machine self.old.specials self.old.objects) ≡ None) }
+        ensures end { IfErr result (FreeNumberEnds (run_of self.old.machine self.old.specials self.old.objects) number) }
+        ensures err { OnErr result (run_of self.new.machine self.new.specials self.new.objects
+            ≡ run_of self.old.machine self.old.specials self.old.objects) }
+    {
+        match self.objects.live(number) {
+            Err(NumberFault::NoObject) => Err(RunEnd::Refused(RunRefusal::NoObject)),
+            Err(NumberFault::AlreadyFreed) => Err(RunEnd::Refused(RunRefusal::AlreadyFreed)),
+            Ok(slot) => {
+                if self.step_limit().is_some() {
+                    return Err(RunEnd::Refused(RunRefusal::Usual(Refusal::LimitPassed)));
+                }
+                self.free_slot(slot);
+                Ok(())
+            }
+        }
+    }
+
+    /// The object that owns a register is freed. It is refused for the first of these: the register has no tag
+    /// (`NoCapability`); it has no owner (`NoOwner`); the owner was freed (`AlreadyFreed`); there are 4,294,967,295 steps
+    /// (`LimitPassed`). Then nothing has changed. A sealed capability frees, too. It takes no memory.
+    pub fn free(&mut self, register: u8) -> Result<(), RunEnd>
+        requires { IsTarget register }
+        ensures ok { OnOk result ((slot : ℕ) × (run_owners self.old.machine self.old.specials register ≡ Some slot)
+            × Frees (run_of self.old.machine self.old.specials self.old.objects) slot
+            (run_of self.new.machine self.new.specials self.new.objects)) }
+        ensures can { OnOk result (step_limit (run_of self.old.machine self.old.specials self.old.objects) ≡ None) }
+        ensures end { IfErr result (FreeEnds (run_of self.old.machine self.old.specials self.old.objects) register) }
+        ensures err { OnErr result (run_of self.new.machine self.new.specials self.new.objects
+            ≡ run_of self.old.machine self.old.specials self.old.objects) }
+    {
+        let place = RunRegister::General(register);
+        if !self.register(place).tag {
+            return Err(RunEnd::Refused(RunRefusal::NoCapability));
+        }
+        match self.owner(place) {
+            None => Err(RunEnd::Refused(RunRefusal::NoOwner)),
+            Some(slot) => {
+                if self.objects.object(slot).freed {
+                    return Err(RunEnd::Refused(RunRefusal::AlreadyFreed));
+                }
+                if self.step_limit().is_some() {
+                    return Err(RunEnd::Refused(RunRefusal::Usual(Refusal::LimitPassed)));
+                }
+                self.free_slot(slot);
+                Ok(())
+            }
+        }
     }
 }
