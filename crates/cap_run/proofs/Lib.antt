@@ -2,3 +2,4 @@ mod PlaceLemmas
 mod OwnerLemmas
 mod ObjectLemmas
 mod HandingLemmas
+mod SafetyLemmas

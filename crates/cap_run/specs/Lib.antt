@@ -5,3 +5,4 @@ pub mod Run
 pub mod RunSteps
 pub mod RunOf
 pub mod ObjectSteps
+pub mod Safety

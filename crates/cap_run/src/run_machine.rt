@@ -5,7 +5,7 @@ ghost use Rattle.std.specs.FinMap as map;
 ghost use Rattle.cap_machine.specs.{Accounts.no_account, Helds.account_of, Parents.IsSoundCap, Places.{IsCoded, place_at}};
 ghost use Rattle.cap_machine.specs.States.{untagged_null};
 ghost use Rattle.cap_objects.specs.{Counts.CountsAre, Handed.held_of, HandoutsIn.objects_of};
-ghost use Rattle.cap_run.specs.{Owned.{AreWithin, object_by}, Run.{IsSource, IsTargetOf, register_key}, RunOf.{run_owners, run_state}};
+ghost use Rattle.cap_run.specs.{Owned.{AreWithin, object_by}, Run.{IsSource, IsTargetOf, register_key}, RunOf.{run_of, run_owners, run_state}, Safety.IsSafe};
 
 use crate::places::RunRegister;
 use crate::specials::Specials;
@@ -44,6 +44,14 @@ impl<M: TaggedStore> RunMachine<M> {
             specials: Specials::new(),
             objects: Handouts::new(alloc, keeps),
         }
+    }
+
+    /// What is true at each moment: no address lies in the extents of two present objects, nor in what two capabilities of
+    /// two of them reach. It does nothing: what it says is its contract.
+    pub fn kept(&self)
+        ensures safe { IsSafe self.now.objects.keeps (run_of self.now.machine self.now.specials self.now.objects) }
+    {
+        self.objects.kept();
     }
 
     /// What a register holds.
