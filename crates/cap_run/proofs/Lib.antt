@@ -3,3 +3,4 @@ mod OwnerLemmas
 mod ObjectLemmas
 mod HandingLemmas
 mod SafetyLemmas
+mod FillLemmas

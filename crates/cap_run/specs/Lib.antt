@@ -6,3 +6,4 @@ pub mod RunSteps
 pub mod RunOf
 pub mod ObjectSteps
 pub mod Safety
+pub mod GranuleSteps

@@ -2,6 +2,7 @@
 #![tactic(auto)]
 
 mod ends;
+mod granule_steps;
 mod object_steps;
 mod places;
 mod puts;

@@ -1,0 +1,45 @@
+//! Steps of runs on memory that no authority is needed for.
+
+ghost use Rattle.std.specs.Prelude.{◌≡◌, ◌<◌, ◌^◌, ℕ, None, false, MatchResult, OnErr};
+ghost use Rattle.cap_machine.specs.{Changes.{EndsPut, is_past_limits}, Places.place_at, States.granule_key};
+ghost use Rattle.cap_run.specs.{GranuleSteps.Fills, Owned.object_by, RunOf.{run_of, run_owners}};
+
+use crate::run_machine::{RunMachine, slot_by};
+use cap_log::Place;
+use cap_machine::StepEnd;
+use cap_objects::recount;
+use cap_word::{Cap, Word};
+use tagmem::TaggedStore;
+
+impl<M: TaggedStore> RunMachine<M> {
+    /// A granule gets a word without a tag: a kernel, a device or another hart wrote it. It is refused where there are
+    /// 4,294,967,295 steps, or it names a granule past the limit (`LimitPassed`). `NoMemory` comes only at a granule
+    /// named for the first time. After an error nothing has changed.
+    pub fn fill(&mut self, granule: u64, word: Word) -> Result<(), StepEnd>
+        requires { granule < 2 ^ 60 }
+        ensures outcome { MatchResult result
+            (λ _. (is_past_limits self.old.machine granule ≡ false)
+            × Fills (run_of self.old.machine self.old.specials self.old.objects) granule (record { tag = false; word = word })
+            (run_of self.new.machine self.new.specials self.new.objects))
+            (λ end. EndsPut self.old.machine granule end self.new.machine) }
+        ensures err { OnErr result ((self.new.specials ≡ self.old.specials) × (self.new.objects ≡ self.old.objects)) }
+    {
+        let from = self.granule_owner(granule);
+        let cap = Cap { tag: false, word };
+        match self.machine.fill(granule, cap, 0) {
+            Err(end) => Err(end),
+            Ok(()) => {
+                recount(&mut self.objects, from, None);
+                Ok(())
+            }
+        }
+    }
+
+    /// The slot of the object that owns a granule, if there is one.
+    pub fn granule_owner(&self, granule: u64) -> Option<usize>
+        requires { granule < 2 ^ 60 }
+        ensures owner { result ≡ run_owners self.now.machine self.now.specials (granule_key granule) }
+    {
+        slot_by(self.machine.label(Place::Granule(granule)))
+    }
+}
