@@ -1,12 +1,12 @@
 -- Owners and counts where an object is handed out, widened, given or freed.
-use Rattle.std.proofs.Common.{◌≡◌, ◌≢◌, ◌==◌, ◌+◌, ◌-◌, ◌<◌, ◌≤◌, ◌^◌, ℕ, Bool, true, false, IsTrue, Some, None, Option, inl, inr, length, IsSome, IsSomeAnd, not, ◌||◌}
+use Rattle.std.proofs.Common.{◌≡◌, ◌≢◌, ◌==◌, ◌+◌, ◌-◌, ◌<◌, ◌≤◌, ◌^◌, ℕ, Bool, true, false, IsTrue, Some, None, Option, inl, inr, length, IsSome, IsSomeAnd, not, ◌||◌, min, max}
 use Rattle.std.proofs.Common.{if◌then◌else◌, nat_lt, le-ltb, lt-ltb, refl, sym, ap, subst, ◌∙◌, arith, ◌⊎◌, eq-eqb, ne_eqb}
-use Rattle.std.proofs.lemmas.{Bool.{cases_Bool, cases_lt, cond-true, cond-false, false≢true, Decides.eqb_tells}, Option.{none-some, same_Some}, List.get_or_past}
+use Rattle.std.proofs.lemmas.{Bool.{cases_Bool, cases_lt, cond-true, cond-false, false≢true, Decides.{eqb_tells, nat_tests}}, Option.{none-some, same_Some}, List.get_or_past}
 use Rattle.cap_word.specs.declared.word.Cap.{Cap}
 use Rattle.cap_log.specs.declared.lines.Place.TheVariants.{Register}
 use Rattle.cap_machine.specs.{Helds.{Held, account_of, state_of}, Places.place_at, States.{State, put}}
 use Rattle.cap_objects.specs.Counts.{CountsAre, Moves, Owners, at_key, most_places, one_for}
-use Rattle.cap_objects.specs.{declared.objects.Object.Object, Extents.{Objects, Sets, is_present}, Handed.{freed_in, held_of, with_held}, Indexes.kept}
+use Rattle.cap_objects.specs.{declared.objects.Object.Object, Extents.{Objects, Sets, is_present}, Handed.{freed_in, held_of, widened, with_held}, Indexes.kept, Objects.top_of_extent}
 use Rattle.cap_objects.proofs.BelowLemmas.{counts_where}
 use Rattle.cap_run.specs.declared.specials.Specials.{Specials}
 use Rattle.cap_run.specs.{Owned.{AreWithin, IsWithin, object_by}, Run.{first_special, with_specials}, RunOf.{run_owners, run_state}, Specials.{cap_in, label_in}}
@@ -156,5 +156,46 @@ within-freed state owners objects after slot o step there set known key other x 
       let x_is = kept_some (freed_in step o) x (sym set.0 ∙ ap after (sym same.1) ∙ x_there) in
       let w = known key other o owned (ap objects same.1 ∙ there) in
       subst (IsWithin (state key)) x_is (record { tagged = w.tagged; some = w.some; from = w.from; until = w.until })
+  | inr unlike ↦ known key other x owned (sym (set.1 other unlike.1) ∙ x_there)
+]
+
+max_above : (a b : ℕ) → a ≤ max a b
+max_above a b = omega arith
+
+-- an extent that was widened
+pub widened-grows : (o : Object) (base top : ℕ)
+    → (let w = widened o base top in (w.base ≤ o.base) × (top_of_extent o ≤ top_of_extent w) × (w.held ≡ o.held))
+widened-grows o base top = elim (cases_Bool (nat_lt (min o.base base) (max (top_of_extent o) top))) [
+  | inl long ↦
+      let low = min o.base base in
+      let high = max (top_of_extent o) top in
+      let wide : Object = record o { base = low; last = high - 1; long = true } in
+      let is : widened o base top ≡ wide = cond-true (nat_lt low high) wide o long in
+      let more : low < high = grind (arith, nat_tests, long) in
+      let least : low ≤ o.base = omega arith in
+      let most : top_of_extent o ≤ high = max_above (top_of_extent o) top in
+      let end : top_of_extent o ≤ high - 1 + 1 = omega (arith, more, most) in
+      subst (λ (w : Object). (w.base ≤ o.base) × (top_of_extent o ≤ top_of_extent w) × (w.held ≡ o.held)) (sym is) (least, end, refl)
+  | inr short ↦
+      let is : widened o base top ≡ o = cond-false (nat_lt (min o.base base) (max (top_of_extent o) top)) _ o short in
+      subst (λ (w : Object). (w.base ≤ o.base) × (top_of_extent o ≤ top_of_extent w) × (w.held ≡ o.held)) (sym is) (omega arith, omega arith, refl)
+]
+
+pub counts-widened : (owners : Owners) (objects after : Objects) (slot : ℕ) (o w : Object) → objects slot ≡ Some o → w.held ≡ o.held
+    → Sets objects slot (Some w) after → CountsAre owners (λ n. held_of (objects n)) → CountsAre owners (λ n. held_of (after n))
+counts-widened owners objects after slot o w there held set are n = elim (eqb_tells n slot) [
+  | inl same ↦ ap held_of (ap after same.1 ∙ set.0) ∙ held ∙ sym (ap held_of (ap objects same.1 ∙ there)) ∙ are n
+  | inr unlike ↦ ap held_of (set.1 n unlike.1) ∙ are n
+]
+
+pub within-widened : (state : State) (owners : Owners) (objects after : Objects) (slot : ℕ) (o w : Object) → objects slot ≡ Some o
+    → (w.base ≤ o.base) × (top_of_extent o ≤ top_of_extent w) → Sets objects slot (Some w) after → AreWithin state owners objects
+    → AreWithin state owners after
+within-widened state owners objects after slot o w there grows set known key other x owned x_there = elim (eqb_tells other slot) [
+  | inl same ↦
+      let x_is = same_Some w x (sym set.0 ∙ ap after (sym same.1) ∙ x_there) in
+      let is = known key other o owned (ap objects same.1 ∙ there) in
+      subst (IsWithin (state key)) x_is
+      (record { tagged = is.tagged; some = is.some; from = omega (arith, grows.0, is.from); until = omega (arith, grows.1, is.until) })
   | inr unlike ↦ known key other x owned (sym (set.1 other unlike.1) ∙ x_there)
 ]

@@ -1,5 +1,5 @@
 -- Steps that hand out objects, widen them and free them (this profile's own).
-use Rattle.std.specs.Prelude.{◌≡◌, ℕ, ◌+◌, ◌<◌, Bool, true, false, ◌&&◌, not, min, max, if◌then◌else◌, is_some, IsSomeAnd, MatchOption, Option, Some, None}
+use Rattle.std.specs.Prelude.{◌≡◌, ◌⊎◌, ℕ, ◌+◌, ◌<◌, Bool, true, false, ◌&&◌, not, min, max, if◌then◌else◌, is_some, IsSomeAnd, MatchOption, Option, Some, None}
 use Rattle.cap_word.specs.declared.word.Cap.{Cap}
 use Rattle.cap_bounds.specs.Bounds.{base_of, top_of}
 use Rattle.cap_ops.specs.{declared.refusal.Refusal.TheVariants.LimitPassed, Permissions.is_sealed}
@@ -54,6 +54,13 @@ NumberEnds old number end = ⊥
 abbrev pub WidenEnds : Run → Bool → ℕ → ℕ → RunEnd → Type 0
 WidenEnds old keeps register slot end = (object : Object) → old.objects slot ≡ Some object → let w = (old.state register).word.0 in
     ExtentEnds old keeps (Some slot) (min object.base (base_of w)) (max (top_of_extent object) (top_of w)) end
+
+-- why `object cN K` is refused
+abbrev pub AgainEnds : Run → Bool → ℕ → ℕ → RunEnd → Type 0
+AgainEnds old keeps register number end =
+    MatchOption (object_refusal old register)
+    (NumberEnds old number end ⊎ ((slot : ℕ) × IsLive old.objects number slot × WidenEnds old keeps register slot end))
+    (λ refusal. end ≡ Refused refusal)
 
 -- how many places hold an object that a capability was handed out as: none where its bounds are empty
 abbrev pub first_holders : Cap → ℕ

@@ -1,9 +1,9 @@
 //! Steps of runs that hand out objects and free them.
 
-ghost use Rattle.std.specs.Prelude.{◌≡◌, ◌≤◌, ◌<◌, ◌+◌, ◌-◌, ◌^◌, ℕ, None, Some, false, true, IsTrue, IsSomeAnd, OnErr, OnOk, IfErr, IfOk, IfSome, MatchOption};
+ghost use Rattle.std.specs.Prelude.{◌≡◌, ◌≤◌, ◌<◌, ◌+◌, ◌-◌, ◌^◌, ℕ, None, Some, false, true, IsTrue, IsSomeAnd, OnErr, OnOk, IfErr, IfOk, IfSome, MatchOption, min, max};
 ghost use Rattle.cap_bounds.specs.Bounds.{base_of, top_of};
 ghost use Rattle.cap_log.specs.Lines.{IsTarget};
-ghost use Rattle.cap_objects.specs.Handed.{AddsObject, HasRoom, IsLive, RefusesExtent, handed_out, with_held};
+ghost use Rattle.cap_objects.specs.Handed.{AddsObject, HasRoom, IsLive, RefusesExtent, handed_out, widened, with_held};
 ghost use Rattle.cap_objects.specs.{Counts.at_key, Extents.Sets, HandoutsIn.objects_of, Objects.top_of_extent};
 ghost use Rattle.cap_objects.specs.declared.objects.Object.{Object as ObjectIn};
 ghost use Rattle.cap_run.specs.declared.ends.RunRefusal.TheVariants.{Usual};
@@ -62,6 +62,31 @@ impl<M: TaggedStore> RunMachine<M> {
             Ok(slot) => {
                 self.machine.count_step();
                 Ok(slot)
+            }
+            Err(fault) => Err(fault),
+        }
+    }
+
+    // The extent of a live object becomes the least that holds it and an interval, and a step is counted.
+    fn widen_object(&mut self, slot: usize, base: u64, top: u128) -> Result<(), HandOutFault>
+        requires live { IsSomeAnd (objects_of self.old.objects slot) (λ object. object.freed ≡ false) }
+        requires long { base ≤ top }
+        requires in_memory { top ≤ 2 ^ 64 }
+        requires few { self.old.machine.steps < 2 ^ 32 - 1 }
+        ensures ok { OnOk result ((object : ObjectIn) → objects_of self.old.objects slot ≡ Some object
+            → Sets (objects_of self.old.objects) slot (Some (widened object base top)) (objects_of self.new.objects)) }
+        ensures held { OnOk result (self.new.machine ≡ record self.old.machine { steps = self.old.machine.steps + 1 }) }
+        ensures specials { self.new.specials ≡ self.old.specials }
+        ensures fault { IfErr result (λ fault. (object : ObjectIn) → objects_of self.old.objects slot ≡ Some object
+            → RefusesExtent self.old.objects.keeps (Some slot) (objects_of self.old.objects) (min object.base base) (max (top_of_extent object) top) fault) }
+        ensures err { OnErr result ((other : ℕ) → objects_of self.new.objects other ≡ objects_of self.old.objects other) }
+        ensures err_rest { OnErr result (self.new.machine ≡ self.old.machine) }
+        ensures same { (self.new.objects.count ≡ self.old.objects.count) × (self.new.objects.keeps ≡ self.old.objects.keeps) }
+    {
+        match self.objects.widen(slot, base, top) {
+            Ok(()) => {
+                self.machine.count_step();
+                Ok(())
             }
             Err(fault) => Err(fault),
         }
