@@ -1,11 +1,11 @@
 -- A granule that was filled.
-use Rattle.std.proofs.{Common.{◌≡◌, ◌==◌, ◌+◌, ◌<◌, ◌∙◌, ◌^◌, ℕ, Option, Some, None, false, ap, sym, subst, arith, inl, inr, refl}, Math.Path.fun_ext}
+use Rattle.std.proofs.{Common.{◌≡◌, ◌==◌, ◌<◌, ◌∙◌, ◌^◌, ℕ, Option, None, ap, sym, subst, arith, inl, inr}, Math.Path.fun_ext}
 use Rattle.std.proofs.Common.{ne_eqb}
 use Rattle.std.proofs.lemmas.{Bool.cond-false, Option.none-some}
 use Rattle.cap_word.specs.declared.word.Cap.{Cap}
 use Rattle.cap_machine.specs.{Accounts.Account, Changes.EndsPut, declared.ends.StepEnd.{StepEnd, TheVariants.{Refused, NoMemory}}}
 use Rattle.cap_machine.specs.{Helds.{Held, account_of, state_of}, Labels.filled, Places.place_at, States.{State, granule_key, put}}
-use Rattle.cap_objects.specs.{Counts.{Owners, at_key}, declared.{handouts.Handouts.Handouts, objects.Object.Object}, Extents.Objects, Handed.IsRecounted}
+use Rattle.cap_objects.specs.{Counts.{at_key}, declared.{handouts.Handouts.Handouts}, Extents.Objects, Handed.IsRecounted}
 use Rattle.cap_run.specs.declared.specials.Specials.{Specials}
 use Rattle.cap_run.specs.{GranuleSteps.Fills, Owned.{AreWithin, IsWithin, object_by}, Run.{first_special, with_specials}}
 use Rattle.cap_run.specs.{RunOf.{run_of, run_owners, run_state}, Specials.{cap_in, label_in}}
@@ -46,7 +46,7 @@ module _ (held new : Held) (specials : Specials) (granule : ℕ) (cap : Cap) (lo
           key,
           sym away.1 ∙ sym (fill-owners key) ∙ is,
           λ x w. subst (λ (c : Cap). IsWithin c x)
-          (sym (cond-false (granule_key granule == key) cap (run_state held specials key) (ne_eqb (granule_key granule) key away.0))) w,
+              (sym (cond-false (granule_key granule == key) cap (run_state held specials key) (ne_eqb (granule_key granule) key away.0))) w,
         )
       ]))
 

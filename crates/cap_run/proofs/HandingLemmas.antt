@@ -1,20 +1,19 @@
 -- Steps that hand out objects.
 use Rattle.std.specs.FinMap as map
-use Rattle.std.proofs.{Common.{◌≡◌, ◌≢◌, ◌==◌, ◌+◌, ◌-◌, ◌<◌, ◌≤◌, ◌&&◌, not, nat_le, nat_lt, ℕ, Bool, true, false, IsTrue, Some, None, Option, inl, inr}, Math.Path.fun_ext}
-use Rattle.std.proofs.Common.{if◌then◌else◌, is_some, IsSomeAnd, MatchOption, lt-ltb, refl, sym, ap, subst, ◌∙◌, arith}
-use Rattle.std.proofs.lemmas.{Bool.{and_parts, cases_Bool, cond-true, cond-false, false≢true, lt-leb, Decides.{eqb_tells, nat_tests}}, Option.{none-some, same_Some}}
+use Rattle.std.proofs.{Common.{◌≡◌, ◌==◌, ◌+◌, ◌-◌, ◌<◌, ◌&&◌, not, nat_lt, ℕ, Bool, true, false, Some, None, Option, inl, inr}, Math.Path.fun_ext}
+use Rattle.std.proofs.Common.{if◌then◌else◌, is_some, MatchOption, lt-ltb, refl, sym, ap, subst, ◌∙◌, arith}
+use Rattle.std.proofs.lemmas.{Bool.{and_parts, cases_Bool, cond-true, cond-false, false≢true, lt-leb, Decides.{eqb_tells, nat_tests}}, Option.{none-some}}
 use Rattle.cap_word.specs.declared.word.Cap.{Cap}
 use Rattle.cap_bounds.specs.Bounds.{base_of, top_of}
 use Rattle.cap_ops.specs.Permissions.{is_sealed}
 use Rattle.tagmem.specs.Granules.{Granules}
-use Rattle.cap_machine.specs.{Helds.Held, States.State}
+use Rattle.cap_machine.specs.{Helds.Held}
 use Rattle.cap_objects.specs.{Counts.{Owners, at_key}, declared.{handouts.Handouts.Handouts, objects.Object.Object}, Extents.{Objects, Sets}, HandoutsIn.objects_of}
 use Rattle.cap_objects.specs.declared.handouts.HandOutFault.{HandOutFault, TheVariants.{Overlaps, StillHeld, NoMemory}}
-use Rattle.cap_objects.specs.{Handed.{AddsObject, HasRoom, RefusesExtent, handed_out, last_below, with_held}, Objects.top_of_extent}
+use Rattle.cap_objects.specs.{Handed.{AddsObject, RefusesExtent, handed_out, last_below, with_held}, Objects.top_of_extent}
 use Rattle.cap_run.specs.declared.{ends.RunRefusal.RunRefusal, specials.Specials.Specials}
 use Rattle.cap_run.specs.ObjectSteps.{ExtentEnds, HandsOut, ended, first_holders, is_capability, object_refusal}
 use Rattle.cap_run.specs.{Owned.{IsWithin, is_empty, owner_for}, Run.Run, RunOf.{run_of, run_owners, run_state}, RunSteps.{IsUnstepped, step_limit}}
-use Rattle.cap_run.proofs.ObjectLemmas.{put-same}
 
 pub match_none : {A : Type 0} (o : Option A) (N : Type 0) (S : A → Type 0) → o ≡ None → N → MatchOption o N S
 match_none {A} o N S is n = subst (λ (v : Option A). MatchOption v N S) (sym is) n

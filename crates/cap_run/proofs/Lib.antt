@@ -4,3 +4,4 @@ mod ObjectLemmas
 mod HandingLemmas
 mod SafetyLemmas
 mod FillLemmas
+mod WideningLemmas

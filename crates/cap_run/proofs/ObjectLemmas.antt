@@ -1,6 +1,6 @@
 -- Owners and counts where an object is handed out, widened, given or freed.
-use Rattle.std.proofs.Common.{◌≡◌, ◌≢◌, ◌==◌, ◌+◌, ◌-◌, ◌<◌, ◌≤◌, ◌^◌, ℕ, Bool, true, false, IsTrue, Some, None, Option, inl, inr, length, IsSome, IsSomeAnd, not, ◌||◌, min, max}
-use Rattle.std.proofs.Common.{if◌then◌else◌, nat_lt, le-ltb, lt-ltb, refl, sym, ap, subst, ◌∙◌, arith, ◌⊎◌, eq-eqb, ne_eqb}
+use Rattle.std.proofs.Common.{◌≡◌, ◌==◌, ◌+◌, ◌-◌, ◌<◌, ◌≤◌, ℕ, Bool, true, false, Some, None, Option, inl, inr, length, IsSome, IsSomeAnd, not, ◌||◌, min, max}
+use Rattle.std.proofs.Common.{if◌then◌else◌, nat_lt, le-ltb, lt-ltb, refl, sym, ap, subst, ◌∙◌, arith, ne_eqb}
 use Rattle.std.proofs.lemmas.{Bool.{cases_Bool, cases_lt, cond-true, cond-false, false≢true, Decides.{eqb_tells, nat_tests}}, Option.{none-some, same_Some}, List.get_or_past}
 use Rattle.cap_word.specs.declared.word.Cap.{Cap}
 use Rattle.cap_log.specs.declared.lines.Place.TheVariants.{Register}
@@ -9,7 +9,7 @@ use Rattle.cap_objects.specs.Counts.{CountsAre, Moves, Owners, at_key, most_plac
 use Rattle.cap_objects.specs.{declared.objects.Object.Object, Extents.{Objects, Sets, is_present}, Handed.{freed_in, held_of, widened, with_held}, Indexes.kept, Objects.top_of_extent}
 use Rattle.cap_objects.proofs.BelowLemmas.{counts_where}
 use Rattle.cap_run.specs.declared.specials.Specials.{Specials}
-use Rattle.cap_run.specs.{Owned.{AreWithin, IsWithin, object_by}, Run.{first_special, with_specials}, RunOf.{run_owners, run_state}, Specials.{cap_in, label_in}}
+use Rattle.cap_run.specs.{Owned.{AreWithin, IsWithin, object_by}, Run.{first_special}, RunOf.{run_owners, run_state}, Specials.{label_in}}
 use Rattle.cap_run.proofs.OwnerLemmas.{either-key}
 
 -- past the places' keys nothing is owned

@@ -1,10 +1,9 @@
 -- Objects are apart at each moment.
-use Rattle.std.proofs.Common.{◌≡◌, ◌≢◌, ◌<◌, ◌≤◌, ℕ, Bool, false, Some, Option, length, sym, ap, subst, ◌∙◌, arith}
-use Rattle.std.proofs.lemmas.Option.{same_Some}
+use Rattle.std.proofs.Common.{◌≡◌, length, sym, ap, ◌∙◌, arith}
 use Rattle.cap_machine.specs.Helds.{Held}
 use Rattle.cap_objects.specs.{Counts.CountsAre, declared.handouts.Handouts.Handouts, Handed.{ArePresent, held_of}, HandoutsIn.objects_of}
 use Rattle.cap_run.specs.declared.specials.Specials.{Specials}
-use Rattle.cap_run.specs.{Owned.{AreWithin, IsWithin}, RunOf.{run_of, run_owners, run_state}, Safety.IsSafe}
+use Rattle.cap_run.specs.{Owned.{AreWithin}, RunOf.{run_of, run_owners, run_state}, Safety.IsSafe}
 use Rattle.cap_run.proofs.ObjectLemmas.{owner-there}
 
 pub safe-kept : (held : Held) (specials : Specials) (h : Handouts) → length specials.labels ≡ 32

@@ -1,8 +1,8 @@
 -- Steps that hand out objects, widen them and free them (this profile's own).
-use Rattle.std.specs.Prelude.{◌≡◌, ◌⊎◌, ℕ, ◌+◌, ◌<◌, Bool, true, false, ◌&&◌, not, min, max, if◌then◌else◌, is_some, IsSomeAnd, MatchOption, Option, Some, None}
+use Rattle.std.specs.Prelude.{◌≡◌, ◌⊎◌, ℕ, ◌+◌, Bool, true, false, ◌&&◌, not, min, max, if◌then◌else◌, is_some, IsSomeAnd, MatchOption, Option, Some, None}
 use Rattle.cap_word.specs.declared.word.Cap.{Cap}
 use Rattle.cap_bounds.specs.Bounds.{base_of, top_of}
-use Rattle.cap_ops.specs.{declared.refusal.Refusal.TheVariants.LimitPassed, Permissions.is_sealed}
+use Rattle.cap_ops.specs.{Permissions.is_sealed}
 use Rattle.cap_objects.specs.{Counts.at_key, declared.objects.Object.Object, Extents.Sets, Indexes.kept, Objects.top_of_extent}
 use Rattle.cap_objects.specs.Handed.{AddsObject, HasNoLive, HasRoom, IsLive, RefusesExtent, freed_in, handed_out, widened, with_held}
 use Rattle.cap_objects.specs.declared.handouts.HandOutFault.{HandOutFault}

@@ -1,5 +1,5 @@
 -- What is safe at each moment of a run (this profile's own).
-use Rattle.std.specs.Prelude.{◌≡◌, ◌≢◌, ℕ, Bool, false, true, IsTrue, Some}
+use Rattle.std.specs.Prelude.{◌≡◌, ◌≢◌, ℕ, Bool, false, IsTrue, Some}
 use Rattle.cap_bounds.specs.Bounds.{base_of, top_of}
 use Rattle.cap_objects.specs.{Counts.owned_by, declared.objects.Object.Object, Extents.is_present, Objects.{Share, top_of_extent}}
 use Rattle.cap_run.specs.{Owned.IsWithin, Run.Run}

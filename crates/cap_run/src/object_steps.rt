@@ -1,13 +1,14 @@
 //! Steps of runs that hand out objects and free them.
 
-ghost use Rattle.std.specs.Prelude.{◌≡◌, ◌≤◌, ◌<◌, ◌+◌, ◌-◌, ◌^◌, ℕ, None, Some, false, true, IsTrue, IsSomeAnd, OnErr, OnOk, IfErr, IfOk, IfSome, MatchOption, min, max};
+ghost use Rattle.std.specs.Prelude.{◌≡◌, ◌≤◌, ◌<◌, ◌+◌, ◌-◌, ◌^◌, ℕ, None, Some, false, true, IsTrue, IsSome, IsSomeAnd, OnErr, OnOk, IfErr, IfOk, IfSome, MatchOption, min, max};
 ghost use Rattle.cap_bounds.specs.Bounds.{base_of, top_of};
 ghost use Rattle.cap_log.specs.Lines.{IsTarget};
 ghost use Rattle.cap_objects.specs.Handed.{AddsObject, HasRoom, IsLive, RefusesExtent, handed_out, widened, with_held};
 ghost use Rattle.cap_objects.specs.{Counts.at_key, Extents.Sets, HandoutsIn.objects_of, Objects.top_of_extent};
 ghost use Rattle.cap_objects.specs.declared.objects.Object.{Object as ObjectIn};
 ghost use Rattle.cap_run.specs.declared.ends.RunRefusal.TheVariants.{Usual};
-ghost use Rattle.cap_run.specs.{ObjectSteps.{ExtentEnds, FreeEnds, FreeNumberEnds, Frees, HandsOut, ObjectEnds, ended, is_capability, object_refusal}, Owned.IsWithin};
+ghost use Rattle.cap_ops.specs.declared.refusal.Refusal.TheVariants.{LimitPassed};
+ghost use Rattle.cap_run.specs.{ObjectSteps.{AgainEnds, ExtentEnds, FreeEnds, FreeNumberEnds, Frees, HandsOut, ObjectEnds, WidenEnds, Widens, ended, is_capability, object_refusal}, Owned.IsWithin};
 ghost use Rattle.cap_run.specs.{RunOf.{run_of, run_owners, run_state}, RunSteps.{IsUnstepped, step_limit}};
 
 use crate::ends::{RunEnd, RunRefusal};
@@ -175,6 +176,80 @@ impl<M: TaggedStore> RunMachine<M> {
                 Ok(slot)
             }
         }
+    }
+
+    /// What a register holds is the live object's with this number as well, as realloc in place: its extent becomes the
+    /// least interval that holds it and the bounds. It is refused for the first of these: `NoCapability` and `HasOwner` as
+    /// for `object`; no object with the number was handed out (`NoObject`); it was freed (`AlreadyFreed`); that interval
+    /// shares an address with the extent of another live object (`Overlaps`), or with that of a freed object that is held,
+    /// if those are compared (`StillHeld`); there are 4,294,967,295 steps (`LimitPassed`). After an error nothing has
+    /// changed.
+    pub fn object_again(&mut self, register: u8, number: u32) -> Result<usize, RunEnd>
+        requires { IsTarget register }
+        ensures ok { IfOk result (λ slot. IsLive (objects_of self.old.objects) number slot
+            × Widens (run_of self.old.machine self.old.specials self.old.objects) register slot
+            (run_of self.new.machine self.new.specials self.new.objects)) }
+        ensures can { OnOk result (let old = run_of self.old.machine self.old.specials self.old.objects in
+            (object_refusal old register ≡ None) × (step_limit old ≡ None)) }
+        ensures end { IfErr result (AgainEnds (run_of self.old.machine self.old.specials self.old.objects) self.old.objects.keeps register number) }
+        ensures err { OnErr result (run_of self.new.machine self.new.specials self.new.objects
+            ≡ run_of self.old.machine self.old.specials self.old.objects) }
+    {
+        if let Some(refusal) = self.object_refusal(register) {
+            return Err(RunEnd::Refused(refusal));
+        }
+        match self.objects.live(number) {
+            Err(NumberFault::NoObject) => Err(RunEnd::Refused(RunRefusal::NoObject)),
+            Err(NumberFault::AlreadyFreed) => Err(RunEnd::Refused(RunRefusal::AlreadyFreed)),
+            Ok(slot) => match self.widen_for(register, slot) {
+                Ok(()) => Ok(slot),
+                Err(end) => Err(end),
+            },
+        }
+    }
+
+    // The live object in a slot becomes the owner of a register as well, and its extent holds the bounds.
+    fn widen_for(&mut self, register: u8, slot: usize) -> Result<(), RunEnd>
+        requires register { IsTarget register }
+        requires low { slot < 2 ^ 32 }
+        requires live { IsSomeAnd (objects_of self.old.objects slot) (λ object. object.freed ≡ false) }
+        requires can { object_refusal (run_of self.old.machine self.old.specials self.old.objects) register ≡ None }
+        ensures ok { OnOk result (Widens (run_of self.old.machine self.old.specials self.old.objects) register slot
+            (run_of self.new.machine self.new.specials self.new.objects)) }
+        ensures few { OnOk result (step_limit (run_of self.old.machine self.old.specials self.old.objects) ≡ None) }
+        ensures end { IfErr result (WidenEnds (run_of self.old.machine self.old.specials self.old.objects) self.old.objects.keeps register slot) }
+        ensures err { OnErr result (run_of self.new.machine self.new.specials self.new.objects
+            ≡ run_of self.old.machine self.old.specials self.old.objects) }
+    {
+        let bounds = bounds(self.register(RunRegister::General(register)).word);
+        if self.step_limit().is_some() {
+            return Err(self.late_widening(slot, bounds.base, bounds.top));
+        }
+        match self.widen_object(slot, bounds.base, bounds.top) {
+            Err(fault) => Err(ended(fault)),
+            Ok(()) => {
+                if u128::from(bounds.base) < bounds.top {
+                    self.give(register, slot);
+                }
+                Ok(())
+            }
+        }
+    }
+
+    // How widening ends past the limit on steps.
+    #[cold]
+    fn late_widening(&self, slot: usize, base: u64, top: u128) -> RunEnd
+        requires there { IsSome (objects_of self.now.objects slot) }
+        requires in_memory { top ≤ 2 ^ 64 }
+        requires late { step_limit (run_of self.now.machine self.now.specials self.now.objects) ≡ Some (Usual LimitPassed) }
+        ensures { (object : ObjectIn) → objects_of self.now.objects slot ≡ Some object
+            → ExtentEnds (run_of self.now.machine self.now.specials self.now.objects) self.now.objects.keeps (Some slot)
+            (min object.base base) (max (top_of_extent object) top) result }
+    {
+        let object = self.objects.object(slot);
+        let low = object.base.min(base);
+        let high = object.top().max(top);
+        self.late_end(low, high, Some(slot), Refusal::LimitPassed)
     }
 
     // The live object in a slot is freed, and a step is counted.

@@ -1,4 +1,4 @@
-use Rattle.std.proofs.{Common.{ℕ, Option, Some, refl, sym, ap, subst, arith, ◌+◌}, Math.Path.fun_ext}
+use Rattle.std.proofs.{Common.{refl, sym, ap, subst, arith, ◌+◌}, Math.Path.fun_ext}
 use Rattle.cap_machine.specs.Helds.{Held}
 use Rattle.cap_objects.specs.{Counts.CountsAre, Extents.Objects, Handed.{handed_out, held_of}, HandoutsIn.objects_of}
 use Rattle.cap_run.specs.{Owned.AreWithin, RunOf.{run_owners, run_state}}

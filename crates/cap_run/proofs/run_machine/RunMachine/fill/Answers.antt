@@ -1,4 +1,4 @@
-use Rattle.std.proofs.Common.{ℕ, None, refl, sym, ap, subst, arith, ◌∙◌}
+use Rattle.std.proofs.Common.{None, refl, sym, ap, subst, arith, ◌∙◌}
 use Rattle.cap_machine.specs.{Accounts.Account, Helds.Held, States.granule_key}
 use Rattle.cap_objects.specs.{Counts.CountsAre, Handed.held_of, HandoutsIn.objects_of}
 use Rattle.cap_objects.proofs.BelowLemmas.{counts_few, counts_where}

@@ -1,5 +1,4 @@
-use Rattle.std.proofs.Common.{sym, subst, ◌∙◌}
-use Rattle.std.specs.Option.{IsSome}
+use Rattle.std.proofs.Common.{sym, ◌∙◌}
 use Rattle.cap_objects.specs.HandoutsIn.{objects_of}
 use Rattle.cap_run.proofs.ObjectLemmas.{owner-there, to_is_some}
 use Rattle.cap_run.proofs.run_machine.RunMachine.free.Goals as goal

@@ -1,4 +1,4 @@
-use Rattle.std.proofs.Common.{ℕ, sym, ap, subst, arith}
+use Rattle.std.proofs.Common.{sym, ap, subst, arith}
 use Rattle.cap_machine.specs.Helds.{Held}
 use Rattle.cap_objects.specs.{Counts.CountsAre, Handed.held_of, HandoutsIn.objects_of}
 use Rattle.cap_run.specs.{Owned.AreWithin, RunOf.{run_owners, run_state}}

@@ -1,9 +1,8 @@
-use Rattle.std.proofs.{Common.{◌≡◌, ◌+◌, ◌<◌, ◌≤◌, ◌∙◌, ◌^◌, ℕ, Option, Some, None, refl, sym, ap, subst, arith}, Math.Path.fun_ext}
-use Rattle.cap_word.specs.declared.word.Cap.{Cap}
-use Rattle.cap_machine.specs.{Places.place_at, States.{State, put}}
-use Rattle.cap_objects.specs.{Counts.{CountsAre, at_key}, Handed.held_of, HandoutsIn.objects_of}
+use Rattle.std.proofs.{Common.{◌≡◌, ◌<◌, ◌∙◌, ℕ, Option, Some, None, refl, sym, ap, subst, arith}, Math.Path.fun_ext}
+use Rattle.cap_machine.specs.{States.{State}}
+use Rattle.cap_objects.specs.{Counts.{at_key}, Handed.held_of, HandoutsIn.objects_of}
 use Rattle.cap_objects.proofs.BelowLemmas.{counts_few}
-use Rattle.cap_run.specs.{Owned.{AreWithin, object_by}, Run.first_special, RunOf.{run_owners, run_state}}
+use Rattle.cap_run.specs.{Owned.{AreWithin}, Run.first_special, RunOf.{run_owners, run_state}}
 use Rattle.cap_run.proofs.{ObjectLemmas.{given-moves, main-state, put-same, slot-label, some_and, to_some_and, within-given}, OwnerLemmas.counts-to}
 use Rattle.cap_run.proofs.run_machine.RunMachine.give.Goals as goal
 

@@ -1,11 +1,10 @@
-use Rattle.std.proofs.Common.{◌≡◌, ◌<◌, ◌+◌, ℕ, Option, Some, None, ap, sym, subst, ◌∙◌, rules, is_some, arith}
-use Rattle.std.proofs.lemmas.Bool.{false≢true}
+use Rattle.std.proofs.Common.{◌≡◌, ◌+◌, ℕ, None, ap, sym, subst, ◌∙◌, rules, arith}
 use Rattle.cap_word.specs.declared.word.Cap.{Cap}
 use Rattle.cap_bounds.specs.Bounds.{base_of, top_of}
-use Rattle.cap_machine.specs.{Helds.Held, States.State}
+use Rattle.cap_machine.specs.{States.State}
 use Rattle.cap_objects.specs.{Counts.Owners, Handed.{HasRoom, RefusesExtent, handed_out}, HandoutsIn.objects_of}
 use Rattle.cap_run.specs.ObjectSteps.{ExtentEnds}
-use Rattle.cap_run.specs.{Owned.IsWithin, RunOf.{run_of, run_owners, run_state}, RunSteps.step_limit}
+use Rattle.cap_run.specs.{Owned.IsWithin, RunOf.{run_of}, RunSteps.step_limit}
 use Rattle.cap_run.proofs.HandingLemmas.{extent-ended, hands-out-empty, hands-out-long, match_none, mid-owners, mid-state, none_of, refusal-none, run-same, within-new}
 use Rattle.cap_run.proofs.ObjectLemmas.{to_some_and}
 use Rattle.cap_run.proofs.run_machine.RunMachine.object.Goals as goal

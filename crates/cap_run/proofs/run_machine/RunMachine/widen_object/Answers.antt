@@ -1,6 +1,6 @@
-use Rattle.std.proofs.{Common.{ℕ, sym, ap, subst, arith}, Math.Path.fun_ext}
+use Rattle.std.proofs.{Common.{sym, ap, subst, arith}, Math.Path.fun_ext}
 use Rattle.cap_machine.specs.Helds.{Held}
-use Rattle.cap_objects.specs.{Counts.CountsAre, Extents.Objects, Handed.{held_of, widened}, HandoutsIn.objects_of}
+use Rattle.cap_objects.specs.{Counts.CountsAre, Extents.Objects, Handed.{held_of}, HandoutsIn.objects_of}
 use Rattle.cap_run.specs.{Owned.AreWithin, RunOf.{run_owners, run_state}}
 use Rattle.cap_run.proofs.ObjectLemmas.{counts-widened, some_and, widened-grows, within-widened}
 use Rattle.cap_run.proofs.run_machine.RunMachine.widen_object.Goals as goal
