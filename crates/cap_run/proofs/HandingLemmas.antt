@@ -43,7 +43,6 @@ within-new cap number step base top capable base_is top_is some =
     let end = extent-top number step base top some in
     record {
       tagged = (and_parts cap.tag (not (is_sealed cap.word.0)) capable).0;
-      some = omega (arith, base_is, top_is);
       from = omega (arith, base_is);
       until = omega (arith, top_is, end);
     }

@@ -5,3 +5,4 @@ mod HandingLemmas
 mod SafetyLemmas
 mod FillLemmas
 mod WideningLemmas
+mod UsualLemmas

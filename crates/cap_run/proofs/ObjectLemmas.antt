@@ -75,7 +75,7 @@ within-given state owners after old new key slot o there is set after_is known o
           let y_is : o ≡ y = same_Some o y (sym there ∙ ap old (sym same.1) ∙ y_there) in
           let x_is : with_held o (o.held + 1) ≡ x = same_Some (with_held o (o.held + 1)) x (sym set.0 ∙ ap new (sym same.1) ∙ x_there) in
           let v = subst (IsWithin (state other)) (sym y_is) w in
-          subst (IsWithin (state other)) x_is (record { tagged = v.tagged; some = v.some; from = v.from; until = v.until })
+          subst (IsWithin (state other)) x_is (record { tagged = v.tagged; from = v.from; until = v.until })
       | inr unlike ↦ subst (IsWithin (state other)) (same_Some y x (sym y_there ∙ sym (set.1 other_slot unlike.1) ∙ x_there)) w
     ] in
     elim (either-key owners key (Some slot) other) [
@@ -155,7 +155,7 @@ within-freed state owners objects after slot o step there set known key other x 
   | inl same ↦
       let x_is = kept_some (freed_in step o) x (sym set.0 ∙ ap after (sym same.1) ∙ x_there) in
       let w = known key other o owned (ap objects same.1 ∙ there) in
-      subst (IsWithin (state key)) x_is (record { tagged = w.tagged; some = w.some; from = w.from; until = w.until })
+      subst (IsWithin (state key)) x_is (record { tagged = w.tagged; from = w.from; until = w.until })
   | inr unlike ↦ known key other x owned (sym (set.1 other unlike.1) ∙ x_there)
 ]
 
@@ -196,6 +196,6 @@ within-widened state owners objects after slot o w there grows set known key oth
       let x_is = same_Some w x (sym set.0 ∙ ap after (sym same.1) ∙ x_there) in
       let is = known key other o owned (ap objects same.1 ∙ there) in
       subst (IsWithin (state key)) x_is
-      (record { tagged = is.tagged; some = is.some; from = omega (arith, grows.0, is.from); until = omega (arith, grows.1, is.until) })
+      (record { tagged = is.tagged; from = omega (arith, grows.0, is.from); until = omega (arith, grows.1, is.until) })
   | inr unlike ↦ known key other x owned (sym (set.1 other unlike.1) ∙ x_there)
 ]

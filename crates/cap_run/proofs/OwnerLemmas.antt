@@ -64,7 +64,7 @@ pub shrinks : (cap source : Cap) (object : Object) → IsTrue cap.tag → base_o
     → StaysWithin cap source → IsWithin source object → IsWithin cap object
 shrinks cap source object tagged some sound stays is =
     let reach = (stays.no_more tagged (sound (stays.from_tagged tagged))).inside in
-    record { tagged = tagged; some = some; from = omega (arith, reach, is.from); until = omega (arith, reach, is.until) }
+    record { tagged = tagged; from = omega (arith, reach, is.from); until = omega (arith, reach, is.until) }
 
 -- where all that is owned comes from what its owner owned before
 pub within-came : (old new : State) (owners after : Owners) (objects changed : Objects) → AreWithin old owners objects → IsRecounted objects changed
@@ -75,7 +75,7 @@ within-came old new owners after objects changed known counted came key slot o o
     let was = recounted-some objects changed counted slot o there in
     let c = came key slot owned in
     let is = c.2 was.0 (known c.0 slot was.0 c.1 was.1) in
-    subst (IsWithin (new key)) (sym was.2) (record { tagged = is.tagged; some = is.some; from = is.from; until = is.until })
+    subst (IsWithin (new key)) (sym was.2) (record { tagged = is.tagged; from = is.from; until = is.until })
 
 -- counts after a place got another owner
 pub counts-to : (owners after : Owners) (counts new : ℕ → ℕ) (key : ℕ) (from to owner : Option ℕ) → key < most_places → CountsAre owners counts

@@ -42,7 +42,6 @@ within-wide cap o base top capable base_is top_is some =
     let start = widened-base o base top some in
     record {
       tagged = (and_parts cap.tag (not (is_sealed cap.word.0)) capable).0;
-      some = omega (arith, base_is, top_is, some);
       from = omega (arith, base_is, start);
       until = omega (arith, top_is, end);
     }

@@ -7,3 +7,4 @@ pub mod RunOf
 pub mod ObjectSteps
 pub mod Safety
 pub mod GranuleSteps
+pub mod UsualSteps

@@ -1,5 +1,5 @@
 -- Which objects own places, by the slots of the present objects (this profile's own).
-use Rattle.std.specs.Prelude.{◌≡◌, ◌&&◌, not, nat_le, ◌<◌, ◌≤◌, ℕ, Bool, if◌then◌else◌, IsTrue, Option, Some, None}
+use Rattle.std.specs.Prelude.{◌≡◌, ◌&&◌, not, nat_le, ◌≤◌, ℕ, Bool, if◌then◌else◌, IsTrue, Option, Some, None}
 use Rattle.cap_word.specs.declared.word.Cap.{Cap}
 use Rattle.cap_bounds.specs.Bounds.{base_of, top_of}
 use Rattle.cap_log.specs.declared.lines.Place.{Place, TheVariants.{Register, Granule}}
@@ -21,10 +21,9 @@ is_empty w = nat_le (top_of w) (base_of w)
 abbrev pub owner_for : Cap → Option ℕ → Option ℕ
 owner_for cap owner = if cap.tag && not (is_empty cap.word.0) then owner else None
 
--- what an object owns is tagged, and has bounds that aren't empty inside the object's extent
+-- what an object owns is tagged, and has bounds inside the object's extent
 pub record IsWithin (cap : Cap) (object : Object) : Type 0 where
   pub tagged : IsTrue cap.tag
-  pub some : base_of cap.word.0 < top_of cap.word.0
   pub from : object.base ≤ base_of cap.word.0
   pub until : top_of cap.word.0 ≤ top_of_extent object
 

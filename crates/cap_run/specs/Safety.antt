@@ -11,7 +11,7 @@ IsGuarded keeps object = keeps ≡ false → object.freed ≡ false
 
 -- no address lies in the extents of two objects, nor in what two capabilities of two objects reach
 pub record IsSafe (keeps : Bool) (run : Run) : Type 0 where
-  -- what an object owns is tagged, and has bounds that aren't empty inside the extent of the object, which is present
+  -- what an object owns is tagged, and has bounds inside the extent of the object, which is present
   pub within : (place slot : ℕ) → run.owners place ≡ Some slot
       → (object : Object) × (run.objects slot ≡ Some object) × IsTrue (is_present object) × IsWithin (run.state place) object
   pub extents : (one two : ℕ) (a b : Object) → run.objects one ≡ Some a → run.objects two ≡ Some b → one ≢ two → IsGuarded keeps a

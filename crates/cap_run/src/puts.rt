@@ -40,7 +40,7 @@ pub(crate) fn put_at<M: TaggedStore>(
 
 // Whether the bounds of a word hold no address.
 #[inline(always)]
-fn is_empty(word: Word) -> bool
+pub(crate) fn is_empty(word: Word) -> bool
     ensures { result ≡ is_empty word.0 }
 {
     let bounds = bounds(word);
