@@ -1,11 +1,18 @@
 -- Lines that only run logs have, by their heads: what stands behind each head, and the line that head and operands make.
 use Rattle.std.proofs.Common.{append_assoc, ◌≡◌, ℕ, ◌+◌, ◌≤◌, ◌^◌, List, ◌∷◌, ◌++◌, length, sym, ap, subst, ◌∙◌, refl, Bool, false}
-use Rattle.std.proofs.{Common.{decimal, codes, if◌then◌else◌, bytes_eq}, lemmas.Bool.false≢true}
+use Rattle.std.proofs.{Common.{decimal, codes, if◌then◌else◌, bytes_eq, lit≤}, lemmas.Bool.false≢true}
 use Rattle.cap_word.specs.{declared.word.{Cap.Cap, Word.Word}, Digits.hex_digits}
 use Rattle.cap_log.specs.declared.{kinds.{Head.Head, Step.Step}, lines.Line.Line}
 use Rattle.cap_log.specs.{Heads.head_spelling, Lines.{IsInRange, IsRegister, IsTarget, IsWord, register_spelling, spelling, tag_spelling}}
 use Rattle.cap_log.specs.Parts.{Begins, BeginsWithNone, FitBoth, HasNoSpace, result_spelling, spaced}
-use Rattle.cap_log.specs.Spaceless.{Lacks-by_test, head-spaceless}
+use Rattle.cap_log.specs.Spaceless.{Lacks-by_test, digits-spaceless, head-spaceless, register-spaceless}
+use Rattle.cap_log.proofs.OperandLemmas.{FitBoth-operand, IsOperand, Spaceless, mapped}
+use Rattle.cap_log.proofs.PartLemmas.{register-operand, result-operand, target-operand, word-operand}
+use Rattle.cap_run_log.specs.Spaces.{equals-spaceless, granule-spaceless, place-spaceless, register_at-spaceless}
+pub use Rattle.cap_run_log.specs.Spaces.{run_head-spaceless}
+use Rattle.cap_run_log.specs.Spaces.{special-spaceless, tag-spaceless}
+use Rattle.cap_run_log.proofs.Operands.{freed-operand, granule-operand, handed-operand, register_at-operand, run_place-operand}
+use Rattle.cap_run_log.proofs.Operands.{special-operand, tag-operand}
 use Rattle.cap_log.proofs.{Cuts.same_cut, Shapes.{head-operand, head_of, operands_of, spelling-of, text}}
 use Rattle.cap_run_log.specs.declared.{heads.RunHead.RunHead, lines.{RunLine.RunLine, RunPlace.RunPlace, RunStep.RunStep}}
 use Rattle.cap_run_log.specs.declared.parts.{Equals.Equals, Freed.Freed, Granule.Granule, Handed.Handed, Source.Source}
@@ -15,55 +22,87 @@ use Rattle.cap_run_log.specs.RunLines.{IsGranule, IsRunLineInRange, IsRunPlace, 
 use Rattle.cap_run_log.specs.RunLines.{run_place_spelling, run_register_spelling, run_spelling, special_spelling}
 use Rattle.cap_run_log.specs.RunParts.{IsFreed, IsHanded, StandsAfter, freed_spelling, handed_spelling}
 
--- a kind of part: its values, those in range, and their bytes
-record Row : Type 1 where
+-- a kind of part: its values, those in range, and their bytes: each has one spelling of at most so many bytes
+pub record Row : Type 1 where
   pub Value_is : Type 0
   pub Fits_is : Value_is → Type 0
   pub text_is : Value_is → List ℕ
+  pub most : ℕ
+  pub operand : IsOperand Fits_is text_is most
 
-abbrev one : (A : Type 0) (Fits : A → Type 0) (spelled : A → List ℕ) → Row
-one A Fits spelled = record { Value_is = A; Fits_is = Fits; text_is = spelled }
+abbrev one : {A : Type 0} (Fits : A → Type 0) (spelled : A → List ℕ) (n : ℕ) → IsOperand Fits spelled n → Row
+one {A} Fits spelled n operand = record { Value_is = A; Fits_is = Fits; text_is = spelled; most = n; operand = operand }
 
-abbrev then_ : Row → Row → Row
-then_ first second = record {
+-- a part of one word, a space, and another
+abbrev then_ : (first : Row) → Spaceless first.Fits_is first.text_is → Row → Row
+then_ first spaceless second = record {
   Value_is = first.Value_is × second.Value_is;
   Fits_is = FitBoth first.Fits_is second.Fits_is;
   text_is = spaced first.text_is second.text_is;
+  most = first.most + 1 + second.most;
+  operand = FitBoth-operand first.Fits_is first.text_is first.most second.Fits_is second.text_is second.most spaceless
+      first.operand second.operand;
 }
 
-abbrev a_target : Row
-a_target = one ℕ IsTarget register_spelling
+abbrev target : Row → Row
+target = then_ (one IsTarget register_spelling 3 target-operand) (λ n fits. register-spaceless n fits.1)
 
-abbrev a_register : Row
-a_register = one ℕ IsRegister register_spelling
+abbrev register : Row → Row
+register = then_ (one IsRegister register_spelling 3 register-operand) register-spaceless
 
-abbrev a_special : Row
-a_special = one Special (λ special. IsRegister special.0) (λ special. special_spelling special.0)
+abbrev special : Row → Row
+special = then_ (one (λ (s : Special). IsRegister s.0) (λ s. special_spelling s.0) 5
+    (mapped IsRegister special_spelling 5 special-operand (λ s. s.0) (λ n. record { 0 = n }) (λ _. refl))) (λ s fits. special-spaceless s.0 fits)
 
-abbrev an_equals : Row
-an_equals = one Equals (λ sign. Unit {0}) (λ sign. codes "=")
+abbrev written : Row → Row
+written = then_ (one (λ (r : Written). IsRunRegister 1 r.0) (λ r. run_register_spelling r.0) 5
+    (mapped (IsRunRegister 1) run_register_spelling 5 (register_at-operand 1) (λ r. r.0) (λ n. record { 0 = n }) (λ _. refl)))
+    (λ r fits. register_at-spaceless 1 r.0 fits)
 
-abbrev a_tag : Row
-a_tag = one Tag (λ tag. Unit {0}) (λ tag. tag_spelling tag.0)
+abbrev source : Row → Row
+source = then_ (one (λ (r : Source). IsRunRegister 0 r.0) (λ r. run_register_spelling r.0) 5
+    (mapped (IsRunRegister 0) run_register_spelling 5 (register_at-operand 0) (λ r. r.0) (λ n. record { 0 = n }) (λ _. refl)))
+    (λ r fits. register_at-spaceless 0 r.0 fits)
+
+pub equals-operand : IsOperand (λ (sign : Equals). Unit {0}) (λ sign. codes "=") 1
+equals-operand = record { one = λ a b fits fits' e. refl; plain = λ a fits. Lacks-by_test 10 (codes "=") refl; short = λ a fits. lit≤ tt }
+
+abbrev equals : Row → Row
+equals = then_ (one (λ (sign : Equals). Unit {0}) (λ sign. codes "=") 1 equals-operand) (λ sign fits. equals-spaceless)
+
+abbrev tag : Row → Row
+tag = then_ (one (λ (t : Tag). Unit {0}) (λ t. tag_spelling t.0) 1
+    (mapped (λ (t : Bool). Unit {0}) tag_spelling 1 tag-operand (λ t. t.0) (λ b. record { 0 = b }) (λ _. refl))) (λ t fits. tag-spaceless t.0)
 
 abbrev a_word : Row
-a_word = one Word (λ word. IsWord word.0) (λ word. hex_digits 32 word.0)
+a_word = one (λ (word : Word). IsWord word.0) (λ word. hex_digits 32 word.0) 32
+    (mapped IsWord (hex_digits 32) 32 word-operand (λ word. word.0) (λ n. record { 0 = n }) (λ _. refl))
+
+abbrev word : Row → Row
+word = then_ a_word (λ w fits. digits-spaceless 32 w.0)
 
 abbrev a_place : Row
-a_place = one RunPlace IsRunPlace run_place_spelling
+a_place = one IsRunPlace run_place_spelling 17 run_place-operand
+
+pub one-operand : IsOperand (λ (version : One). Unit {0}) (λ version. codes "1") 1
+one-operand = record { one = λ a b fits fits' e. refl; plain = λ a fits. Lacks-by_test 10 (codes "1") refl; short = λ a fits. lit≤ tt }
 
 -- what stands behind a head
-abbrev row : RunHead → Row
-row RunHead.Version = one One (λ version. Unit {0}) (λ version. codes "1")
-row RunHead.Root = then_ a_place a_word
-row RunHead.Derive = then_ (one Written (λ r. IsRunRegister 1 r.0) (λ r. run_register_spelling r.0))
-    (then_ (one Source (λ r. IsRunRegister 0 r.0) (λ r. run_register_spelling r.0)) (one Cap (λ cap. IsWord cap.word.0) result_spelling))
-row RunHead.Exchange = then_ a_target (then_ a_register (then_ a_special (then_ an_equals (then_ a_tag (then_ a_word (then_ a_tag a_word))))))
-row RunHead.Invoke = then_ a_register (then_ a_register (then_ an_equals (then_ a_word a_word)))
+abbrev pub row : RunHead → Row
+row RunHead.Version = one (λ (version : One). Unit {0}) (λ version. codes "1") 1 one-operand
+row RunHead.Root = then_ a_place place-spaceless a_word
+row RunHead.Derive = written (source (one (λ (cap : Cap). IsWord cap.word.0) result_spelling 36 result-operand))
+row RunHead.Exchange = target (register (special (equals (tag (word (tag a_word))))))
+row RunHead.Invoke = register (register (equals (word a_word)))
 row RunHead.Drop = a_place
-row RunHead.Fill = then_ (one Granule (λ granule. IsGranule granule.0) (λ granule. granule_spelling granule.0)) a_word
-row RunHead.Object = one Handed IsHanded handed_spelling
-row RunHead.Free = one Freed IsFreed freed_spelling
+row RunHead.Fill = then_ (one (λ (g : Granule). IsGranule g.0) (λ g. granule_spelling g.0) 17
+    (mapped IsGranule granule_spelling 17 granule-operand (λ g. g.0) (λ n. record { 0 = n }) (λ _. refl))) (λ g fits. granule-spaceless g.0) a_word
+row RunHead.Object = one IsHanded handed_spelling 14 handed-operand
+row RunHead.Free = one IsFreed freed_spelling 10 freed-operand
+
+pub row-short : (h : RunHead) → (row h).most ≤ 85
+row-short RunHead.Version = lit≤ tt
+row-short h = lit≤ tt
 
 abbrev pub Value : RunHead → Type 0
 Value h = (row h).Value_is
@@ -132,7 +171,7 @@ is_made RunHead.Object x = made_object x
 is_made RunHead.Free x = made_free x
 
 -- a line as its head and its operands, or as a line of the other logs
-data Kind (line : RunLine) : Type 0 where
+pub data Kind (line : RunLine) : Type 0 where
   Own : (h : RunHead) (x : Value h) (same : made h x ≡ line) → Kind line
   Usual : (other : Line) (range : IsRunLineInRange line → IsInRange other) (same : run_spelling line ≡ spelling other)
       (not_root : head_of other ≡ Head.Root → ⊥) (not_version : head_of other ≡ Head.Version → ⊥) → Kind line
@@ -145,7 +184,7 @@ step_not_root : (step : Step) → head_of (Line.Step step) ≡ Head.Root → ⊥
 step_not_root (Step.Move step) e = cc
 step_not_root step e = cc
 
-kind_of : (line : RunLine) → Kind line
+pub kind_of : (line : RunLine) → Kind line
 unfolding run_spelling spelling
 kind_of RunLine.Version = Own RunHead.Version (record {}) refl
 kind_of (RunLine.Mode mode) = Usual (Line.Mode mode) (λ f. f) refl (λ e. cc) (λ e. cc)
@@ -204,17 +243,6 @@ run_named-spelling h = refl
 pub one_head : (a b : RunHead) → run_head_spelling a ≡ run_head_spelling b → a ≡ b
 one_head a b e = sym (run_named-spelling a) ∙ ap run_named e ∙ run_named-spelling b
 
-pub run_head-spaceless : (h : RunHead) → HasNoSpace (run_head_spelling h)
-run_head-spaceless RunHead.Version = Lacks-by_test 32 (codes "run") refl
-run_head-spaceless RunHead.Root = Lacks-by_test 32 (codes "root") refl
-run_head-spaceless RunHead.Derive = Lacks-by_test 32 (codes "derive") refl
-run_head-spaceless RunHead.Exchange = Lacks-by_test 32 (codes "exchange") refl
-run_head-spaceless RunHead.Invoke = Lacks-by_test 32 (codes "invoke") refl
-run_head-spaceless RunHead.Drop = Lacks-by_test 32 (codes "drop") refl
-run_head-spaceless RunHead.Fill = Lacks-by_test 32 (codes "fill") refl
-run_head-spaceless RunHead.Object = Lacks-by_test 32 (codes "object") refl
-run_head-spaceless RunHead.Free = Lacks-by_test 32 (codes "free") refl
-
 -- no line of the other logs that may stand in a run begins with such a word
 root_or_free : Head → RunHead
 root_or_free Head.Root = RunHead.Root
@@ -234,7 +262,7 @@ unfolding root_or_free
 free_of Head.Root not_root = absurd (not_root refl)
 free_of h not_root = refl
 
-not_its : (h : Head) (r : RunHead) → (h ≡ Head.Root → ⊥) → head_spelling h ≡ run_head_spelling r → ⊥
+pub not_its : (h : Head) (r : RunHead) → (h ≡ Head.Root → ⊥) → head_spelling h ≡ run_head_spelling r → ⊥
 not_its h r not_root e =
     let is : r ≡ RunHead.Free =
     sym (run_named-spelling r) ∙ ap run_named (sym e) ∙ run_named_of h ∙ free_of h not_root in

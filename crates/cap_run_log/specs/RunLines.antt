@@ -1,6 +1,6 @@
 -- The grammar of a run log's lines: what each line is spelled as, and which lines have a spelling. All of it is this
 -- profile's own.
-use Rattle.std.specs.Prelude.{◌≡◌, ℕ, ◌*◌, ◌^◌, ◌<◌, ◌≤◌, List, [], ◌∷◌, ◌++◌, codes, decimal, length, take, drop}
+use Rattle.std.specs.Prelude.{◌≡◌, ℕ, ◌+◌, ◌*◌, ◌^◌, ◌<◌, ◌≤◌, List, [], ◌∷◌, ◌++◌, codes, decimal, length, take, drop}
 use Rattle.std.specs.List.{join_with_byte}
 use Rattle.cap_word.specs.Digits.{hex_digits}
 use Rattle.cap_log.specs.Ranges.{IsRegisterFrom}
@@ -97,3 +97,14 @@ IsRunLineInRange (lines.Root place word) = IsRunPlace place × IsWord word.0
 IsRunLineInRange (lines.Step step) = IsStepInRange step
 IsRunLineInRange (lines.Run step) = IsRunStepInRange step
 IsRunLineInRange (lines.End steps) = steps < 2 ^ 32
+
+-- the bytes are the one spelling of this line
+abbrev pub SpellsRun : List ℕ → RunLine → Type 0
+SpellsRun bytes line = IsRunLineInRange line × (bytes ≡ run_spelling line)
+
+-- the line and its line feed stand at the front of a buffer, count bytes; the rest is as it was
+pub record IsRunLineAt (line : RunLine) (old new : List ℕ) (count : ℕ) : Type 0 where
+  pub ends : count ≡ length (run_spelling line) + 1
+  pub fits : count ≤ 96
+  pub written : take count new ≡ run_spelling line ++ 10 ∷ []
+  pub rest : drop count new ≡ drop count old

@@ -6,7 +6,7 @@ use Rattle.cap_log.specs.{Lines.{IsRegister, tag_spelling}, Parts.HasNoSpace, Ra
 use Rattle.cap_log.specs.Spaceless.{Lacks-by_test, decimal-spaceless, number-spaceless, register-spaceless, register-within}
 use Rattle.cap_run_log.specs.declared.lines.{RunPlace.RunPlace, RunRegister.RunRegister}
 use Rattle.cap_run_log.specs.RunLines.{IsRunPlace, IsRunRegister, granule_spelling, run_place_spelling, run_register_spelling}
-use Rattle.cap_run_log.specs.RunLines.{special_spelling}
+use Rattle.cap_run_log.specs.{RunLines.special_spelling, declared.heads.RunHead.RunHead, RunHeads.run_head_spelling}
 
 pub special-spaceless : (n : ℕ) → IsRegister n → HasNoSpace (special_spelling n)
 special-spaceless n small =
@@ -30,3 +30,14 @@ equals-spaceless = Lacks-by_test 32 (codes "=") refl
 pub tag-spaceless : (tag : Bool) → HasNoSpace (tag_spelling tag)
 tag-spaceless true = Lacks-by_test 32 (codes "1") refl
 tag-spaceless false = Lacks-by_test 32 (codes "0") refl
+
+pub run_head-spaceless : (h : RunHead) → HasNoSpace (run_head_spelling h)
+run_head-spaceless RunHead.Version = Lacks-by_test 32 (codes "run") refl
+run_head-spaceless RunHead.Root = Lacks-by_test 32 (codes "root") refl
+run_head-spaceless RunHead.Derive = Lacks-by_test 32 (codes "derive") refl
+run_head-spaceless RunHead.Exchange = Lacks-by_test 32 (codes "exchange") refl
+run_head-spaceless RunHead.Invoke = Lacks-by_test 32 (codes "invoke") refl
+run_head-spaceless RunHead.Drop = Lacks-by_test 32 (codes "drop") refl
+run_head-spaceless RunHead.Fill = Lacks-by_test 32 (codes "fill") refl
+run_head-spaceless RunHead.Object = Lacks-by_test 32 (codes "object") refl
+run_head-spaceless RunHead.Free = Lacks-by_test 32 (codes "free") refl

@@ -1,7 +1,7 @@
 //! The words that only lines of run logs begin with.
 
 ghost use Rattle.std.specs.Prelude.{◌≡◌, ◌≤◌, length};
-ghost use Rattle.cap_run_log.specs.RunHeads.{IsRunHead, run_head_spelling};
+ghost use Rattle.cap_run_log.specs.{RunHeads.{IsRunHead, run_head_spelling}, Spaces.run_head-spaceless};
 
 use cap_log::buffers::put;
 use cap_log::{Part, Single, strip_word};
@@ -76,4 +76,8 @@ fn run_head_text(head: RunHead) -> &'static [u8]
         RunHead::Object => b"object",
         RunHead::Free => b"free",
     }
+}
+
+impl Single for RunHead {
+    ghost spaceless = { λ head fits. run_head-spaceless head };
 }

@@ -8,7 +8,9 @@ mod heads;
 mod lines;
 mod parts;
 mod readers;
+mod writers;
 
 pub use crate::heads::RunHead;
 pub use crate::lines::{RunLine, RunPlace, RunRegister, RunStep};
 pub use crate::readers::take_run_line;
+pub use crate::writers::write_run_line;
