@@ -1,15 +1,15 @@
 -- The parts of lines, one by one: each value in range has one short spelling, without a line feed.
-use Rattle.std.proofs.Common.{◌≡◌, ◌≢◌, ℕ, ◌+◌, ◌*◌, ◌<◌, ◌≤◌, ◌^◌, Bool, true, false, List, [], ◌∷◌, ◌++◌, length, get_or, drop}
+use Rattle.std.proofs.Common.{◌≡◌, ◌≢◌, ℕ, ◌*◌, ◌<◌, ◌≤◌, Bool, true, false, List, [], ◌∷◌, ◌++◌, length, get_or, drop}
 use Rattle.std.proofs.Common.{sym, ap, subst, ◌∙◌, refl, arith, decimal, codes, lit≤, length-append}
 use Rattle.std.proofs.lemmas.Fmt.{decimal_injective, decimal_is_IsNumeral, length-decimal-le}
 use Rattle.std.proofs.lemmas.{List.Elements.{All-append, All-cons, All-head, All-tail}, Str.Parse.digit_at}
-use Rattle.cap_word.specs.{declared.word.Word.Word, Digits.hex_digits}
+use Rattle.cap_word.specs.{Digits.hex_digits}
 use Rattle.cap_word.proofs.DigitLemmas.{length-hex_digits}
-use Rattle.cap_log.specs.Lines.{IsRegister, IsTarget, IsWord, register_spelling, tag_spelling}
-use Rattle.cap_log.specs.{Parts.Lacks, Ranges.IsRegisterFrom}
-use Rattle.cap_log.specs.Spaceless.{Lacks-by_test, Lacks-decimal, Lacks-hex, Lacks-register, register-spaceless, register-within}
-use Rattle.cap_log.proofs.{Cuts.same_cut, OperandLemmas.{IsOperand, mapped}}
-use Rattle.cap_log.proofs.PartLemmas.{number-operand, register-operand, target-operand, word-operand}
+use Rattle.cap_log.specs.Lines.{IsRegister, IsTarget, register_spelling, tag_spelling}
+use Rattle.cap_log.specs.{Parts.Lacks}
+use Rattle.cap_log.specs.Spaceless.{Lacks-by_test, Lacks-decimal, Lacks-hex, register-spaceless, register-within}
+use Rattle.cap_log.proofs.{Cuts.same_cut, OperandLemmas.{IsOperand}}
+use Rattle.cap_log.proofs.PartLemmas.{number-operand, register-operand, target-operand}
 use Rattle.cap_run_log.specs.declared.lines.{RunPlace.RunPlace, RunRegister.RunRegister}
 use Rattle.cap_run_log.specs.declared.parts.{Freed.Freed, Handed.Handed}
 use Rattle.cap_run_log.specs.RunLines.{IsGranule, IsObjectNumber, IsRunPlace, IsRunRegister, granule_spelling}

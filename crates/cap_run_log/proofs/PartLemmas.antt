@@ -1,7 +1,7 @@
 -- Where no part of a line stands.
 use Rattle.std.proofs.Common.{ℕ, List, decimal}
-use Rattle.cap_log.specs.Lines.{IsRegister, IsTarget, register_spelling}
-use Rattle.cap_log.specs.{Parts.{Begins, BeginsWithNone, FitBoth, spaced}, Ranges.IsRegisterFrom}
+use Rattle.cap_log.specs.Lines.{IsRegister, register_spelling}
+use Rattle.cap_log.specs.{Parts.{BeginsWithNone, FitBoth, spaced}, Ranges.IsRegisterFrom}
 use Rattle.cap_run_log.specs.RunParts.{IsFreed, IsHanded, freed_spelling, handed_spelling}
 use Rattle.cap_run_log.specs.declared.{lines.{RunPlace.RunPlace, RunRegister.RunRegister}, parts.{Freed.Freed, Granule.Granule, Handed.Handed}}
 use Rattle.cap_run_log.specs.declared.parts.{ObjectNumber.ObjectNumber, Special.Special}

@@ -2,7 +2,9 @@
 
 #![tactic(auto, using(crate::proofs::Rows::after_each), unfolding(crate::specs::RunLines::run_spelling))]
 
-ghost use Rattle.std.specs.Prelude.{◌≡◌, ◌∷◌, ◌++◌, IfSome, IfNone};
+ghost use Rattle.std.specs.Prelude.{◌≡◌, ◌≤◌, ◌∷◌, ◌++◌, ℕ, List, length, IfSome, IfNone};
+ghost use Rattle.cap_streams.specs.Front.{HasNoFeed};
+ghost use Rattle.cap_run_log.specs.{declared.lines.RunLine.RunLine, RunLines.SpellsRun};
 ghost use Rattle.cap_log.specs.Parts.{Begins, BeginsWithNone};
 ghost use Rattle.cap_run_log.specs.{RunHeads.{IsRunHead, run_head_spelling}, RunLines.{IsRunLineInRange, run_spelling}};
 ghost use Rattle.cap_run_log.specs.RunParts.{StandsAfter};
@@ -11,7 +13,9 @@ ghost use Rattle.cap_run_log.specs.declared.heads.RunHead.TheVariants as heads;
 use crate::heads::RunHead;
 use crate::lines::{RunLine, RunPlace, RunStep};
 use crate::parts::{Equals, Freed, Granule, Handed, One, Source, Special, Tag, Written};
+use cap_log::buffers::put;
 use cap_log::{Line, Part, Register, Target, take_line};
+use cap_streams::LINE_LIMIT;
 use cap_word::{Cap, Word};
 
 // What follows `exchange`.
@@ -34,6 +38,30 @@ pub fn take_run_line(bytes: &[u8]) -> Option<(RunLine, &[u8])>
         None => take_usual(bytes),
     }
 }
+
+/// Reads a line of a run log from its bytes, without its line feed: the line that they spell, or `None` if they spell none.
+pub fn read_run_line(bytes: &[u8]) -> Option<RunLine>
+    ensures some { IfSome result (SpellsRun bytes.now) }
+    ensures none { IfNone result ((line : RunLine) → SpellsRun bytes.now line → ⊥) }
+{
+    if bytes.len() > LINE_LIMIT {
+        return None;
+    }
+    let mut text = [0; LINE_LIMIT + 1];
+    let length = put(&mut text, 0, bytes);
+    let end = put(&mut text, length, b"\n");
+    let Some((line, rest)) = take_run_line(&text[..end]) else {
+        return None;
+    };
+    if rest.is_empty() { Some(line) } else { None }
+}
+
+/// No two lines share a spelling: bytes spell one line at most. A spelling has no line feed and at most 95 bytes.
+pub fn run_spellings_are_distinct()
+    ensures one { (bytes : List ℕ) (a b : RunLine) → SpellsRun bytes a → SpellsRun bytes b → a ≡ b }
+    ensures plain { (line : RunLine) → IsRunLineInRange line → HasNoFeed (run_spelling line) }
+    ensures short { (line : RunLine) → IsRunLineInRange line → length (run_spelling line) ≤ 95 }
+{}
 
 // Takes a line that other logs may have too.
 #[tactic(auto, unfolding(crate::specs::RunLines::run_spelling, cap_log::specs::Lines::spelling))]

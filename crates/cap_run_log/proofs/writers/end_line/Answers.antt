@@ -1,7 +1,7 @@
-use Rattle.std.proofs.Common.{ap, arith, length, subst, sym, List, ℕ}
+use Rattle.std.proofs.Common.{ap, arith, length}
 use Rattle.cap_streams.specs.Written.{Writes}
 use Rattle.cap_run_log.specs.RunLines.{run_spelling}
-use Rattle.cap_run_log.proofs.Spellings.{run_feed_room, run_line_at, run_spelling-short}
+use Rattle.cap_run_log.proofs.Spellings.{run_feed_room, run_spelling-short}
 use Rattle.cap_run_log.proofs.writers.end_line.Goals as goal
 
 pub write-end-requires-clause-room : goal.write-end-requires-clause-room
