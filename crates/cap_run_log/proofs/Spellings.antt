@@ -83,17 +83,7 @@ one_run_spelling bytes a b spells spells' = go (kind_of a) (kind_of b) where
   go (Usual one inside same not_root not_version back) (Usual other inside' same' not_root' not_version' back') =
       sym back ∙ ap run_line_of (one_spelling (spelling one) one other (inside spells.0, refl) (inside' spells'.0, sym same ∙ both ∙ same')) ∙ back'
 
--- a spelling at the front of a buffer, and a line feed behind it
-pub run_line_at : (line : RunLine) → IsRunLineInRange line → (end count : ℕ) (old mid new : List ℕ) → 96 ≤ length old
-    → Writes 0 (run_spelling line) old mid end → Writes end (10 ∷ []) mid new count → IsRunLineAt line old new count
-run_line_at line range end count old mid new room first second =
-    let short = run_spelling-short line range in
-    let ends = first.ends in
-    let ends' = second.ends in
-    let both = first ⨾ second in
-    record { ends = omega arith; fits = omega arith; written = both.written; rest = both.rest count (omega arith) }
-
--- the room for that line feed
+-- the room for the line feed behind a spelling
 pub run_feed_room : (line : RunLine) → IsRunLineInRange line → (end : ℕ) (old mid : List ℕ) → 96 ≤ length old
     → Writes 0 (run_spelling line) old mid end → end + 1 ≤ length mid
 run_feed_room line range end old mid room words =
