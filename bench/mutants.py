@@ -4,12 +4,14 @@
     python3 bench/mutants.py              makes each mutant, asks the corpus, and compares what it finds with two tables
     python3 bench/mutants.py --write      writes conformance/CLAUSES.tsv too; with names, the rows of these definitions
     python3 bench/mutants.py NAME..       only the mutants of these definitions, and which file sees each
-    python3 bench/mutants.py --limits NAME..   asks the logs of conformance/limits.py too, which takes minutes
+    python3 bench/mutants.py --limits NAME..   asks the logs of conformance/limits.py too that have less than 10 MB
+    python3 bench/mutants.py --limits --great NAME..   asks the others too; a log takes a minute or more
 
 A mutant has one comparison, operator, constant, condition or operand otherwise: `<` for `<=`, 4097 for 4096, one operand of
 `and` left out, two neighbours of a call or of a list of checks exchanged. A file of the corpus sees it if the answer is
 another, if a definition refuses the right answer or takes a wrong one, or if a relation and its closed form differ on it.
-bench/mutants.tsv has a line for each mutant that lives: the definition, what is changed, and why no file can see it.
+bench/mutants.tsv has a line for each mutant that lives: the definition, what is changed (`*` for all changes), and why no
+file can see it.
 conformance/CLAUSES.tsv has one for each clause with mutants: how many, how many are seen, and the file that sees most. The
 status is 1 if another mutant lives, if one of those is seen, or if the second table differs."""
 import ast
@@ -125,7 +127,7 @@ def mutants(tree):
 class Files:
     """The files of the corpus, each as questions that these definitions are asked, with the definitions that it reaches."""
 
-    def __init__(self, space, with_limits):
+    def __init__(self, space, with_limits, with_great):
         self.asked, self.count = [], collections.Counter()
         for name, answer, origins in transcription.index():
             if name.startswith(("accepted/", "rejected/")):
@@ -138,7 +140,7 @@ class Files:
             sys.path.insert(0, "conformance")
             import limits
             answers = {name: answer for name, answer, _ in transcription.index()}
-            logs = sorted(((f"limits/{name}.log", text.encode()) for name, text in limits.logs()), key=lambda it: len(it[1]))
+            logs = sorted(((f"limits/{name}.log", text.encode()) for name, text in limits.logs() if with_great or len(text) < 10**7), key=lambda it: len(it[1]))
             self.asked += [(name, is_same_verdict, (text, answers[name]), 3600) for name, text in logs]
         # Which definitions a file reaches. Logs of limits are long, and reach all.
         self.reached = [set() for _ in self.asked]
@@ -299,7 +301,7 @@ def main(words):
     with open(PATH, encoding="utf-8") as it:
         tree = ast.parse(it.read())
     names = {it for it in words if not it.startswith("-")}
-    files = Files(namespace(tree), "--limits" in words)
+    files = Files(namespace(tree), "--limits" in words, "--great" in words)
     alive, found, known = [], collections.defaultdict(list), listed()
     for name, key, top, made in mutants(tree):
         if names and name not in names:
@@ -315,12 +317,12 @@ def main(words):
             alive.append((name, key))
         if names and "--write" not in words:
             print(f"{name}: {key}: {file}", flush=True)
-        elif file is None and (name, key) not in known:
+        elif file is None and not {(name, key), (name, "*")} & {*known}:
             print(f"{name}\t{key}\t?", flush=True)
     count = sum(map(len, found.values()))
-    bad = [f"alive: {name}: {key}" for name, key in alive if (name, key) not in known]
+    bad = [f"alive: {name}: {key}" for name, key in alive if not {(name, key), (name, "*")} & {*known}]
     if "--limits" not in words:
-        bad += [f"listed, but seen: {name}: {key}" for name, key in known if name in found and (name, key) not in alive]
+        bad += [f"listed, but seen: {name}: {key}" for name, key in known if name in found and not {(name, key), (name, "*")} & {*alive, *((it, "*") for it, _ in alive)}]
         text = table(found)
         if "--write" in words:
             with open(CLAUSES, "w", encoding="utf-8") as it:

@@ -365,7 +365,7 @@ def files(page, text):
         rows.append(f"| [{number}] | {f'`{name}`' if name else 'a row'} | {len(own)} | `{first[0]}` | {f'{count} of {changes}' if changes != '0' else ''} |")
     if lacking:
         fail("no file of the corpus tests " + ", ".join(lacking))
-    return "\n".join(["| Clause | Is | Files | One of them | Changes seen |", "|---|---|---|---|---|", *rows])
+    return "\n".join(["| Clause | Is | Files | One that tests it | Changes seen |", "|---|---|---|---|---|", *rows])
 
 
 def index(page, text):
@@ -424,8 +424,8 @@ def forward(page, text):
     return found
 
 
-def compare(page, prose, text):
-    """Whether each definition that is due stands, each citation leads to a clause, and the core is that of its version."""
+def check_definitions(page, prose):
+    """Sees that each definition that is due stands, nothing else does, and what they use of the library is explained."""
     due, stands = reached(prose), {it for it in page.at.values() if it[0][0] != "kit"}
     for wrong, found in (("nowhere", due - stands), ("nothing reaches", stands - due)):
         if found:
@@ -436,37 +436,58 @@ def compare(page, prose, text):
     lacking = unexplained(due, [*re.findall(r"`[^`]*`", notation), *library, *page.types, *renamed, "Refusal", "w64"])
     if lacking:
         fail("the page doesn't explain " + ", ".join(sorted(lacking)))
+
+
+def check_corpus():
+    """Sees that the corpus has the files of its index, and no others."""
     rows = {name for name, *_ in index_rows() if not name.startswith("limits/")}
     there = {it[len("conformance/"):] for it in glob.glob("conformance/*/*.*") if "__" not in it}
     if rows != there:
         fail(f"{CORPUS} and its folder differ: " + ", ".join(sorted(rows ^ there)))
-    for kind, make in MADE.items():
-        text = text.replace(f"@{kind}\n", f"{make(page, text)}\n")
+
+
+def check_links(text):
+    """Sees that each link target has a name of its own, and that each citation and link leads to one."""
     clauses = clauses_of(text)
     cited = {*re.findall(rf"\[({NUMBER})\]", text), *(it for row in index_rows() for it in row[2].split(","))}
-    if len(set(clauses)) < len(clauses) or cited - {*clauses}:
-        fail("no clause, or two, have the numbers " + ", ".join(sorted({*cited - {*clauses}, *(it for it in clauses if clauses.count(it) > 1)})))
-    anchors, links = re.findall(r'<a id="([^"]+)"></a>', text), re.findall(r"\]\(#([^)]+)\)", text)
-    lost = {*links} - {*anchors} - {heading(it) for it in re.findall(r"^#+ (.*)$", text, re.M)}
+    if cited - {*clauses}:
+        fail("no clause has the number " + ", ".join(sorted(cited - {*clauses})))
+    anchors = re.findall(r'<a id="([^"]+)"></a>', text)
+    lost = {*re.findall(r"\]\(#([^)]+)\)", text)} - {*anchors} - {heading(it) for it in re.findall(r"^#+ (.*)$", text, re.M)}
     if len(set(anchors)) < len(anchors) or lost:
         fail("two link targets have one name, or a link has none: " + ", ".join(lost | {it for it in anchors if anchors.count(it) > 1}))
-    core, later = core_of(text).count("\n"), forward(page, text)
-    if core > MOST or len(later) > FORWARD:
-        fail("\n".join([f"the core has {core} lines (at most {MOST}), and {len(later)} mentions of what comes later (at most {FORWARD})", *later]))
+    return len(clauses), len(anchors)
+
+
+def check_core(page, text):
+    """Sees that the core is short and reads forwards."""
+    lines, later = core_of(text).count("\n"), forward(page, text)
+    if lines > MOST or len(later) > FORWARD:
+        fail("\n".join([f"the core has {lines} lines (at most {MOST}), and {len(later)} mentions of what comes later (at most {FORWARD})", *later]))
+    return lines, len(later)
+
+
+def finished(page, prose, text):
+    """The page with what is made of it, if all that it says of itself is so."""
+    check_definitions(page, prose)
+    check_corpus()
+    for kind, make in MADE.items():
+        text = text.replace(f"@{kind}\n", f"{make(page, text)}\n")
+    (clauses, targets), (lines, later) = check_links(text), check_core(page, text)
     number, date, digest = re.search(r"@version (\S+) (\S+) (\S+)", text).groups()
     now = digest_of(text)
     if digest != now:
         fail(f"the core isn't that of version {number}: if its meaning changed, raise the version in {WORDS}; then write the digest {now} beside it")
-    text = text.replace("@digest", now)
-    text = re.sub(r"@version \S+ \S+ \S+", f"| | |\n|---|---|\n| Version | {number}, {date} |\n| Digest | `{now}`, of the core's definitions; [26.9] says how to compute it |", text)
-    print(f"the core has {core} lines and {len(later)} mentions of what comes later; the page has {len(clauses)} clauses and {len(anchors)} link targets")
-    return text + "\n" + "".join(f"[{it}]: #c{it}\n" for it in sorted(clauses, key=order))
+    title = f"| | |\n|---|---|\n| Version | {number}, {date} |\n| Digest | `{now}`, of the core's definitions; [26.9] says how to compute it |"
+    text = text.replace("@digest", now).replace(f"@version {number} {date} {digest}", title)
+    print(f"the core has {lines} lines and {later} mentions of what comes later; the page has {clauses} clauses and {targets} link targets")
+    return text + "\n" + "".join(f"[{it}]: #c{it}\n" for it in sorted(clauses_of(text), key=order))
 
 
 def main(words):
     old, prose = read(PAGE) if os.path.isfile(PAGE) else "", read(WORDS)
     page = Page(old)
-    text = compare(page, prose, page.make(prose))
+    text = finished(page, prose, page.make(prose))
     if words == ["--write"]:
         with open(PAGE, "w", encoding="utf-8") as it:
             it.write(text)
