@@ -6,18 +6,25 @@
 
 docs/standard.txt has the prose. Its lines that begin with one of these words are made here:
 
-    version: NUMBER DIGEST           the version of the standard, and the digest of the core that it stands for
+    version: NUMBER DATE DIGEST      the version of the standard, its date, and the digest of the core that it stands for
+    contents:                        the sections, in the order of the page
     theorem: CRATE.FUNCTION CLAUSE.. the text of clauses of a public function's contract
     of: CRATE.DEFINITION..           definitions that an annex needs beside those of its theorems
     types: PATH NAME..               declared types, a line each
     defs: MODULE NUMBER NAME..       definitions, with the number of the first; the next ones follow it
     table: NAME [NUMBER]             a table of bench/tables.py, with the number of its first row
     library: NUMBER NAME..           definitions of the kit's library
-    index:                           where each name is defined
+    moved: NUMBER [NUMBER]           a number that isn't given again, and the one that the clause has now, if any
+    gaps:                            these numbers
+    files:                           for each clause of the core, the files of the corpus that test it
+    index:                           where each name, refusal, step, theorem, rule of the grammar and term is
 
-Each definition that a theorem or an `of:` reaches stands once, and nothing else does. Each citation such as [15.2] in
-the prose, and each clause that conformance/INDEX.tsv names, has to be there. The library's text is that of the kit in
-which `rt` stands; without a kit the page's is kept."""
+`{term}` in the prose is a term where it is defined. Definitions that follow each other are sorted, so that each comes
+after those that it uses. Each definition that a theorem or an `of:` reaches stands once, and nothing else does. Each
+citation such as [15.2] in the prose, and each clause that conformance/INDEX.tsv names, has to be there. A number below
+the greatest one of its section is there, or is one of `moved:`. Of the mentions in the core's definitions and prose, from
+section 2 on, at most FORWARD are of a clause that comes later. The library's text is that of the kit in which `rt` stands;
+without a kit the page's is kept."""
 import glob
 import hashlib
 import os
@@ -25,15 +32,16 @@ import re
 import sys
 
 from antt import wrapped
-from definitions import SPECS, closure, imports, named, read
+from definitions import SPECS, closure, imports, named, read, resolve
 from tables import SAID, TABLES, numbers_from
 from tree import KIT, WIDTH, comment_of, contract, declarations, fail, kit_definition, module_of, modules_with, spec_text, text_of
 
 PAGE, WORDS, CORPUS = "docs/STANDARD.md", "docs/standard.txt", "conformance/INDEX.tsv"
-SHORT = 5
+SEEN = "conformance/CLAUSES.tsv"
+SHORT, LONG, COLUMN = 12, 66, 44
 NUMBER = r"\d+\.\d+"
-MOST = 1300
-CORE_END = "## Annex"
+MOST, FORWARD = 1350, 20
+CORE_BEGIN, CORE_END = "\n## 1. ", "\n## Annex"
 
 
 def filled(text, first, rest):
@@ -47,14 +55,64 @@ def filled(text, first, rest):
     return [*lines, line.rstrip()]
 
 
+def anchored(number):
+    """What a link to a clause leads to."""
+    return f'<a id="c{number}"></a>'
+
+
 def fenced(blocks):
-    """Definitions in one block. Short ones that follow each other have no line between them."""
-    lines = []
-    for at, block in enumerate(blocks):
-        if at and max(len(block), len(blocks[at - 1])) > SHORT:
-            lines.append("")
-        lines += block
-    return "\n".join(["```", *lines, "```"])
+    """Definitions in blocks that are not long, each below what links to its clauses lead to. Between short definitions that
+    follow each other there is no line."""
+    out, left = [], list(blocks)
+    while left:
+        numbers, lines = [], []
+        while left and (not lines or len(lines) + len(left[0][1]) <= LONG):
+            number, block = left.pop(0)
+            if lines and max(len(block), last) > SHORT:
+                lines.append("")
+            last = len(block)
+            lines += block
+            numbers += [number] if number else []
+        out += [*["".join(anchored(it) for it in numbers)][: len(numbers)], "```antt", *lines, "```"]
+    return "\n".join(out)
+
+
+def headed(number, comment, lines):
+    """A definition with its number and what it is: after its type, if that takes fewer lines than above it."""
+    first = lines[0].ljust(COLUMN) + "  -- "
+    if len(f"{first}{number}. {comment}") > WIDTH:
+        first = lines[0] + "  -- "
+    after, above = filled(comment, f"{first}{number}. ", "--   "), filled(comment, f"-- {number}. ", "--   ")
+    if len(after) <= len(above) and len(after[0]) <= WIDTH and len(lines[0]) < WIDTH - 30:
+        return [*after, *lines[1:]]
+    return [*above, *lines]
+
+
+def nested(lines):
+    """The lines of a definition, where those of a `let` are indented further than its name."""
+    out, deeper = [], ""
+    for line in lines:
+        out.append(deeper + line)
+        if line.endswith(" =") and line.lstrip().startswith("let "):
+            deeper = "    "
+        elif line.endswith(" in"):
+            deeper = ""
+    return out
+
+
+def joined(lines):
+    """The lines of a definition, where an equation that is broken with room left takes fewer lines."""
+    out, left = [], list(lines)
+    if lines[0].startswith(("record ", "data ")) or "Refusal)" in lines[0]:
+        return lines
+    while left:
+        part = [left.pop(0)]
+        while left and (left[0].startswith(" ") or left[0] == "}"):
+            part.append(left.pop(0))
+        whole = re.sub(r"; \}", " }", " ".join([part[0], *(it.strip() for it in part[1:])]))
+        other = wrapped(whole, WIDTH)
+        out += other if len(other) < len(part) and " let " not in whole and max(map(len, other)) <= WIDTH else part
+    return out
 
 
 def clause_lines(crate, function, names):
@@ -85,16 +143,54 @@ def reached(prose):
     return {it for it in closure(found) if not it[0][1].startswith("Sail")}
 
 
+def slug(text):
+    return text.lower().replace(" ", "-")
+
+
+def term(m):
+    """A term where it is defined."""
+    return f'<a id="t-{slug(m[1])}"></a>*{m[1]}*'
+
+
+def mentions(module, name):
+    """The definitions that one names, once for each time that it does."""
+    own, names, aliases = SPECS[module]
+    return [it for it in (resolve(*pair) for pair in named("\n".join(own[name]), names, aliases, module)) if it and it != (module, name)]
+
+
+LATER = ("contents", "gaps", "files", "index")
+
+
 class Page:
     """The page, as it is made line by line. `at` has the definition of each clause."""
 
     def __init__(self, old):
-        self.old, self.parts, self.block, self.at, self.types = old, [], [], {}, []
+        self.old, self.parts, self.block, self.run, self.at, self.types, self.gone = old, [], [], [], {}, [], {}
 
     def flush(self):
+        self.settle()
         if self.block:
             self.parts.append(fenced(self.block))
             self.block = []
+
+    def settle(self):
+        """Puts definitions that follow each other, so that each comes after those that it uses."""
+        waiting, done = {it[1:]: it for it in self.run}, set()
+
+        def give(number, module, name):
+            if (module, name) in done:
+                return
+            done.add((module, name))
+            for it in mentions(module, name):
+                if it in waiting:
+                    give(*waiting[it])
+            self.put(number, module, name)
+            lines = [part for line in joined(nested(text_of(module, name))) for part in wrapped(line, WIDTH)]
+            self.block.append((number, headed(number, comment_of(module, name) or name, lines)))
+
+        for it in self.run:
+            give(*it)
+        self.run = []
 
     def put(self, number, module, name):
         if number in self.at or (module, name) in self.at.values():
@@ -114,13 +210,13 @@ class Page:
         self.parts.append("@version " + " ".join(words))
 
     def theorem(self, words):
-        self.block += [[it] for it in clause_lines(*words[0].split("."), words[1:])]
+        self.block += [("", [it]) for it in clause_lines(*words[0].split("."), words[1:])]
 
     def of(self, words):
         """What it names is taken by `reached`."""
 
     def types_of(self, words):
-        self.block += [[it] for it in declarations(words[0], words[1:])]
+        self.block += [("", [it]) for it in declarations(words[0], words[1:])]
         self.types += words[1:]
 
     def defs(self, words):
@@ -128,13 +224,11 @@ class Page:
         for number, name in self.listed(words[1:]):
             if name not in SPECS[module][0]:
                 fail(f"no definition {words[0]}.{name}")
-            self.put(number, module, name)
-            head = filled(comment_of(module, name) or name, f"-- {number}. ", "--   ")
-            self.block.append([*head, *(part for line in text_of(module, name) for part in wrapped(line, WIDTH))])
+            self.run.append((number, module, name))
 
     def table(self, words):
         self.flush()
-        for (module, name), number in zip(SAID.get(words[0], []), numbers_from(words[-1])):
+        for (module, name), number in zip(SAID.get(words[0], []), numbers_from(words[1] if len(words) > 1 else "0.0")):
             self.put(number, module, name)
         self.parts.append("\n".join(TABLES[words[0]](*words[1:])))
 
@@ -146,25 +240,31 @@ class Page:
             if os.path.isdir(KIT):
                 found = kit_definition(f"Rattle.std.specs.{module}", name) or fail(f"the kit has no definition of {text}")
                 found = [part for it in found for part in wrapped(re.sub(r"(?<!\w)get_or(?!\w)", "slice_index_or", it), WIDTH)]
-                self.block.append([f"{found[0]:<80}  -- {number}", *found[1:]])
+                self.block.append((number, [f"{found[0]:<80}  -- {number}", *found[1:]]))
             else:
                 m = re.search(rf"^[^\n]*  -- {re.escape(number)}\n(?:(?!```|\n|[^\n]*  -- \d)[^\n]*\n)*", self.old, re.M)
-                self.block.append((m or fail(f"neither the kit nor the page has {text}"))[0].rstrip("\n").split("\n"))
+                self.block.append((number, (m or fail(f"neither the kit nor the page has {text}"))[0].rstrip("\n").split("\n")))
 
-    def index(self, words):
-        self.parts.append("@index")
+    def moved(self, words):
+        """A number that isn't given again."""
+        self.gone[words[0]] = words[1] if len(words) > 1 else ""
+
+    def made_later(self, kind):
+        return lambda words: self.parts.append(f"@{kind}")
 
     def make(self, prose):
-        made, last = {"types": self.types_of}, ""
+        made, last, fence = {"types": self.types_of, **{it: self.made_later(it) for it in LATER}}, "", False
         for line in prose.split("\n"):
+            fence ^= line.startswith("```")
             kind, _, rest = line.partition(":")
-            if kind in ("version", "theorem", "of", "types", "defs", "table", "library", "index"):
+            if kind in ("version", "theorem", "of", "types", "defs", "table", "library", "moved", *LATER):
                 if kind != last or kind == "library":
                     self.flush()
                 (made.get(kind) or getattr(self, kind))(rest.split())
                 last = kind
             elif line.strip():
                 self.flush()
+                line = line if fence else re.sub(r"(?<![`\w])\{([a-z][\w -]*)\}", term, line)
                 if last == "text":
                     self.parts[-1] += "\n" + line
                 else:
@@ -173,11 +273,15 @@ class Page:
             elif last == "text":
                 last = ""
         self.flush()
-        names = {}
-        for number, (_, name) in self.at.items():
-            names.setdefault(name, []).append(number)
-        index = ", ".join(f"`{name}` {' and '.join(names[name])}" for name in sorted(names, key=lambda it: (it.lower(), it)))
-        return "\n\n".join(self.parts).replace("@index", f"{index}.") + "\n"
+        text = self.parts[0]
+        for before, part in zip(self.parts, self.parts[1:]):
+            is_below = part.startswith(('<a id="c', "```antt")) and not before.startswith(("#", "|", "@", "-", "<a")) and not before.endswith(("|", "```"))
+            is_below = is_below or before.startswith("@version") and part.startswith("|")
+            text += "\n" * (2 - is_below) + part
+        text += "\n"
+        text = re.sub(rf"^\*\*({NUMBER})\.", lambda m: anchored(m[1]) + m[0], text, flags=re.M)
+        text = re.sub(rf"^\| ({NUMBER}) \|", lambda m: f"| {anchored(m[1])}{m[1]} |", text, flags=re.M)
+        return text
 
 
 def unexplained(found, explained):
@@ -193,8 +297,135 @@ def unexplained(found, explained):
     return lacking
 
 
-def compare(page, prose, text):
-    """Whether each definition that is due stands, each citation leads to a clause, and the core is that of its version."""
+# What is made of the page when the rest of it stands
+
+
+def section_of(number):
+    return int(number.partition(".")[0])
+
+
+def order(number):
+    return tuple(int(it) for it in number.split("."))
+
+
+def heading(text):
+    """What a link to a heading leads to."""
+    return re.sub(r"[^\w\- ]", "", text.lower()).replace(" ", "-")
+
+
+def contents(page, text):
+    """The sections in the order of the page."""
+    links = [f"[{it}](#{heading(it)})" for it in re.findall(r"^## (.*)$", text, re.M)]
+    core, rest = ([it for it in links if it.startswith("[Annex") == wanted] for wanted in (False, True))
+    return f"{' · '.join(core)}\n\n{' · '.join(rest)}"
+
+
+def gaps(page, text):
+    """The numbers that are not given again."""
+    clauses, rows = clauses_of(text), []
+    for number, now in page.gone.items():
+        if number in clauses or now and now not in clauses:
+            fail(f"{number} stands on the page, or {now} doesn't")
+        rows.append(f"| {anchored(number)}{number} | {f'[{now}]' if now else 'nothing'} |")
+    known = {*clauses, *page.gone}
+    for section in {section_of(it) for it in known}:
+        last = max(order(it)[1] for it in known if section_of(it) == section)
+        lacking = [f"{section}.{n}" for n in range(1, last + 1) if f"{section}.{n}" not in known]
+        if lacking:
+            fail("nothing says what became of " + ", ".join(lacking))
+    return "\n".join(["| Number | Now |", "|---|---|", *rows])
+
+
+def clauses_of(text):
+    return re.findall(rf'<a id="c({NUMBER})"></a>', text)
+
+
+def index_rows():
+    """The rows of the corpus's index."""
+    return [row.split("\t") for row in read(CORPUS).split("\n")[1:-1]]
+
+
+def files(page, text):
+    """For each clause of sections 3 to 18 that decides an answer, the files that test it, and how many changes they see."""
+    named_in = {}
+    for name, _, numbers, _ in index_rows():
+        for number in numbers.split(","):
+            named_in.setdefault(number, []).append(name)
+    seen = {row.split("\t")[0]: row.split("\t")[1:] for row in read(SEEN).split("\n")[1:-1]}
+    rows, lacking = [], []
+    for number in sorted({it for it in clauses_of(core_of(text)) if 3 <= section_of(it) < 19 and section_of(it) != 17}, key=order):
+        name = page.at.get(number, ("", ""))[1]
+        if name in OTHERS:
+            continue
+        changes, count, file = seen.get(number, ("0", "0", "-"))
+        own = named_in.get(number, [])
+        if not own and file == "-":
+            lacking.append(f"{number} {name}")
+        first = sorted(own, key=lambda it: (order(it.split("/")[1].split("-")[0]) != order(number), own.index(it)))[:1] or [file]
+        rows.append(f"| [{number}] | {f'`{name}`' if name else 'a row'} | {len(own)} | `{first[0]}` | {f'{count} of {changes}' if changes != '0' else ''} |")
+    if lacking:
+        fail("no file of the corpus tests " + ", ".join(lacking))
+    return "\n".join(["| Clause | Is | Files | One that tests it | Changes seen |", "|---|---|---|---|---|", *rows])
+
+
+def index(page, text):
+    """Where each name, refusal, step, theorem, rule of the grammar and term is."""
+    names, lines = {}, []
+    for number, (_, name) in page.at.items():
+        names.setdefault(name, []).append(number)
+    lines.append("**Definitions.** " + ", ".join(f"`{it}` {' and '.join(f'[{n}]' for n in names[it])}" for it in sorted(names, key=lambda it: (it.lower(), it))) + ".")
+    lines.append("**Refusals.** " + ", ".join(f"[{n}](#r{n}) `{name}`" for n, name in re.findall(r'<a id="r(\d+)"></a>\d+ \| `(\w+)`', text)) + ".")
+    lines.append("**Steps.** " + ", ".join(f"[`{it}`](#s-{it})" for it in re.findall(r'<a id="s-(\w+)"></a>', text)) + ".")
+    lines.append("**Theorems.** " + ", ".join(f"{title[0].lower() + title[1:]} [{n}]" for n, title in sorted(re.findall(r"\*\*(1\.\d+)\. (.*?)\.\*\*", text), key=lambda it: order(it[0]))) + ".")
+    lines.append("**Rules of the grammars.** " + ", ".join(f"[{it}](#g-{it})" for it in sorted(re.findall(r'<a id="g-([\w-]+)"></a>', text))) + ".")
+    lines.append("**Terms.** " + ", ".join(f"[{it}](#t-{slug(it)})" for it in sorted(re.findall(r'<a id="t-[^"]*"></a>\*([^*]+)\*', text), key=str.lower)) + ".")
+    return "\n\n".join(lines)
+
+
+MADE = {"contents": contents, "gaps": gaps, "files": files, "index": index}
+# Definitions of which no file can show anything: they speak of a source, of lacking memory or of all bytes, are types, or
+# need a log of 2^32 steps.
+OTHERS = set("Judged IsAnswerOf IsVerdictOf NoVerdictOf BeginsLog IsBehind NamesEscapes CountsOnly next_count NoVerdictIn MayLackMemory NamesNoGranules "
+             "named_by_line most_steps State Account Beginning DeclaredRoot Row Recorded Access Datum".split())
+
+
+def core_of(text):
+    """Sections 1 to 18: from the theorems on up to the first annex."""
+    return text[text.index(CORE_BEGIN) : text.index(CORE_END)]
+
+
+def digest_of(text):
+    """SHA-256 over the sorted lines of the core's definitions and of its rows with a number, as the page says."""
+    lines, inside = [], False
+    for line in text.partition(CORE_END)[0].split("\n"):
+        if line.startswith("```"):
+            inside = line == "```antt"
+        elif inside or line.startswith('| <a id="c'):
+            line = re.sub(" *-- .*", "", line)
+            lines += [line.encode() + b"\n"] * bool(line)
+    return hashlib.sha256(b"".join(sorted(lines))).hexdigest()[:12]
+
+
+def forward(page, text):
+    """The mentions in the core, from section 2 on, of a clause that comes later, each as a line."""
+    place = {number: at for at, number in enumerate(clauses_of(text))}
+    core, found = core_of(text).partition("\n## 2. ")[2], []
+    inside = {it for it in clauses_of(core)}
+    number_of = {it: number for number, it in page.at.items()}
+    for number, (module, name) in page.at.items():
+        if number in inside and module[0] != "kit":
+            found += [f"{number} {name}: {number_of[it]} {it[1]}" for it in mentions(module, name) if it in number_of and place[number_of[it]] > place[number]]
+    fence, last = False, -1
+    for line in core.split("\n"):
+        fence ^= line.startswith("```")
+        last = max([last, *(place[it] for it in clauses_of(line))])
+        if not fence and not line.startswith("```"):
+            found += [f"prose: {it}" for it in re.findall(rf"\[({NUMBER})\]", line) if it in place and place[it] > last]
+    return found
+
+
+def check_definitions(page, prose):
+    """Sees that each definition that is due stands, nothing else does, and what they use of the library is explained."""
     due, stands = reached(prose), {it for it in page.at.values() if it[0][0] != "kit"}
     for wrong, found in (("nowhere", due - stands), ("nothing reaches", stands - due)):
         if found:
@@ -205,29 +436,58 @@ def compare(page, prose, text):
     lacking = unexplained(due, [*re.findall(r"`[^`]*`", notation), *library, *page.types, *renamed, "Refusal", "w64"])
     if lacking:
         fail("the page doesn't explain " + ", ".join(sorted(lacking)))
-    known = {*page.at, *re.findall(rf"^\| ({NUMBER}) \|", text, re.M), *re.findall(rf"^\*\*({NUMBER})\.", text, re.M)}
-    cited = {*re.findall(rf"\[({NUMBER})\]", text), *(it for row in read(CORPUS).split("\n")[1:-1] for it in row.split("\t")[2].split(","))}
-    rows = {row.split("\t")[0] for row in read(CORPUS).split("\n")[1:-1] if not row.startswith("limits/")}
-    files = {it[len("conformance/"):] for it in glob.glob("conformance/*/*.*") if "__" not in it}
-    if rows != files:
-        fail(f"{CORPUS} and its folder differ: " + ", ".join(sorted(rows ^ files)))
-    if cited - known:
-        fail("no clause has the number " + ", ".join(sorted(cited - known)))
-    core = text.partition(f"\n{CORE_END}")[0].count("\n")
-    if core > MOST:
-        fail(f"the core has {core} lines, more than {MOST}")
-    version, digest = re.search(r"@version (\S+) (\S+)", text).groups()
-    lines = "\n".join(line for it in sorted(reached(prose.partition(CORE_END)[0]), key=lambda it: it[::-1]) for line in text_of(*it))
-    now = hashlib.sha256(lines.encode()).hexdigest()[:12]
+
+
+def check_corpus():
+    """Sees that the corpus has the files of its index, and no others."""
+    rows = {name for name, *_ in index_rows() if not name.startswith("limits/")}
+    there = {it[len("conformance/"):] for it in glob.glob("conformance/*/*.*") if "__" not in it}
+    if rows != there:
+        fail(f"{CORPUS} and its folder differ: " + ", ".join(sorted(rows ^ there)))
+
+
+def check_links(text):
+    """Sees that each link target has a name of its own, and that each citation and link leads to one."""
+    clauses = clauses_of(text)
+    cited = {*re.findall(rf"\[({NUMBER})\]", text), *(it for row in index_rows() for it in row[2].split(","))}
+    if cited - {*clauses}:
+        fail("no clause has the number " + ", ".join(sorted(cited - {*clauses})))
+    anchors = re.findall(r'<a id="([^"]+)"></a>', text)
+    lost = {*re.findall(r"\]\(#([^)]+)\)", text)} - {*anchors} - {heading(it) for it in re.findall(r"^#+ (.*)$", text, re.M)}
+    if len(set(anchors)) < len(anchors) or lost:
+        fail("two link targets have one name, or a link has none: " + ", ".join(lost | {it for it in anchors if anchors.count(it) > 1}))
+    return len(clauses), len(anchors)
+
+
+def check_core(page, text):
+    """Sees that the core is short and reads forwards."""
+    lines, later = core_of(text).count("\n"), forward(page, text)
+    if lines > MOST or len(later) > FORWARD:
+        fail("\n".join([f"the core has {lines} lines (at most {MOST}), and {len(later)} mentions of what comes later (at most {FORWARD})", *later]))
+    return lines, len(later)
+
+
+def finished(page, prose, text):
+    """The page with what is made of it, if all that it says of itself is so."""
+    check_definitions(page, prose)
+    check_corpus()
+    for kind, make in MADE.items():
+        text = text.replace(f"@{kind}\n", f"{make(page, text)}\n")
+    (clauses, targets), (lines, later) = check_links(text), check_core(page, text)
+    number, date, digest = re.search(r"@version (\S+) (\S+) (\S+)", text).groups()
+    now = digest_of(text)
     if digest != now:
-        fail(f"the core isn't that of version {version}: if its meaning changed, raise the version in {WORDS}; then write the digest {now} beside it")
-    return re.sub(r"@version \S+ \S+", f"Version {version}. Digest of the core's definitions: `{now}`.", text)
+        fail(f"the core isn't that of version {number}: if its meaning changed, raise the version in {WORDS}; then write the digest {now} beside it")
+    title = f"| | |\n|---|---|\n| Version | {number}, {date} |\n| Digest | `{now}`, of the core's definitions; [26.9] says how to compute it |"
+    text = text.replace("@digest", now).replace(f"@version {number} {date} {digest}", title)
+    print(f"the core has {lines} lines and {later} mentions of what comes later; the page has {clauses} clauses and {targets} link targets")
+    return text + "\n" + "".join(f"[{it}]: #c{it}\n" for it in sorted(clauses_of(text), key=order))
 
 
 def main(words):
     old, prose = read(PAGE) if os.path.isfile(PAGE) else "", read(WORDS)
     page = Page(old)
-    text = compare(page, prose, page.make(prose))
+    text = finished(page, prose, page.make(prose))
     if words == ["--write"]:
         with open(PAGE, "w", encoding="utf-8") as it:
             it.write(text)

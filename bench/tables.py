@@ -123,7 +123,8 @@ def steps_table(first):
         records = "nothing" if records is None else "what it writes" if row["records"][1][1] == "Written" else f"`{in_short(records[1])}`"
         access = row["access"][2][2] if row["access"][0] == "app" else None
         access = ", ".join(in_short(access[it]) for it in ("authority", "address", "size", "permission")) if access else "none"
-        cells = [number, "`" + " ".join(operand(it) for it in words[kind]) + "`", checks_cell(row), defined,
+        line = " ".join(operand(it) for it in words[kind])
+        cells = [number, f'<a id="s-{line.split()[0]}"></a>`{line}`', checks_cell(row), defined,
                  f"{in_short(writes[0])}: `{in_short(writes[1])}`" if writes else "nothing", parent, records, access]
         found.append([it.replace("NUMBER", NUMBERS.get(kind, "")) for it in cells])
     return rows_of(["", "Line", "Checks, in order", "Defined by", "Writes", "Parent", "Records", "Access"], found)
@@ -153,6 +154,17 @@ def places_of_refusals(rows):
     return found
 
 
+# What the page says of a check in place of its declaration, which would tell a second time what a clause tells.
+BESIDE = {"Misplaced": ("a second version line; in version 2 a second mode line", "a version or mode line that has a form [3.8]"),
+          "BadLine": ("has none of the forms of the log's version", "has no form [3.8]"),
+          "BoundsEscape": ("the rounded bounds do not lie inside the source's bounds", "the rounded bounds do not lie inside the source's bounds: for a sound source, the requested ones don't [1.10]")}
+
+
+def beside(name, text):
+    old, new = BESIDE.get(name, ("", ""))
+    return text.replace(old, new) if old in text else fail(f"{name} is declared otherwise")
+
+
 def refusals_table():
     rows = step_rows()
     found, told = places_of_refusals(rows), []
@@ -165,7 +177,8 @@ def refusals_table():
         elif where == ["`lc`", "`sc`", "`load`", "`store`"]:
             where = ["each access"]
         mode = "same" if name not in without else "accesses only" if name in with_access else "never"
-        told.append([str(number), f"`{name}`", text[0].lower() + text[1:].rstrip("."), ", ".join(where), mode])
+        text = beside(name, text[0].lower() + text[1:].rstrip("."))
+        told.append([f'<a id="r{number}"></a>{number}', f"`{name}`", text, ", ".join(where), mode])
     return rows_of(["No.", "Name", "The check fails if", "Where", "Clear mode"], told)
 
 
@@ -182,12 +195,13 @@ def orders_table(first):
 # Words, permissions, limits
 
 
-def permissions_table(first):
-    """The permissions: bits by evaluating perm_view_of, titles by docs/WORDS.md, names by the constants."""
+def permissions_table(first, others):
+    """The permissions: bits by evaluating perm_view_of, titles by docs/WORDS.md, names by the constants. Rows without a
+    definition have numbers of their own."""
     module, found, seen = ("cap_ops", "Permissions"), [], 0
     evaluator = unfolder("perm_view_of perms_of perms_from_view".split())
     constants = {int(text_of(module, it)[1].split("=")[1]): (it, *comment_of(module, it).split(": ", 1)) for it in PERMISSIONS}
-    numbers = numbers_from(first)
+    numbers, free = numbers_from(first), numbers_from(others)
     for view, bit, title in re.findall(r"^\| ([\d to]+) \| ([\d to]+) \| ([\w -]+) \|$", read("docs/WORDS.md"), re.M):
         low, high = (int(it) for it in (view.split(" to ") * 2)[:2])
         first_bit = int(bit.split(" to ")[0])
@@ -199,7 +213,7 @@ def permissions_table(first):
         name, other, allows = constants.get(low, ("", title, "not used by the machine" if low < 12 else "free for users"))
         if other != title:
             fail(f"permission {low} has two names: {other}, {title}")
-        found.append([next(numbers) if name else "", view, bit, title, f"`{name}`" if name else "", allows])
+        found.append([next(numbers if name else free), view, bit, title, f"`{name}`" if name else "", allows])
     if seen != 16 or any(evaluator.run(antt.parse(f"perms_from_view {2**it}")) != ("number", 0) for it in (12, 13, 14, 19, 20, 31)):
         fail("the view of the permissions has other bits")
     return rows_of(["", "View", "Field", "Permission", "Name here", "Allows"], found)
@@ -237,16 +251,16 @@ def diagram():
     return ["```", edge, rows[0], rows[1], edge, rows[2].replace("|", " ").rstrip(), "```"]
 
 
-def limits_table(first):
+def limits_table(first, line):
     module, numbers = ("cap_machine", "Accounts"), numbers_from(first)
     roots, steps = (f"{int(text_of(module, it)[1].split('= ')[1]):,}" for it in ("most_roots", "most_steps"))
     one, two = (f"{int(it.split('= ')[1]):,}" for it in text_of(module, "most_granules")[1:])
     longest = re.search(r"length line ≤ (\d+)", "\n".join(text_of(("cap_streams", "Front"), "IsLine")))[1]
-    return rows_of(["", "Name", "Limit on", "Version 1", "Version 2"], [
+    return rows_of(["", "Name", "At most", "Version 1", "Version 2"], [
         [next(numbers), "`most_roots`", "roots", roots, "the same"],
         [next(numbers), "`most_granules`", "distinct granules that a root, an `sc` or a `store` names", one, two],
         [next(numbers), "`most_steps`", "steps", steps, "the same"],
-        ["", "`IsLine`", "bytes of a line before its line feed", longest, "the same"]])
+        [line, "", "bytes of a line before its line feed", longest, "the same"]])
 
 
 # The grammar
@@ -262,7 +276,8 @@ PARTS = {
     "offset": '"0" / [ "-" ] %x31-39 *3DIGIT',
     "count": '"0" / %x31-39 *9DIGIT',
 }
-NOTES = {"register": "c0 to c31", "target": "c1 to c31", "place": "a register, or the address of a granule", "offset": "-2048 to 2047", "count": "below 2 ^ 32"}
+NOTES = {"register": "c0 to c31", "target": "c1 to c31", "place": "a register, or the address of a granule",
+         "offset": "only -2048 to 2047, clause 18.15", "count": "only below 2 ^ 32, clause 18.11"}
 # What the grammar takes for granted of the ranges.
 RANGES = {"IsRegister": "n ≤ 31", "IsTarget": "(1 ≤ n) × (n ≤ 31)", "IsWord": "n < 2 ^ 128", "IsNumber": "n < 2 ^ 64", "IsVersion": "(version ≡ 1) ⊎ (version ≡ 2)", "IsOffset": "(negsuc 2047 ≤ℤ z) × (z ≤ℤ pos 2047)", "IsDataSize": "(size ≡ 1) ⊎ ((size ≡ 2) ⊎ ((size ≡ 4) ⊎ (size ≡ 8)))",
           "IsDataValue": "value < 256 ^ size", "IsDatum": "IsDataSize datum.size × IsDataValue datum.size datum.value"}
@@ -327,7 +342,9 @@ def grammar():
     out += [f"{name:<9} = {rule}" for name, rule in rules.items()]
     out += [f"{name:<9} = {rule:<50}" + (f" ; {NOTES[name]}" if name in NOTES else "") for name, rule in PARTS.items()]
     out += [f"HEX       = {'DIGIT / %x61-66':<50} ; lower case", "SP        = %x20", "LF        = %x0A"]
-    return ["```abnf", *(part.rstrip() for it in out for part in folded(it)), "```"]
+    anchors = "".join(f'<a id="g-{it.split()[0]}"></a>' for it in out)
+    out = [re.sub('"([a-z]+)"', r'%s"\1"', it).rstrip() for it in out]
+    return [anchors, "```abnf", *(part for it in out for part in folded(it)), "```"]
 
 
 def folded(rule):

@@ -38,7 +38,7 @@ def IsMantissa(b, low, ie, t):  # 15.3
     return t < 2**14 and t % 2**12 == low and 2**12 * bit_of(ie) <= span_of(b, t) < 2**12 * bit_of(ie) + 2**12
 
 
-def span_at(b, low, ie): return 2**12 * bit_of(ie) + (low + 2**14 - b) % 2**12
+def span_at(b, low, ie): return 2**12 * bit_of(ie) + (low + 2**14 - b) % 2**12  # 15.19
 def mantissa_of(b, low, ie): return (b + span_at(b, low, ie)) % 2**14
 def cut_exponent_of(w): return min(e_of(w), 52)  # 15.6
 def unit_of(w): return 2 ** cut_exponent_of(w)  # 15.7
@@ -51,12 +51,13 @@ def IsWindow(w, start):  # 15.2
 
 
 def AreBounds(w, base, top):  # 15.1
-    (mantissa,) = [t for t in range(t_of(w), 2**14, 2**12) if IsMantissa(b_of(w), t_of(w), ie_of(w), t)]
+    mantissa = mantissa_of(b_of(w), t_of(w), ie_of(w))
     size, near = window_size(w), address_of(w) + 2**66
     offset = (b_of(w) // 2**11 + 7) % 8 * 2**11 * unit_of(w)
     start = near - (near - offset) % size
     raw_base, raw_top = (start + (value * unit_of(w) - start) % size for value in (b_of(w), mantissa))
-    if not (IsWindow(w, start) and IsResidue(start, size, b_of(w) * unit_of(w), raw_base) and IsResidue(start, size, mantissa * unit_of(w), raw_top)):
+    if not (IsMantissa(b_of(w), t_of(w), ie_of(w), mantissa) and IsWindow(w, start)
+            and IsResidue(start, size, b_of(w) * unit_of(w), raw_base) and IsResidue(start, size, mantissa * unit_of(w), raw_top)):
         return False
     if cut_exponent_of(w) <= 50:
         return base == raw_base % 2**64 and IsResidue(base, 2**64, raw_top, top)

@@ -35,7 +35,7 @@ def unnamed():
     with open("docs/STANDARD.md", encoding="utf-8") as page, open("bench/transcribed.py", encoding="utf-8") as it:
         index = page.read().rpartition("## Annex: Index")[2]
         here = {number: name for name, number in re.findall(r"^(?:def |class )?(\w+)\b.*  # (\d+\.\d+)$", it.read(), re.M)}
-    there = {number: name for name, numbers in re.findall(r"`(\w+)` ([\d. and]+)", index) for number in numbers.split(" and ")}
+    there = {number: name for name, numbers in re.findall(r"`(\w+)` ((?:\[[\d.]+\](?: and )?)+)", index) for number in re.findall(r"[\d.]+", numbers)}
     core = {number: name for number, name in there.items() if 3 <= int(number.split(".")[0]) <= 18 and not number.startswith("17.")}
     for number in sorted(here.keys() | core.keys()):
         if here.get(number) != core.get(number) and core.get(number) not in OTHERS:

@@ -17,14 +17,14 @@ def moved(address):
     return f"setaddr c1 c1 {address:016x} = 1 {HIGH}{address:016x}\n"
 
 
-def granules(more, header=ONE, count=65536):
-    """A root, a store of a byte to each of the first granules, and these steps."""
+def granules(more, header=ONE, count=65536, root=""):
+    """A root, another one if it is given, a store of a byte to each of the first granules, and these steps."""
     lines = []
     for first in range(0, count, 256):
         lines.append(moved(16 * first + 2048))
         lines += [f"store c1 {16 * n - 2048} 1 00\n" for n in range(256)]
     lines += more
-    return f"{header}root c1 {WHOLE}\n" + "".join(lines) + f"end {len(lines)}\n"
+    return f"{header}root c1 {WHOLE}\n{root}" + "".join(lines) + f"end {len(lines)}\n"
 
 
 def logs():
@@ -41,6 +41,8 @@ def logs():
     yield "08.2-1048576-granules-clear", granules([near, "store c1 0 1 ff\n"], CLEAR, 2**20)
     yield "08.2-24-1048577-granules-strict", granules([far, "store c1 0 1 00\n"], STRICT, 2**20)
     yield "08.2-24-1048577-granules-clear", granules([far, "sc c0 c1 0\n"], CLEAR, 2**20)
+    yield "08.7-24-granule-of-a-root-counts", granules([], root=f"root @{2**40:016x} {WHOLE}\n")
+    yield "08.7-granule-of-a-root-stored-to", granules([], root=f"root @{0:016x} {WHOLE}\n")
     yield "08.10-load-names-no-granule", granules([far, "load c1 0 1 = 00\n"])
     yield "08.16-20-alignment-before-limit", granules([far, "store c1 1 2 0000\n"])
 

@@ -260,9 +260,9 @@ def programs(page, text, folder):
 
 
 def anchors(text):
-    """The names of a page's headings, as links have them."""
+    """The names of a page's headings and other link targets, as links have them."""
     heads = re.findall(r"^#+ (.*)$", text, re.M)
-    return {re.sub(r"[^\w\- ]", "", re.sub(r"\[([^]]*)\]\([^)]*\)", r"\1", it).lower()).replace(" ", "-") for it in heads}
+    return {*re.findall(r'<a id="([^"]+)"></a>', text)} | {re.sub(r"[^\w\- ]", "", re.sub(r"\[([^]]*)\]\([^)]*\)", r"\1", it).lower()).replace(" ", "-") for it in heads}
 
 
 def links(page, text):
