@@ -43,7 +43,8 @@ const sizeOf = (bytes) => (bytes < 1e6 ? `${decimal(bytes)} bytes` : `${(bytes /
 
 /** Opens a log. Where it is small and plain, its text goes into the field, and so into the link. */
 async function openLog(blob, name) {
-    const text = blob.size <= SMALL ? await blob.text() : "";
+    // A byte order mark is a byte of the log: it isn't dropped.
+    const text = blob.size <= SMALL ? new TextDecoder("utf-8", { ignoreBOM: true }).decode(await blob.arrayBuffer()) : "";
     const plain = /^[\n -~]+$/.test(text) ? text : null;
     byId("text").value = plain ?? "";
     byId("line").value = "";

@@ -36,7 +36,10 @@ function foundIn(text, which = 0) {
     const it = all[which] ?? all[0];
     if (!it) return { all, word: read(wordDigits(text)), tag: null, says: "" };
     if (it.parts) return { all, ...it, ...madeOf(c, it.parts) };
-    return { all, says: "", ...it, word: read(it.digits) };
+    if (it.memory) return { all, ...it, word: wordOfBytes(it.memory), says: "It was read from memory, in order of address." };
+    const word = read(it.digits);
+    const says = [...(it.says ?? []), ...(it.beside ? [disputed(c, word, it.beside)] : [])].filter((one) => one !== "");
+    return { all, ...it, word, says: says.join(" ") };
 }
 
 /** Spaces and underscores between digits, `0x` before them, and upper-case digits are taken. */
@@ -45,10 +48,13 @@ const digitsOf = (text) => hexadecimal(plainDigits(text));
 
 // The forms of a text for a capability, for one that has none of them.
 const ACCEPTED = "None of the accepted forms: 32 digits; TAG and 32 digits; 0xHIGH 0xLOW; 0xADDRESS [rwxRW,0xBASE-0xTOP]; "
-    + "v:1 p:PERMS b:BASE l:LENGTH o:OFFSET; or a line of a log.";
+    + "v:1 p:PERMS b:BASE l:LENGTH o:OFFSET; a dump of memory; or a line of a log.";
 
 /** The digits of a word. A text that isn't nearly that is told the forms. */
 function wordDigits(text) {
+    const register = addressAlone(text);
+    if (register) throw new Refused(`${register} has a number of at most 16 digits beside it, an address alone: a capability has 32 digits.`);
+    if (granulesIn(text)) throw new Refused("No 16 bytes from a multiple of 16 on are whole in this dump of memory: a capability has 16 bytes there.");
     const digits = plainDigits(text);
     const strange = digits.replace(/[0-9a-f]/g, "");
     if ([...strange].length > 1 || /[[\]:=,]/.test(strange)) throw new Refused(ACCEPTED);
@@ -66,9 +72,13 @@ function bytesOf(text) {
     return exactly(hexadecimal(digits.join("")), 32);
 }
 
-function fromMemory(text) {
+const wordOfBytes = (digits) => c.fromMemory(Uint8Array.from(digits.match(/../g), (byte) => parseInt(byte, 16)));
+
+/** The word that a text has in memory order: bytes, or a dump of memory with their addresses. */
+function fromMemory(text, which = 0) {
     if (text.trim() === "") throw new Refused("Type 32 hexadecimal digits.");
-    return c.fromMemory(Uint8Array.from(bytesOf(text).match(/../g), (byte) => parseInt(byte, 16)));
+    if (granulesIn(text)) return foundIn(text, which);
+    return { all: [], word: wordOfBytes(bytesOf(text)), says: "" };
 }
 
 function numberOf(text) {
@@ -145,11 +155,13 @@ const shown = { facts: null, domain: null, tried: null, exact: null };
 function showCapability() {
     const order = document.querySelector("[name=order]:checked").value;
     const which = Number(chosen.which);
-    const reading = (text) => (order === "memory" ? { all: [], word: fromMemory(text), says: "" } : foundIn(text, which));
-    const found = taken("word", reading);
+    const found = taken("word", (text) => (order === "memory" ? fromMemory : foundIn)(text, which));
     byId("capability").querySelector(".results").hidden = found === null;
     shown.facts = null;
     showChoice(found?.all ?? []);
+    byId("made").textContent = "";
+    byId("taken").textContent = "";
+    byId("offer").replaceChildren();
     if (found === null) return;
     const { word } = found;
     const facts = factsOf(c, { word, tag: Number(byId("tag").checked) });
@@ -157,7 +169,8 @@ function showCapability() {
     showTaken(found, facts, order);
     byId("means").textContent = sentenceOf(c, facts);
     byId("perms").replaceChildren(permissionsOf(facts));
-    byId("type").textContent = `Object type ${ox(facts.fields.otype)}, ${facts.kind}.`;
+    byId("type").textContent = found.isUnknown ? "Object type not told; the text says that it is sealed, and type 0x0 is in its place."
+        : `Object type ${ox(facts.fields.otype)}, ${facts.kind}.`;
     showTried(facts);
     showGrid(facts);
     showLines(facts);
@@ -209,8 +222,9 @@ const OPTIONAL = ["packed", "marks"]; // not in a link where they are empty
 /** The words of a dump, of which one is chosen. */
 function showChoice(all) {
     byId("choice").hidden = all.length < 2;
-    byId("which").replaceChildren(...all.map(({ name, tag, digits, parts }, k) => {
-        const says = `${name ? `${name}: ` : ""}${tag ?? ""} ${digits ?? `${ox(parts.base)} up to ${ox(parts.base + parts.length)}`}`;
+    byId("which").replaceChildren(...all.map(({ name, tag, digits, memory, parts }, k) => {
+        const shown = digits ?? memory ?? span({ base: parts.base, top: parts.base + parts.length });
+        const says = `${name ? `${name}: ` : ""}${tag ?? ""} ${shown}`;
         return make("option", { value: k, ...(k === Number(chosen.which) ? { selected: "" } : {}) }, says.trim());
     }));
     byId("which").size = Math.min(8, Math.max(2, all.length));
@@ -218,11 +232,10 @@ function showChoice(all) {
 }
 
 /** What was taken of a text that isn't just digits, and what it would be read the other way. */
-function showTaken({ says, name, parts, digits, isHalves }, facts, order) {
+function showTaken({ says, name, parts, memory, digits, isHalves }, facts, order) {
     const plain = byId("word").value.trim().toLowerCase() === facts.text;
     const whose = `${name ? `, of ${name}` : ""}: ${facts.text}${parts ? ", made by the library" : ""}`;
-    byId("taken").textContent = order === "memory" || plain ? "" : `Taken${whose}. ${says}`;
-    byId("offer").replaceChildren();
+    byId("taken").textContent = (order === "memory" && !memory) || plain ? "" : `Taken${whose}. ${says}`.trim();
     // Almost any digits are sound: what a word is likely to be has its address in its bounds too.
     const isLikely = (it) => c.sound(it) && c.contains(it, c.split(it).address, 1n);
     if (isLikely(facts.word) || order === "memory" || !digits) return;
@@ -233,7 +246,7 @@ function showTaken({ says, name, parts, digits, isHalves }, facts, order) {
         const also = facts.sound ? ", and its address lies in its bounds" : "";
         byId("offer").append(`${text}: the other way it is sound${also}. `, button, " ");
     };
-    offer(c.fromMemory(Uint8Array.from(digits.match(/../g), (byte) => parseInt(byte, 16))), "Looks like memory order", "Read it so", () => {
+    offer(wordOfBytes(digits), "Looks like memory order", "Read it so", () => {
         byId("word").value = digits;
         setValue("order", "memory");
     });
@@ -486,7 +499,8 @@ function show() {
 
 /** Where a module fails, nothing is shown that isn't its. */
 function failed(problem, says = "The module failed, and so nothing is shown") {
-    byId("fault").textContent = `${says}: ${problem.message}`;
+    const needs = typeof WebAssembly === "object" ? "" : " It needs WebAssembly: Chrome or Edge 103, Firefox 113, Safari 16.4 or later.";
+    byId("fault").textContent = `${says}: ${problem.message}${needs}`;
     byId("fault").hidden = false;
     for (const results of document.querySelectorAll(".results")) results.hidden = true;
 }

@@ -350,6 +350,29 @@ export async function faultIsSaid(page) {
 }
 
 /** Bytes that keep a text from being a log: one verdict by whatever way it comes, a sentence, and a button. */
+/** The link of a log has its verdict, whatever bytes the log has. */
+export async function linksKeepVerdicts(page) {
+    const log = text("examples/moves.log");
+    const logs = [
+        log, `\xef\xbb\xbf${log}`, log.replaceAll("\n", "\r\n"), log.replace("\n", " \n"), log.replace("move", "\0move"),
+        log.replace("move", "mo\xe9ve"), log.trimEnd(), `\xff\xfe${[...log].map((it) => `${it}\0`).join("")}`, `${log}\n`, `\t${log}`,
+    ];
+    for (const given of logs) {
+        await withLog(page, given);
+        await page.run(copies);
+        const [verdict, link] = await page.run(async () => {
+            byId("copy-link").click();
+            while (copied.length === 0) await new Promise((done) => setTimeout(done, 5));
+            return [log.judged.text, copied[0]];
+        });
+        await page.go(link);
+        await page.run(tools);
+        await page.run(settled);
+        await page.run(() => globalThis.settled());
+        same(await page.run(() => log.judged.text), verdict, `the link of ${JSON.stringify(given.slice(0, 24))} has its verdict`);
+    }
+}
+
 export async function oddBytesAreSaid(page) {
     const log = text("examples/moves.log");
     const cases = [
