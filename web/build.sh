@@ -77,7 +77,7 @@ packed() { gzip -9 -n | base64 -w 120; }
 
 for module in capcheck judge; do packed < "web/out/$module.wasm" > "web/out/$module.base64"; done
 cd web
-plain words.js lines.js facts.js drawing.js pasting.js reports.js faults.js links.js log.js stepping.js page.js | packed > out/page.base64
+plain words.js lines.js facts.js drawing.js pasting.js vectors.js reports.js formless.js faults.js links.js log.js stepping.js page.js | packed > out/page.base64
 plain words.js lines.js trace.js judging.js shortest.js working.js | packed > out/worker.base64
 plain style.css > out/style.css
 sh sources.sh > out/sources

@@ -13,7 +13,7 @@ const bar = (left, right, y, height, kind) =>
     shape("rect", { x: Math.min(left, right - 3), y, width: Math.max(3, right - left), height, class: kind });
 
 function canvas(width, height, ...children) {
-    const frame = { width, height, viewBox: `0 0 ${width} ${height}`, "aria-hidden": "true" };
+    const frame = { width: width * zoom(), height: height * zoom(), viewBox: `0 0 ${width} ${height}`, "aria-hidden": "true" };
     return shape("svg", frame, ...children);
 }
 

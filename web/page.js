@@ -84,6 +84,7 @@ function fromMemory(text, which = 0) {
 function numberOf(text) {
     const digits = digitsOf(text);
     if (digits === "") throw new Refused("Type a hexadecimal number.");
+    if (/^10{16}$/.test(digits)) throw new Refused("2^64 has 17 digits, and at most 16 are accepted: only the whole address space has this length.");
     if (digits.length > 16) throw new Refused(`${digits.length} digits, and at most 16 are accepted.`);
     return read(digits.padStart(32, "0")).low;
 }
@@ -123,7 +124,9 @@ function refuse(id, problem) {
 
 // ---- What is shown ----
 
-const widthOf = (id) => Math.max(280, Math.floor(byId(id).clientWidth));
+// Drawings are made for letters of 16 pixels, and grow with the letters of the page.
+const zoom = () => parseFloat(getComputedStyle(document.documentElement).fontSize) / 16;
+const widthOf = (id) => Math.max(280, Math.floor(byId(id).clientWidth / zoom()));
 
 const row = ([name, value, remark]) =>
     make("tr", {}, make("th", { scope: "row" }, name), make("td", {}, value, ...(remark ? [make("small", {}, remark)] : [])));
@@ -270,6 +273,7 @@ function showTried(facts) {
     byId("range").replaceChildren(svg);
     Object.assign(shown, { domain, tried });
     byId("take").disabled = !typed || tried === null;
+    refocus();
     byId("to-says").replaceChildren(...(typed && tried ? triedText(facts, tried) : []));
     if (!tried) return;
     const place = domain.cut(domain.place(address)) / (domain.right - domain.left);
@@ -480,7 +484,25 @@ function restore() {
     byId("said").textContent = strange.map(([name, value]) => `The link's “${name}=${value.slice(0, 40)}” isn't known here. `).join("");
 }
 
+const TITLES = { capability: "what a capability means", request: "a request", operation: "an operation" };
+const titleOf = () => `capcheck: ${TITLES[view] ?? (log.name || "a log")}`;
+
+// The element that had the focus last, until a person leaves it.
+let focused = null;
+
+/** Where the element with the focus is gone, hidden or disabled, one like it gets the focus, or else what is near it: a tab
+ * from there doesn't begin at the top of the page. */
+function refocus() {
+    const isSeen = (it) => it && it.isConnected && !it.disabled && it.getClientRects().length > 0;
+    if (focused === null || isSeen(focused)) return;
+    const { key, after } = focused.dataset;
+    const like = [...document.querySelectorAll("[data-key]")].find((it) => it.dataset.key === key && isSeen(it));
+    const near = [like, byId(after ?? ""), ...(view === "log" ? [byId("code")] : []), byId(view)].find(isSeen);
+    near?.focus({ preventScroll: near === byId(view) });
+}
+
 function show() {
+    document.title = titleOf();
     for (const name of Object.keys(VIEWS)) byId(name).hidden = name !== view;
     for (const button of document.querySelectorAll("[data-view]")) {
         if (button.dataset.view === view) button.setAttribute("aria-current", "page");
@@ -495,6 +517,7 @@ function show() {
     } catch (problem) {
         failed(problem);
     }
+    refocus();
 }
 
 /** Where a module fails, nothing is shown that isn't its. */
@@ -564,7 +587,8 @@ function tryAddress(address) {
 
 function tryAtPixel(event) {
     const { domain } = shown;
-    const address = domain.at(event.clientX - byId("range").getBoundingClientRect().left);
+    const { left, width } = byId("range").firstElementChild.getBoundingClientRect();
+    const address = domain.at(((event.clientX - left) * domain.right) / width);
     tryAddress(shown.facts.range.every && address > GREATEST ? GREATEST : address);
 }
 
@@ -637,6 +661,8 @@ function listen() {
         if (target.closest('a[href^="#"]')) history.replaceState(null, "", linkTo());
         if (target.dataset.term) openTerm(target.dataset.term);
     }, { capture: true });
+    addEventListener("focusin", ({ target }) => { focused = target; });
+    addEventListener("pointerdown", () => { focused = null; }, { capture: true });
     addEventListener("hashchange", restore);
     addEventListener("resize", () => requestAnimationFrame(show));
 }

@@ -4,6 +4,7 @@ import path from "node:path";
 
 import * as answers from "./tests/answers.mjs";
 import { Browser } from "./tests/browser.mjs";
+import * as ease from "./tests/ease.mjs";
 import * as faults from "./tests/faults.mjs";
 import { address, capability, count, file, hash, same, STATES, text, tools } from "./tests/given.mjs";
 import * as logs from "./tests/logs.mjs";
@@ -37,6 +38,12 @@ const GROUPS = {
     oddBytesAreSaid: faults.oddBytesAreSaid,
     allocatorsAreNamed: faults.allocatorsAreNamed,
     linesAreFound: faults.linesAreFound,
+    formlessIsSaid: ease.formlessIsSaid,
+    othersAreKnown: ease.othersAreKnown,
+    focusIsKept: ease.focusIsKept,
+    notesAreFresh: ease.notesAreFresh,
+    forcedColours: ease.forcedColours,
+    largeText: ease.largeText,
     excessIsDrawn: shown.excessIsDrawn,
     offsetsAreInRange: shown.offsetsAreInRange,
     requestsAreMadeExact: shown.requestsAreMadeExact,

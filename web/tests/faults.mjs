@@ -349,7 +349,6 @@ export async function faultIsSaid(page) {
     await page.size(1000, 1200);
 }
 
-/** Bytes that keep a text from being a log: one verdict by whatever way it comes, a sentence, and a button. */
 /** The link of a log has its verdict, whatever bytes the log has. */
 export async function linksKeepVerdicts(page) {
     const log = text("examples/moves.log");
@@ -373,6 +372,7 @@ export async function linksKeepVerdicts(page) {
     }
 }
 
+/** Bytes that keep a text from being a log: one verdict by whatever way it comes, a sentence, and a button. */
 export async function oddBytesAreSaid(page) {
     const log = text("examples/moves.log");
     const cases = [
