@@ -63,14 +63,14 @@ function badLine(text, { column, found }) {
     if (words.length > form.length && at >= form.length - 1) return `after “${words[form.length - 1]}” the line goes on: “${words.slice(form.length).join(" ")}” is too much`;
     const part = form[at] ?? "";
     const how = missing(part, words[at] ?? "", words);
-    return `“${(words[at] ?? found ?? "").slice(0, 70)}” isn't ${IS_WORD[part]?.[1] ?? "what has to stand there"}${how ? `: ${how}` : ""}`;
+    return `“${(words[at] ?? found ?? "").slice(0, 70)}” isn't ${IS_WORD[part]?.[1] ?? "what is expected there"}${how ? `: ${how}` : ""}`;
 }
 
 /** What is wrong with a line that isn't allowed where it is. `before` is the line before it. */
 function misplaced(text, before) {
     if (/^capcheck \d$/.test(text) && !/^end /.test(before)) return "this is a second header; a log has one, its first line";
     if (/^mode /.test(text) && !/^end /.test(before)) return "a mode line is the second line of a log, and there is one";
-    if (/^root /.test(text) && !/^end /.test(before)) return "a root stands after a step; all roots come before the first step";
+    if (/^root /.test(text) && !/^end /.test(before)) return "a root follows a step; all roots come before the first step";
     if (text === "") return "an empty line follows the end line, the last of a log";
     if (/^capcheck \d$/.test(text)) return "a second log follows the end line; judge each by itself";
     return "the line follows the end line, the last of a log";
@@ -101,7 +101,7 @@ const OTHERS = [
 
 const badHeader = (text) => OTHERS.find(([form]) => form.test(text))?.[1] ?? "the first line is neither “capcheck 1” nor “capcheck 2”";
 
-/** What is wrong in a refused line that isn't one of a log or stands in a wrong place, or nothing for another refusal. */
+/** What is wrong in a refused line that isn't one of a log or is in a wrong place, or nothing for another refusal. */
 function formlessSaid(refusal, text, more, judged) {
     const told = Object.fromEntries(more.map(([name, ...rest]) => [name, rest.join(" ")]));
     return {

@@ -84,9 +84,14 @@ function fromMemory(text, which = 0) {
 function numberOf(text) {
     const digits = digitsOf(text);
     if (digits === "") throw new Refused("Type a hexadecimal number.");
-    if (/^10{16}$/.test(digits)) throw new Refused("2^64 has 17 digits, and at most 16 are accepted: only the whole address space has this length.");
     if (digits.length > 16) throw new Refused(`${digits.length} digits, and at most 16 are accepted.`);
     return read(digits.padStart(32, "0")).low;
+}
+
+/** A length; that of the whole address space is no length of a request. */
+function lengthOf(text) {
+    if (/^10{16}$/.test(plainDigits(text))) throw new Refused("2^64 bytes are the whole address space: a request has at most ffffffffffffffff.");
+    return numberOf(text);
 }
 
 function offsetOf(text) {
@@ -303,7 +308,7 @@ const refusal = (number) => `${number} ${c.refusalName(number)}`;
 
 function showRequest() {
     const base = taken("base", numberOf);
-    const length = taken("length", numberOf);
+    const length = taken("length", lengthOf);
     const facts = base === null || length === null ? null : requestFacts(c, base, length);
     const beyond = facts !== null && facts.rounded.top > SPACE;
     if (beyond) refuse("length", "Base plus length is above 2^64, where addresses end: there is no such request.");
@@ -371,8 +376,9 @@ function showOperation() {
     const value = takes.find((name) => ["length", "address", "mask"].includes(name));
     if (value) document.querySelector("label[for=value]").textContent = `${value[0].toUpperCase()}${value.slice(1)}, hexadecimal`;
     const cap = (id) => {
-        const word = taken(id, (text) => foundIn(text).word);
-        return word && { word, tag: Number(byId(`${id}tag`).checked) };
+        const found = taken(id, (text) => foundIn(text));
+        byId(`${id}-taken`).textContent = found?.says ? `Taken: ${c.textOf(found.word)}. ${found.says}` : "";
+        return found && { word: found.word, tag: Number(byId(`${id}tag`).checked) };
     };
     const given = {};
     if (takes.includes("source")) given.source = cap("source");

@@ -18,7 +18,7 @@ async function withLog(page, log, name = "given.log") {
 
 const rest = (milliseconds) => new Promise((done) => setTimeout(done, milliseconds));
 
-// Logs with a line that isn't a log's, or stands in a wrong place, and what is said of it.
+// Logs with a line that isn't a log's, or is in a wrong place, and what is said of it.
 const FORMLESS = [
     ["", "The log is empty; its first line is “capcheck 1” or “capcheck 2”."],
     ["capcheck 2\n", "The mode line is missing, “mode strict” or “mode clear”."],
@@ -60,7 +60,7 @@ const FORMLESS = [
     [`capcheck 1\nroot c0 ${WORD}\n`, "“c0” isn't a place, c1 to c31, or @ and 16 digits, the last of them 0."],
     [`${ROOT}capcheck 1\nend 0\n`, "This is a second header; a log has one, its first line."],
     ["capcheck 2\nmode clear\nmode clear\nend 0\n", "A mode line is the second line of a log, and there is one."],
-    [`${ROOT}move c2 c1 = 1 ${WORD}\nroot c3 ${WORD}\nend 1\n`, "A root stands after a step; all roots come before the first step."],
+    [`${ROOT}move c2 c1 = 1 ${WORD}\nroot c3 ${WORD}\nend 1\n`, "A root follows a step; all roots come before the first step."],
     [`${ROOT}end 0\n\n`, "An empty line follows the end line, the last of a log."],
     [`${ROOT}end 0\n${ROOT}end 0\n`, "A second log follows the end line; judge each by itself."],
     [`${ROOT}end 0\nend 0\n`, "The line follows the end line, the last of a log."],

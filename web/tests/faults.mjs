@@ -311,7 +311,7 @@ const SENTENCES = [
         + "the rules give bounds 0x0 up to 0x10000000000000000 and address 0x0."],
     [`${ROOT}move c2 c1 = 0 0fff1ffff80810000000000000001000\n`,
         "It records another word than the rules give: tag, permissions, bounds and address differ."],
-    ["sealed\n", "The line has none of the forms."],
+    ["sealed\n", "No line begins with “sealed”; “seal” does."],
 ].map(([log, says]) => [log.startsWith("capcheck") ? log : `capcheck 1\n${log}`, says]);
 
 /** The sentence, what the rules give beside what is recorded, and the wrong field in view at each width. */

@@ -113,7 +113,7 @@ export async function wordsAreGlossed(page) {
             [...document.querySelectorAll("#lines tr, #round-lines tr, #exact-lines tr")].filter(visible)
                 .filter((it) => !it.querySelector("small")?.textContent).map((it) => it.cells[0].textContent)
         ]);
-        same(got[0], ["“0x1000 up to 0x1020” are the addresses from 0x1000 to 0x101f: a top isn't one of them."], "“up to” is explained");
+        same(got[0], ["How ranges are written: for example, “0x1000 up to 0x1020” are the addresses from 0x1000 to 0x101f; a top isn't one of them."], "“up to” is explained");
         same(got[2], [], "fields without a gloss");
         check(!UNWANTED.test(got[1]), `words of ${link.slice(0, 30)}: ${got[1].match(UNWANTED)}`);
     }
