@@ -10,6 +10,8 @@
 #                                    with these flags finds the libraries below PREFIX
 #   PREFIX/include/capcheck*.h       their headers
 #   PREFIX/share/man/man1/*.1        the programs' manual pages
+#   PREFIX/share/bash-completion/completions/, share/zsh/site-functions/, share/fish/vendor_completions.d/
+#                                    the completion of their words in these shells
 #   PREFIX/share/capcheck/           the Python package, the commands for GDB that use it, the Rust crate, and sources: the
 #                                    recorders and the example emulators
 #   PREFIX/share/gdb/auto-load/      a file by which a GDB installed below PREFIX loads these commands with the library
@@ -52,6 +54,11 @@ cp "$judge" "$to/lib/libcapcheck_judge.a"
 cp "$freestanding" "$to/lib/libcapcheck_freestanding.a"
 cp include/*.h "$to/include/"
 cp docs/capcheck.1 docs/capdiag.1 "$to/share/man/man1/"
+mkdir -p "$to/share/bash-completion/completions" "$to/share/zsh/site-functions" "$to/share/fish/vendor_completions.d"
+cp completions/capcheck.bash "$to/share/bash-completion/completions/capcheck"
+ln -sf capcheck "$to/share/bash-completion/completions/capdiag"
+cp completions/_capcheck "$to/share/zsh/site-functions/"
+cp completions/*.fish "$to/share/fish/vendor_completions.d/"
 cp python/capcheck/*.py python/capcheck/py.typed "$to/share/capcheck/capcheck/"
 cp gdb/capcheck_gdb.py "$to/share/capcheck/"
 cp rust/Cargo.toml rust/build.rs "$to/share/capcheck/rust/"

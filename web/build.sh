@@ -4,7 +4,11 @@
 #
 #   sh web/build.sh           the modules and the page
 #   sh web/build.sh --module  the modules alone, web/out/capcheck.wasm and web/out/judge.wasm
+#   sh web/build.sh --page    the page, with the modules that are in web/out
 #   sh web/build.sh --keep    the page, and web/capcheck.html, which the tree keeps
+#
+# The compiler gives modules with 64-bit memory. wasm-opt, of Debian's package binaryen, lowers them to 32-bit memory,
+# which every browser has; the page isn't built without it.
 #
 # RT_LIB may name another command in place of `rt lib`, and PAGES where the links of the page lead to in place of this
 # checkout.
@@ -13,12 +17,28 @@ cd "$(dirname "$0")/.."
 kit=$(dirname "$(rt doc)")
 target=wasm64-unknown-unknown
 mkdir -p web/out
+have_lowering() { command -v wasm-opt > /dev/null && wasm-opt --help | grep -q -e --memory64-lowering; }
+[ "${1:-}" = --module ] || have_lowering || {
+    echo 'build.sh: no wasm-opt that has --memory64-lowering is here: apt-get install binaryen' >&2
+    exit 1
+}
 
 # The library for this machine has the same place as the one for the page: it is put back.
 kept=web/out/kept.a
 put_back() {
     rm -f "$archive"
     [ ! -f "$kept" ] || mv "$kept" "$archive"
+}
+
+# The features of WebAssembly that the compiler uses besides 64-bit memory; all browsers have them.
+features='--enable-bulk-memory --enable-mutable-globals --enable-nontrapping-float-to-int --enable-sign-ext'
+
+# lowered NAME: web/out/NAME.wasm with 32-bit memory, where wasm-opt is here.
+lowered() {
+    have_lowering || return 0
+    # shellcheck disable=SC2086 # one word each
+    wasm-opt --enable-memory64 $features --memory64-lowering "web/out/$1.wasm" -o "web/out/$1.lowered"
+    mv "web/out/$1.lowered" "web/out/$1.wasm"
 }
 
 # module CRATE NAME: web/out/NAME.wasm of a library for C.
@@ -33,10 +53,13 @@ module() {
     } > web/out/said 2>&1 || { cat web/out/said >&2; exit 1; }
     trap - EXIT
     put_back
+    lowered "$2"
 }
 
-module capcheck_c capcheck
-module capcheck_freestanding judge
+if [ "${1:-}" != --page ]; then
+    module capcheck_c capcheck
+    module capcheck_freestanding judge
+fi
 [ "${1:-}" != --module ] || exit 0
 
 # A script or the style without its remarks and the blanks before a line.
@@ -54,7 +77,7 @@ packed() { gzip -9 -n | base64 -w 120; }
 
 for module in capcheck judge; do packed < "web/out/$module.wasm" > "web/out/$module.base64"; done
 cd web
-plain words.js lines.js facts.js drawing.js pasting.js reports.js faults.js links.js log.js stepping.js page.js | packed > out/page.base64
+plain words.js lines.js facts.js drawing.js pasting.js vectors.js reports.js formless.js faults.js links.js log.js stepping.js page.js | packed > out/page.base64
 plain words.js lines.js trace.js judging.js shortest.js working.js | packed > out/worker.base64
 plain style.css > out/style.css
 sh sources.sh > out/sources

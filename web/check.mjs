@@ -1,9 +1,11 @@
 // node check.mjs MODULE JUDGE FILES..: what the module answers to each line of vector files, by the page's calls, and
 // what the judge's module answers to each log: what docs/FORMAT.md says, and byte for byte what CAPDIAG prints, where
-// that program is there.
+// that program is there. Then what pasting.js reads in each row of the table of dumps.
 import { spawnSync } from "node:child_process";
 import fs from "node:fs";
 import vm from "node:vm";
+
+import { differs, dumpsOf, readDump } from "./tests/dumps.mjs";
 
 const [module, judging, ...files] = process.argv.slice(2);
 const here = new URL(".", import.meta.url);
@@ -67,5 +69,12 @@ for (const file of files.filter((it) => it.endsWith(".vectors"))) {
         agree(line, c.textOf(c.join(c.split(start)).word), given[0], 2);
         if (form === "memory") agree(line, c.textOf(c.fromMemory(bytes(right))), given[0], 1);
     }
+}
+// What the page reads in dumps. Its scripts need a document only once they show something.
+globalThis.document = {};
+const page = ["facts.js", "pasting.js", "vectors.js", "reports.js", "formless.js", "faults.js", "links.js", "log.js", "stepping.js", "page.js"];
+const reading = vm.runInThisContext(`${script(...page)}; (module) => { c = module; return ${readDump}; }`)(c);
+for (const row of dumpsOf(fs.readFileSync(new URL("tests/dumps.rows", here), "utf8"))) {
+    agree(`the dump ${JSON.stringify(row.text)}`, differs(row, reading(row.text)), "", 1);
 }
 console.log(`web: ${agreed} calls agreed`);

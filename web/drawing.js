@@ -13,7 +13,7 @@ const bar = (left, right, y, height, kind) =>
     shape("rect", { x: Math.min(left, right - 3), y, width: Math.max(3, right - left), height, class: kind });
 
 function canvas(width, height, ...children) {
-    const frame = { width, height, viewBox: `0 0 ${width} ${height}`, "aria-hidden": "true" };
+    const frame = { width: width * zoom(), height: height * zoom(), viewBox: `0 0 ${width} ${height}`, "aria-hidden": "true" };
     return shape("svg", frame, ...children);
 }
 
@@ -282,7 +282,9 @@ function axisRow({ names, base, top, kind, excess, says }, axis, y) {
     const { left, right } = axis;
     const title = `${names.join(", ")}${kind === "untagged" ? ", no tag" : ""}`;
     const isLong = (title.length + says.length + 2) * LETTER.note > right;
-    const nodes = [words(0, y + 13, title, "note halo", "start")];
+    const under = (x, at, text) => shape("rect", { x, y: at - 12, width: text.length * LETTER.note + 4, height: 15, class: "under" });
+    const nodes = [under(0, y + 13, title), words(0, y + 13, title, "note halo", "start")];
+    if (says) nodes.push(under(isLong ? 0 : title.length * LETTER.note + 14, y + (isLong ? 29 : 13), says));
     if (says) nodes.push(words(isLong ? 0 : title.length * LETTER.note + 14, y + (isLong ? 29 : 13), says, "note lost halo", "start"));
     const at = y + (isLong && says ? 34 : 18);
     const [x1, x2] = [axis.cut(base), axis.cut(top)];

@@ -19,7 +19,7 @@ const decimal = (number) => number.toString().replace(/\B(?=(\d{3})+$)/g, ",");
 const counted = (count, what) => `${decimal(count)} ${what}${count == 1 ? "" : "s"}`;
 const ox = (number) => `0x${hex(number)}`;
 const span = ({ base, top }) => `${ox(base)} up to ${ox(top)}`;
-const UP_TO = "“0x1000 up to 0x1020” are the addresses from 0x1000 to 0x101f: a top isn't one of them.";
+const UP_TO = "How ranges are written: for example, “0x1000 up to 0x1020” are the addresses from 0x1000 to 0x101f; a top isn't one of them.";
 
 /** The word with all permissions over the whole address space, at an address. */
 const almighty = (c, address) => c.join({ ...c.split(c.nothing()), perms: 0xffff, address }).word;

@@ -88,7 +88,7 @@ function wrongResult({ caps, values, differs, cleared, spans }, parts) {
 
 /** The sentence of a report. `text` is the refused line. */
 function faultSentence(report, text) {
-    const { refusal, caps, spans, counts, needs } = report;
+    const { refusal, caps, spans, counts, needs, more } = report;
     const parts = partsOf(text);
     const says = {
         WrongResult: () => wrongResult(report, parts),
@@ -96,6 +96,6 @@ function faultSentence(report, text) {
         PlaceTaken: () => `${caps.holds.place} has a root already`,
         UnsoundRoot: () => `its word isn't sound: ${factsOf(c, { word: read(caps.root.word), tag: 1 }).why}`,
     }[refusal] ?? (FAILED[refusal] && (() => FAILED[refusal](caps, spans, { parts, needs })));
-    const found = says ? says() : REFUSALS[refusal] ?? "";
+    const found = says ? says() : formlessSaid(refusal, text, more, log.judged) || (REFUSALS[refusal] ?? "");
     return found && `${/^(c\d|@|0x)/.test(found) ? found[0] : found[0].toUpperCase()}${found.slice(1)}.`;
 }

@@ -43,7 +43,8 @@ const sizeOf = (bytes) => (bytes < 1e6 ? `${decimal(bytes)} bytes` : `${(bytes /
 
 /** Opens a log. Where it is small and plain, its text goes into the field, and so into the link. */
 async function openLog(blob, name) {
-    const text = blob.size <= SMALL ? await blob.text() : "";
+    // A byte order mark is a byte of the log: it isn't dropped.
+    const text = blob.size <= SMALL ? new TextDecoder("utf-8", { ignoreBOM: true }).decode(await blob.arrayBuffer()) : "";
     const plain = /^[\n -~]+$/.test(text) ? text : null;
     byId("text").value = plain ?? "";
     byId("line").value = "";
@@ -55,6 +56,7 @@ async function openLog(blob, name) {
 
 function judgeLog(blob, name, text, packed = "") {
     log.beside?.end();
+    byId("find-shortest").removeAttribute("aria-disabled");
     Object.assign(log, closed, { name, blob, text, packed, size: blob.size });
     log.beside = new Beside(blob, toldOfLog);
     tellWork("Reading", 0);
@@ -71,7 +73,7 @@ async function openPacked(packed) {
         const blob = await unpackedLog(packed);
         if (log.packed === packed) judgeLog(blob, "", null, packed);
     } catch (problem) {
-        byId("said").textContent = `The link's log can't be unpacked: ${problem.message}. Was the link cut?`;
+        byId("said").textContent = `The link's log can't be unpacked: ${problem.message.replace(/\.$/, "")}. Was the link cut?`;
     }
 }
 
@@ -85,7 +87,7 @@ function tellWork(what, read) {
 }
 
 // Refusals of a line that isn't one of a log: something odd about the bytes may be why.
-const FORMLESS = [1, 2, 3, 5, 25];
+const FORMLESS = [1, 2, 3, 4, 5, 25];
 
 function toldOfLog(told) {
     if (told.read !== undefined) return tellWork(told.read < log.size ? "Reading" : "Judging", told.read);
@@ -93,7 +95,8 @@ function toldOfLog(told) {
     if (told.problem) return failed(new Error(told.problem), "There is no verdict");
     log.judged = told.judged;
     const asked = Number(byId("line").value);
-    stepTo(asked || log.judged.line || log.judged.count);
+    const last = Math.max(log.judged.count, log.judged.line);
+    stepTo(asked || log.judged.line || log.judged.count, asked > last ? `There is no line ${decimal(asked)}: this is the last.` : "");
     if (FORMLESS.includes(log.judged.refusal)) askEvened();
 }
 
@@ -111,7 +114,9 @@ function showLog() {
     if (chosen.packed !== "" && chosen.packed !== log.packed) return void openPacked(chosen.packed);
     byId("log").querySelector(".results").hidden = log.judged === null;
     if (log.judged === null) return;
-    const asked = Number(byId("line").value);
+    const typedLine = byId("line").value.trim();
+    const asked = /^\d+$/.test(typedLine) ? Number(typedLine) : 0;
+    if (typedLine !== "" && !asked) tellWay(`“${typedLine.slice(0, 20)}” is no line's number.`);
     if (asked && asked !== log.line) return stepTo(asked);
     if (log.shown !== `${log.size} ${widthOf("why")}`) showVerdict();
     showStep();
@@ -124,17 +129,20 @@ function showVerdict() {
     log.faulty = log.report?.line ?? "";
     const [first, second] = verdictSaid();
     byId("verdict").className = `verdict ${state === 1 ? "yes" : "no"}`;
+    document.title = titleOf();
     const facts = [...(log.name ? [log.name] : []), counted(count, "line"), sizeOf(log.size), `judged in ${decimal(Math.ceil(took))} ms`];
     const faulty = make("code", { class: "faulty" }, make("i", {}, `line ${decimal(line)}: `));
     if (state === 2) faulty.append(...marked(log.faulty, (it) => it));
-    byId("verdict").replaceChildren(make("b", {}, first), " ", make("span", {}, second), " ", ...(state === 2 ? [faulty] : []),
+    byId("verdict").replaceChildren(make("h2", {}, first), " ", make("span", {}, second), " ", ...(state === 2 ? [faulty] : []),
         make("small", {}, facts.join(", ")));
-    byId("allocator").hidden = !(refusal === 1 && /^(\\xef\\xbb\\xbf)?heap \d/i.test(log.faulty));
+    byId("allocator").hidden = !(state === 2 && line === 1 && /^(\\xef\\xbb\\xbf)?heap \d/i.test(log.faulty));
+    byId("other").hidden = true;
+    if (state === 2 && line === 1) showOther();
     byId("why").replaceChildren(...(log.report ? reportShown(log.report) : []));
     byId("report-text").textContent = text;
     byId("find-shortest").hidden = state !== 2;
     byId("to-fault").hidden = state !== 2;
-    byId("log").querySelector(".gloss").hidden = FORMLESS.includes(refusal);
+    byId("log").querySelector(".gloss").hidden = state !== 2 || FORMLESS.includes(refusal);
     byId("origins").hidden = state !== 1;
     showEvened();
     showWrote();
@@ -150,13 +158,45 @@ function verdictSaid() {
     return [`No: line ${decimal(line)} is refused: ${refusal} ${log.report.refusal}.`, faultSentence(log.report, log.faulty)];
 }
 
+// ---- What isn't a log, but something else that the page knows ----
+
+const SOME = 1 << 23; // as many bytes of such a file are read
+
+/** A vector file is checked; a dump can be read in the first part. */
+async function showOther() {
+    const { beside, blob } = log;
+    const text = blob.size <= SOME ? latin1.decode(await blob.arrayBuffer()) : "";
+    if (log.beside !== beside || text === "") return;
+    const isVectors = /^(bounds|keeps|round|memory) .* = /.test(text);
+    if (isVectors) {
+        const { verdict, has } = vectorsSaid(c, text);
+        byId("other").replaceChildren("This is a vector file. As ", make("code", {}, "capcheck vectors"), " it has the verdict ",
+            make("code", {}, verdict), has ? `: ${has}.` : ".");
+    } else if (blob.size <= SMALL && pasted(text).length > 0) {
+        const button = make("button", { type: "button", class: "small" }, "Read it as a capability");
+        button.addEventListener("click", () => {
+            setValue("order", "register");
+            byId("word").value = text;
+            byId("word").dispatchEvent(new Event("input"));
+            turnTo("capability");
+        });
+        byId("other").replaceChildren("This isn't a log, but it has capabilities. ", button);
+    } else return;
+    byId("other").hidden = false;
+}
+
+const latin1 = new TextDecoder("latin1");
+
 // ---- Bytes that keep a text from being a log ----
 
 const ODD = {
+    utf16: ["is UTF-16", "in ASCII"],
     mark: ["begins with a byte order mark", "without the byte order mark"],
     returns: ["has lines that end in CR LF", "without the carriage returns"],
     tabs: ["has tabs", "with spaces in place of the tabs"],
     capitals: ["has upper-case letters", "in lower case"],
+    blanks: ["has blanks at the ends of lines or several in a row", "without these blanks"],
+    empty: ["has empty lines", "without the empty lines"],
     feed: ["has no line feed at its end", "with a last line feed"],
 };
 
@@ -275,9 +315,9 @@ const dataOf = (word) => [...c.toMemory(read(word))].map((byte) => hex(byte, 2))
 
 const linkOf = (word, tag) => `#${new URLSearchParams({ show: "capability", word, order: "register", tag, to: "" })}`;
 
-/** A button that leads to a line. */
-function lineButton(line, text = `line ${decimal(line)}`) {
-    const button = make("button", { type: "button", class: "small" }, text);
+/** A button that leads to a line; `where` tells it from others that lead there. */
+function lineButton(line, text = `line ${decimal(line)}`, where = "line") {
+    const button = make("button", { type: "button", class: "small", "data-key": `${where} ${line}` }, text);
     button.addEventListener("click", () => stepTo(line));
     return button;
 }
@@ -318,10 +358,15 @@ function showOrigins() {
 
 // ---- The shortest log ----
 
+/** A disabled button would lose the focus: while it looks for the log it is only called disabled. */
 async function findShortest() {
-    byId("find-shortest").disabled = true;
-    const made = await log.beside.ask({ ask: "shortest" });
-    byId("find-shortest").disabled = false;
+    const button = byId("find-shortest");
+    if (button.getAttribute("aria-disabled") === "true") return;
+    button.setAttribute("aria-disabled", "true");
+    const { beside } = log;
+    const made = await beside.ask({ ask: "shortest" });
+    button.removeAttribute("aria-disabled");
+    if (log.beside !== beside) return;
     log.made = made ?? { text: "" };
     showShortest();
 }
@@ -408,6 +453,7 @@ function listenToLog() {
     byId("stop").addEventListener("click", () => {
         log.beside?.end();
         tellWork(null);
+        refocus();
     });
     byId("copy-report").addEventListener("click", () => copy(log.judged.text, "Report"));
     byId("origins").addEventListener("toggle", askOrigins);

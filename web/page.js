@@ -36,7 +36,10 @@ function foundIn(text, which = 0) {
     const it = all[which] ?? all[0];
     if (!it) return { all, word: read(wordDigits(text)), tag: null, says: "" };
     if (it.parts) return { all, ...it, ...madeOf(c, it.parts) };
-    return { all, says: "", ...it, word: read(it.digits) };
+    if (it.memory) return { all, ...it, word: wordOfBytes(it.memory), says: "It was read from memory, in order of address." };
+    const word = read(it.digits);
+    const says = [...(it.says ?? []), ...(it.beside ? [disputed(c, word, it.beside)] : [])].filter((one) => one !== "");
+    return { all, ...it, word, says: says.join(" ") };
 }
 
 /** Spaces and underscores between digits, `0x` before them, and upper-case digits are taken. */
@@ -45,10 +48,13 @@ const digitsOf = (text) => hexadecimal(plainDigits(text));
 
 // The forms of a text for a capability, for one that has none of them.
 const ACCEPTED = "None of the accepted forms: 32 digits; TAG and 32 digits; 0xHIGH 0xLOW; 0xADDRESS [rwxRW,0xBASE-0xTOP]; "
-    + "v:1 p:PERMS b:BASE l:LENGTH o:OFFSET; or a line of a log.";
+    + "v:1 p:PERMS b:BASE l:LENGTH o:OFFSET; a dump of memory; or a line of a log.";
 
 /** The digits of a word. A text that isn't nearly that is told the forms. */
 function wordDigits(text) {
+    const register = addressAlone(text);
+    if (register) throw new Refused(`${register} has a number of at most 16 digits beside it, an address alone: a capability has 32 digits.`);
+    if (granulesIn(text)) throw new Refused("No 16 bytes from a multiple of 16 on are whole in this dump of memory: a capability has 16 bytes there.");
     const digits = plainDigits(text);
     const strange = digits.replace(/[0-9a-f]/g, "");
     if ([...strange].length > 1 || /[[\]:=,]/.test(strange)) throw new Refused(ACCEPTED);
@@ -66,9 +72,13 @@ function bytesOf(text) {
     return exactly(hexadecimal(digits.join("")), 32);
 }
 
-function fromMemory(text) {
+const wordOfBytes = (digits) => c.fromMemory(Uint8Array.from(digits.match(/../g), (byte) => parseInt(byte, 16)));
+
+/** The word that a text has in memory order: bytes, or a dump of memory with their addresses. */
+function fromMemory(text, which = 0) {
     if (text.trim() === "") throw new Refused("Type 32 hexadecimal digits.");
-    return c.fromMemory(Uint8Array.from(bytesOf(text).match(/../g), (byte) => parseInt(byte, 16)));
+    if (granulesIn(text)) return foundIn(text, which);
+    return { all: [], word: wordOfBytes(bytesOf(text)), says: "" };
 }
 
 function numberOf(text) {
@@ -76,6 +86,12 @@ function numberOf(text) {
     if (digits === "") throw new Refused("Type a hexadecimal number.");
     if (digits.length > 16) throw new Refused(`${digits.length} digits, and at most 16 are accepted.`);
     return read(digits.padStart(32, "0")).low;
+}
+
+/** A length; that of the whole address space is no length of a request. */
+function lengthOf(text) {
+    if (/^10{16}$/.test(plainDigits(text))) throw new Refused("2^64 bytes are the whole address space: a request has at most ffffffffffffffff.");
+    return numberOf(text);
 }
 
 function offsetOf(text) {
@@ -113,7 +129,9 @@ function refuse(id, problem) {
 
 // ---- What is shown ----
 
-const widthOf = (id) => Math.max(280, Math.floor(byId(id).clientWidth));
+// Drawings are made for letters of 16 pixels, and grow with the letters of the page.
+const zoom = () => parseFloat(getComputedStyle(document.documentElement).fontSize) / 16;
+const widthOf = (id) => Math.max(280, Math.floor(byId(id).clientWidth / zoom()));
 
 const row = ([name, value, remark]) =>
     make("tr", {}, make("th", { scope: "row" }, name), make("td", {}, value, ...(remark ? [make("small", {}, remark)] : [])));
@@ -145,11 +163,13 @@ const shown = { facts: null, domain: null, tried: null, exact: null };
 function showCapability() {
     const order = document.querySelector("[name=order]:checked").value;
     const which = Number(chosen.which);
-    const reading = (text) => (order === "memory" ? { all: [], word: fromMemory(text), says: "" } : foundIn(text, which));
-    const found = taken("word", reading);
+    const found = taken("word", (text) => (order === "memory" ? fromMemory : foundIn)(text, which));
     byId("capability").querySelector(".results").hidden = found === null;
     shown.facts = null;
     showChoice(found?.all ?? []);
+    byId("made").textContent = "";
+    byId("taken").textContent = "";
+    byId("offer").replaceChildren();
     if (found === null) return;
     const { word } = found;
     const facts = factsOf(c, { word, tag: Number(byId("tag").checked) });
@@ -157,7 +177,8 @@ function showCapability() {
     showTaken(found, facts, order);
     byId("means").textContent = sentenceOf(c, facts);
     byId("perms").replaceChildren(permissionsOf(facts));
-    byId("type").textContent = `Object type ${ox(facts.fields.otype)}, ${facts.kind}.`;
+    byId("type").textContent = found.isUnknown ? "Object type not told; the text says that it is sealed, and type 0x0 is in its place."
+        : `Object type ${ox(facts.fields.otype)}, ${facts.kind}.`;
     showTried(facts);
     showGrid(facts);
     showLines(facts);
@@ -209,8 +230,9 @@ const OPTIONAL = ["packed", "marks"]; // not in a link where they are empty
 /** The words of a dump, of which one is chosen. */
 function showChoice(all) {
     byId("choice").hidden = all.length < 2;
-    byId("which").replaceChildren(...all.map(({ name, tag, digits, parts }, k) => {
-        const says = `${name ? `${name}: ` : ""}${tag ?? ""} ${digits ?? `${ox(parts.base)} up to ${ox(parts.base + parts.length)}`}`;
+    byId("which").replaceChildren(...all.map(({ name, tag, digits, memory, parts }, k) => {
+        const shown = digits ?? memory ?? span({ base: parts.base, top: parts.base + parts.length });
+        const says = `${name ? `${name}: ` : ""}${tag ?? ""} ${shown}`;
         return make("option", { value: k, ...(k === Number(chosen.which) ? { selected: "" } : {}) }, says.trim());
     }));
     byId("which").size = Math.min(8, Math.max(2, all.length));
@@ -218,11 +240,10 @@ function showChoice(all) {
 }
 
 /** What was taken of a text that isn't just digits, and what it would be read the other way. */
-function showTaken({ says, name, parts, digits, isHalves }, facts, order) {
+function showTaken({ says, name, parts, memory, digits, isHalves }, facts, order) {
     const plain = byId("word").value.trim().toLowerCase() === facts.text;
     const whose = `${name ? `, of ${name}` : ""}: ${facts.text}${parts ? ", made by the library" : ""}`;
-    byId("taken").textContent = order === "memory" || plain ? "" : `Taken${whose}. ${says}`;
-    byId("offer").replaceChildren();
+    byId("taken").textContent = (order === "memory" && !memory) || plain ? "" : `Taken${whose}. ${says}`.trim();
     // Almost any digits are sound: what a word is likely to be has its address in its bounds too.
     const isLikely = (it) => c.sound(it) && c.contains(it, c.split(it).address, 1n);
     if (isLikely(facts.word) || order === "memory" || !digits) return;
@@ -233,7 +254,7 @@ function showTaken({ says, name, parts, digits, isHalves }, facts, order) {
         const also = facts.sound ? ", and its address lies in its bounds" : "";
         byId("offer").append(`${text}: the other way it is sound${also}. `, button, " ");
     };
-    offer(c.fromMemory(Uint8Array.from(digits.match(/../g), (byte) => parseInt(byte, 16))), "Looks like memory order", "Read it so", () => {
+    offer(wordOfBytes(digits), "Looks like memory order", "Read it so", () => {
         byId("word").value = digits;
         setValue("order", "memory");
     });
@@ -257,6 +278,7 @@ function showTried(facts) {
     byId("range").replaceChildren(svg);
     Object.assign(shown, { domain, tried });
     byId("take").disabled = !typed || tried === null;
+    refocus();
     byId("to-says").replaceChildren(...(typed && tried ? triedText(facts, tried) : []));
     if (!tried) return;
     const place = domain.cut(domain.place(address)) / (domain.right - domain.left);
@@ -286,7 +308,7 @@ const refusal = (number) => `${number} ${c.refusalName(number)}`;
 
 function showRequest() {
     const base = taken("base", numberOf);
-    const length = taken("length", numberOf);
+    const length = taken("length", lengthOf);
     const facts = base === null || length === null ? null : requestFacts(c, base, length);
     const beyond = facts !== null && facts.rounded.top > SPACE;
     if (beyond) refuse("length", "Base plus length is above 2^64, where addresses end: there is no such request.");
@@ -354,8 +376,9 @@ function showOperation() {
     const value = takes.find((name) => ["length", "address", "mask"].includes(name));
     if (value) document.querySelector("label[for=value]").textContent = `${value[0].toUpperCase()}${value.slice(1)}, hexadecimal`;
     const cap = (id) => {
-        const word = taken(id, (text) => foundIn(text).word);
-        return word && { word, tag: Number(byId(`${id}tag`).checked) };
+        const found = taken(id, (text) => foundIn(text));
+        byId(`${id}-taken`).textContent = found?.says ? `Taken: ${c.textOf(found.word)}. ${found.says}` : "";
+        return found && { word: found.word, tag: Number(byId(`${id}tag`).checked) };
     };
     const given = {};
     if (takes.includes("source")) given.source = cap("source");
@@ -467,7 +490,25 @@ function restore() {
     byId("said").textContent = strange.map(([name, value]) => `The link's “${name}=${value.slice(0, 40)}” isn't known here. `).join("");
 }
 
+const TITLES = { capability: "what a capability means", request: "a request", operation: "an operation" };
+const titleOf = () => `capcheck: ${TITLES[view] ?? (log.name || "a log")}`;
+
+// The element that had the focus last, until a person leaves it.
+let focused = null;
+
+/** Where the element with the focus is gone, hidden or disabled, one like it gets the focus, or else what is near it: a tab
+ * from there doesn't begin at the top of the page. */
+function refocus() {
+    const isSeen = (it) => it && it.isConnected && !it.disabled && it.getClientRects().length > 0;
+    if (focused === null || isSeen(focused)) return;
+    const { key, after } = focused.dataset;
+    const like = [...document.querySelectorAll("[data-key]")].find((it) => it.dataset.key === key && isSeen(it));
+    const near = [like, byId(after ?? ""), ...(view === "log" ? [byId("code")] : []), byId(view)].find(isSeen);
+    near?.focus({ preventScroll: near === byId(view) });
+}
+
 function show() {
+    document.title = titleOf();
     for (const name of Object.keys(VIEWS)) byId(name).hidden = name !== view;
     for (const button of document.querySelectorAll("[data-view]")) {
         if (button.dataset.view === view) button.setAttribute("aria-current", "page");
@@ -482,11 +523,13 @@ function show() {
     } catch (problem) {
         failed(problem);
     }
+    refocus();
 }
 
 /** Where a module fails, nothing is shown that isn't its. */
 function failed(problem, says = "The module failed, and so nothing is shown") {
-    byId("fault").textContent = `${says}: ${problem.message}`;
+    const needs = typeof WebAssembly === "object" ? "" : " It needs WebAssembly: Chrome or Edge 103, Firefox 113, Safari 16.4 or later.";
+    byId("fault").textContent = `${says}: ${problem.message}${needs}`;
     byId("fault").hidden = false;
     for (const results of document.querySelectorAll(".results")) results.hidden = true;
 }
@@ -550,7 +593,8 @@ function tryAddress(address) {
 
 function tryAtPixel(event) {
     const { domain } = shown;
-    const address = domain.at(event.clientX - byId("range").getBoundingClientRect().left);
+    const { left, width } = byId("range").firstElementChild.getBoundingClientRect();
+    const address = domain.at(((event.clientX - left) * domain.right) / width);
     tryAddress(shown.facts.range.every && address > GREATEST ? GREATEST : address);
 }
 
@@ -623,6 +667,8 @@ function listen() {
         if (target.closest('a[href^="#"]')) history.replaceState(null, "", linkTo());
         if (target.dataset.term) openTerm(target.dataset.term);
     }, { capture: true });
+    addEventListener("focusin", ({ target }) => { focused = target; });
+    addEventListener("pointerdown", () => { focused = null; }, { capture: true });
     addEventListener("hashchange", restore);
     addEventListener("resize", () => requestAnimationFrame(show));
 }

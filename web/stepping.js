@@ -1,13 +1,15 @@
 "use strict";
 // A log line by line: what each line is about, what registers and memory hold before it, and ways to other lines.
 
-function stepTo(wanted) {
+/** Shows a line; `says` is what is said of the way to it. */
+function stepTo(wanted, says = "") {
     const { count, line: fault } = log.judged;
     const line = Math.max(1, Math.min(Math.max(count, fault), Math.trunc(wanted) || 1));
     const { beside } = log;
     const passed = () => log.beside !== beside || log.line !== line;
     log.line = line;
     byId("line").value = String(line);
+    tellWay(says);
     beside.ask({ ask: "at", line, from: Math.max(1, line - AROUND), to: line + AROUND }).then((at) => {
         if (passed()) return;
         Object.assign(log, { at, granule: null });
@@ -29,7 +31,7 @@ function stepTo(wanted) {
 function showStep() {
     const { at, judged } = log;
     if (!at || !judged) return;
-    byId("count").textContent = `of ${decimal(judged.count)}`;
+    byId("count").textContent = judged.line > judged.count ? `of ${decimal(judged.count)}, where the bytes end` : `of ${decimal(judged.count)}`;
     const texts = [...at.texts];
     if (judged.line > judged.count && at.from + texts.length === judged.line) texts.push("");
     byId("code").replaceChildren(...texts.map((text, k) => codeLine(at.from + k, text)));
@@ -46,6 +48,7 @@ function showStep() {
     const isRead = (it) => it.classList.contains("read");
     byId("held").tBodies[0].replaceChildren(...rows.filter(isRead), ...rows.filter((it) => !isRead(it)));
     showMarks();
+    refocus();
     // On a narrow screen what is marked in the faulty line may be far to the right.
     const [code, mark] = [byId("code"), document.querySelector("#code mark")];
     if (!mark) return;
@@ -89,7 +92,7 @@ function heldRow({ number, tag, word, by }, parts) {
     const place = `c${number}`;
     const role = ["source", "authority", "target"].filter((name) => parts?.[name] === place);
     const isRead = role.some((it) => it !== "target");
-    const next = make("button", { type: "button", class: "small", "aria-label": `next line that uses ${place}` }, "next use");
+    const next = make("button", { type: "button", class: "small", "data-key": `next ${place}`, "aria-label": `next line that uses ${place}` }, "next use");
     next.addEventListener("click", () => stepToUse(number));
     const made = lineButton(by);
     made.title = `the line that made ${place}`;
@@ -113,8 +116,8 @@ async function stepToUse(register) {
     const { beside, line } = log;
     const next = await beside.ask({ ask: "nextUse", line, register });
     if (log.beside !== beside) return;
-    tellWay(next ? "" : `No line after ${decimal(line)} uses c${register}.`);
     if (next) stepTo(next);
+    else tellWay(`No line after ${decimal(line)} uses c${register}.`);
 }
 
 async function find(backward) {
@@ -124,8 +127,8 @@ async function find(backward) {
     const found = await beside.ask({ ask: "find", text, line, backward });
     if (log.beside !== beside) return;
     const around = found && (backward ? found >= line : found <= line) ? ` ${backward ? "It is the last" : "It is the first"} one of the log.` : "";
-    tellWay(found ? `Line ${decimal(found)} has it.${around}` : `No line has “${text}”.`);
-    if (found) stepTo(found);
+    if (found) stepTo(found, `Line ${decimal(found)} has it.${around}`);
+    else tellWay(`No line has “${text}”.`);
 }
 
 const tellWay = (text) => (byId("way").textContent = text);
@@ -150,7 +153,7 @@ function showMarks() {
     const here = marks().filter((it) => it >= 1 && it <= count && it !== fault);
     byId("mark").textContent = marks().includes(log.line) ? "Unmark this line" : "Mark this line";
     byId("marks").hidden = !fault && here.length === 0;
-    const button = (line) => lineButton(line, line === fault ? `line ${decimal(line)}, refused` : `line ${decimal(line)}`);
+    const button = (line) => lineButton(line, line === fault ? `line ${decimal(line)}, refused` : `line ${decimal(line)}`, "mark");
     byId("marks").replaceChildren("Refused and marked lines: ",
         ...[...here, ...(fault ? [fault] : [])].sort((one, other) => one - other).flatMap((line) => [button(line), " "]));
 }

@@ -4,6 +4,7 @@ import path from "node:path";
 
 import * as answers from "./tests/answers.mjs";
 import { Browser } from "./tests/browser.mjs";
+import * as ease from "./tests/ease.mjs";
 import * as faults from "./tests/faults.mjs";
 import { address, capability, count, file, hash, same, STATES, text, tools } from "./tests/given.mjs";
 import * as logs from "./tests/logs.mjs";
@@ -33,15 +34,24 @@ const GROUPS = {
     shortestIsMinimal: faults.shortestIsMinimal,
     memoryHasAuthors: faults.memoryHasAuthors,
     faultIsSaid: faults.faultIsSaid,
+    linksKeepVerdicts: faults.linksKeepVerdicts,
     oddBytesAreSaid: faults.oddBytesAreSaid,
     allocatorsAreNamed: faults.allocatorsAreNamed,
     linesAreFound: faults.linesAreFound,
+    formlessIsSaid: ease.formlessIsSaid,
+    othersAreKnown: ease.othersAreKnown,
+    focusIsKept: ease.focusIsKept,
+    notesAreFresh: ease.notesAreFresh,
+    forcedColours: ease.forcedColours,
+    largeText: ease.largeText,
     excessIsDrawn: shown.excessIsDrawn,
     offsetsAreInRange: shown.offsetsAreInRange,
     requestsAreMadeExact: shown.requestsAreMadeExact,
     wordsAreGlossed: shown.wordsAreGlossed,
     pageIsKept: shown.pageIsKept,
+    ticksAreDrawn: shown.ticksAreDrawn,
     pastedIsTaken: pasting.pastedIsTaken,
+    dumpsAreRead: pasting.dumpsAreRead,
     putRight: pasting.putRight,
     linksRestore: use.linksRestore,
     addressMoves: use.addressMoves,

@@ -67,14 +67,8 @@ const CALLS = {
     loaded: ["loaded", "cap", "cap", "cap"],
 };
 
-// A module with one memory of 64-bit addresses and nothing else: whether an engine takes such modules.
-const MEMORY64 = Uint8Array.of(0, 97, 115, 109, 1, 0, 0, 0, 5, 3, 1, 4, 0);
-
-/** The library's functions, from the bytes of the module. It throws where they are none, or no engine is there. */
+/** The library's functions, from the bytes of the module. It throws where they are none. */
 function library(bytes) {
-    if (typeof WebAssembly !== "object" || !WebAssembly.validate(MEMORY64)) {
-        throw new Error("This browser's WebAssembly has no 64-bit memory (memory64), which the module needs.");
-    }
     const { exports } = new WebAssembly.Instance(new WebAssembly.Module(bytes));
     const scratch = grown(exports.memory, 1);
     const view = () => new DataView(exports.memory.buffer);
@@ -134,15 +128,16 @@ function readStruct(memory, kind, at) {
     return kind === "wide" ? made.high << 64n | made.low : made;
 }
 
-/** Where new memory of a module begins that has so many bytes at least. Older engines take and answer a number. */
+/** Where new memory of a module begins that has so many bytes at least. A memory of 64-bit addresses takes and answers a
+ * BigInt, one of 32-bit addresses a number. */
 function grown(memory, bytes) {
     const pages = Math.ceil(bytes / 65536);
     let before;
     try {
-        before = memory.grow(BigInt(pages));
+        before = memory.grow(pages);
     } catch (problem) {
         if (!(problem instanceof TypeError)) throw problem;
-        before = memory.grow(pages);
+        before = memory.grow(BigInt(pages));
     }
     return Number(before) * 65536;
 }

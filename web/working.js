@@ -18,11 +18,13 @@ async function opened({ module, blob }) {
     const took = performance.now() - began;
     const lines = new Lines(judge, said);
     held = { module, lines, said };
-    postMessage({ judged: { ...said, count: lines.count, took } });
+    const before = said.line > 1 ? lines.text(said.line - 1) : "";
+    postMessage({ judged: { ...said, count: lines.count, took, before } });
 }
 
 // What keeps a text from being a log, though it reads like one: what the text has, and the bytes without it.
 const ODD = {
+    utf16: [(bytes) => encodingOf(bytes) !== null, (bytes) => ofUtf16(bytes, encodingOf(bytes))],
     mark: [(bytes) => bytes[0] === 0xef && bytes[1] === 0xbb && bytes[2] === 0xbf, (bytes) => bytes.subarray(3)],
     returns: [(bytes) => bytes.includes(13), (bytes) => bytes.filter((byte, k) => byte !== 13 || bytes[k + 1] !== 10)],
     tabs: [(bytes) => bytes.includes(9), (bytes) => bytes.map((byte) => (byte === 9 ? 32 : byte))],
@@ -30,8 +32,29 @@ const ODD = {
         (bytes) => bytes.some((byte) => byte >= 65 && byte <= 90),
         (bytes) => bytes.map((byte) => (byte >= 65 && byte <= 90 ? byte + 32 : byte)),
     ],
+    blanks: [(bytes) => withoutBlanks(bytes).length < bytes.length, withoutBlanks],
     feed: [(bytes) => bytes.length > 0 && bytes.at(-1) !== 10, withFeed],
+    empty: [(bytes) => bytes.some(isEmpty), (bytes) => bytes.filter((byte, k) => !isEmpty(byte, k, bytes))],
 };
+
+const encodingOf = ([one, other]) => (one === 0xff && other === 0xfe ? "utf-16le" : one === 0xfe && other === 0xff ? "utf-16be" : null);
+const ofUtf16 = (bytes, encoding) =>
+    Uint8Array.from(new TextDecoder(encoding).decode(bytes), (letter) => Math.min(letter.charCodeAt(0), 255));
+
+/** A line feed that ends an empty line. */
+const isEmpty = (byte, k, bytes) => byte === 10 && (k === 0 || bytes[k - 1] === 10);
+
+/** Bytes with one blank where there are several, and none at either end of a line. */
+function withoutBlanks(bytes) {
+    const made = new Uint8Array(bytes.length);
+    let size = 0;
+    for (const byte of bytes) {
+        if (byte === 32 && (size === 0 || made[size - 1] === 10 || made[size - 1] === 32)) continue;
+        if (byte === 10 && made[size - 1] === 32) size--;
+        made[size++] = byte;
+    }
+    return made.slice(0, size);
+}
 
 function withFeed(bytes) {
     const made = new Uint8Array(bytes.length + 1);

@@ -241,7 +241,7 @@ export async function refusalsAreNamed(page) {
 }
 
 const FORMS = "None of the accepted forms: 32 digits; TAG and 32 digits; 0xHIGH 0xLOW; 0xADDRESS [rwxRW,0xBASE-0xTOP]; "
-    + "v:1 p:PERMS b:BASE l:LENGTH o:OFFSET; or a line of a log.";
+    + "v:1 p:PERMS b:BASE l:LENGTH o:OFFSET; a dump of memory; or a line of a log.";
 
 export async function badInputIsRefused(page) {
     const word = "ffff1ffffbffd0000000000000001000";

@@ -311,7 +311,7 @@ const SENTENCES = [
         + "the rules give bounds 0x0 up to 0x10000000000000000 and address 0x0."],
     [`${ROOT}move c2 c1 = 0 0fff1ffff80810000000000000001000\n`,
         "It records another word than the rules give: tag, permissions, bounds and address differ."],
-    ["sealed\n", "The line has none of the forms."],
+    ["sealed\n", "No line begins with “sealed”; “seal” does."],
 ].map(([log, says]) => [log.startsWith("capcheck") ? log : `capcheck 1\n${log}`, says]);
 
 /** The sentence, what the rules give beside what is recorded, and the wrong field in view at each width. */
@@ -347,6 +347,29 @@ export async function faultIsSaid(page) {
         }
     }
     await page.size(1000, 1200);
+}
+
+/** The link of a log has its verdict, whatever bytes the log has. */
+export async function linksKeepVerdicts(page) {
+    const log = text("examples/moves.log");
+    const logs = [
+        log, `\xef\xbb\xbf${log}`, log.replaceAll("\n", "\r\n"), log.replace("\n", " \n"), log.replace("move", "\0move"),
+        log.replace("move", "mo\xe9ve"), log.trimEnd(), `\xff\xfe${[...log].map((it) => `${it}\0`).join("")}`, `${log}\n`, `\t${log}`,
+    ];
+    for (const given of logs) {
+        await withLog(page, given);
+        await page.run(copies);
+        const [verdict, link] = await page.run(async () => {
+            byId("copy-link").click();
+            while (copied.length === 0) await new Promise((done) => setTimeout(done, 5));
+            return [log.judged.text, copied[0]];
+        });
+        await page.go(link);
+        await page.run(tools);
+        await page.run(settled);
+        await page.run(() => globalThis.settled());
+        same(await page.run(() => log.judged.text), verdict, `the link of ${JSON.stringify(given.slice(0, 24))} has its verdict`);
+    }
 }
 
 /** Bytes that keep a text from being a log: one verdict by whatever way it comes, a sentence, and a button. */

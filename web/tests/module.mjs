@@ -166,16 +166,50 @@ export async function nothingIsFetched(page) {
     check(!/^@[a-z0-9_./]+@$|@pages@/m.test(html), "no place for a file is left");
 }
 
+/** The modules have 32-bit memory, which every engine takes; where none is, or no script runs, the page says so. */
 export async function withoutAnEngine(first) {
+    const html = fs.readFileSync(built, "utf8");
+    for (const id of ["module", "judge"]) {
+        const [, packed] = html.match(new RegExp(`<script id="${id}"[^>]*>([^<]*)`));
+        const module = zlib.gunzipSync(Buffer.from(packed, "base64"));
+        same(memoryOf(module) & 4, 0, `${id} has 32-bit memory`);
+    }
     const page = await first.browser.open("about:blank");
-    await page.send("Page.addScriptToEvaluateOnNewDocument", { source: "WebAssembly.validate = () => false;" });
-    await page.go(address);
-    await page.run(tools);
-    const said = await page.run(() => [dump().includes("no 64-bit memory (memory64)"), results()]);
-    same(said, [true, 0], "without 64-bit memory");
+    for (const [gone, needs] of [["WebAssembly", "WebAssembly"], ["DecompressionStream", "DecompressionStream"]]) {
+        const { identifier } = await page.send("Page.addScriptToEvaluateOnNewDocument", { source: `delete globalThis.${gone};` });
+        await page.go(address);
+        await page.run(tools);
+        const said = await page.run(() => [visible(document.getElementById("fault")), seen("fault"), results()]);
+        check(said[0] && said[1].includes("Safari 16.4") && said[2] === 0, `without ${needs}: ${said}`);
+        await page.send("Page.removeScriptToEvaluateOnNewDocument", { identifier });
+    }
+    page.faults.length = 0;
     await page.send("Emulation.setScriptExecutionDisabled", { value: true });
     await page.go(address);
     const { nodes } = await page.send("Accessibility.getFullAXTree");
     check(nodes.some((it) => it.name?.value?.includes("The script of this page hasn't run")), "without scripts");
     await page.close();
+}
+
+/** The flags of a module's memory: 4 is that of 64-bit addresses. */
+function memoryOf(bytes) {
+    let at = 8;
+    const number = () => {
+        let value = 0;
+        for (let shift = 0;; shift += 7) {
+            const byte = bytes[at++];
+            value += (byte & 127) * 2 ** shift;
+            if (byte < 128) return value;
+        }
+    };
+    while (at < bytes.length) {
+        const kind = bytes[at++];
+        const end = number() + at;
+        if (kind === 5) {
+            number();
+            return bytes[at];
+        }
+        at = end;
+    }
+    return null;
 }

@@ -1,5 +1,6 @@
 // What people paste: each form gives its word, or is refused.
-import { address, capability, check, hash, same, tools } from "./given.mjs";
+import { differs, dumpsOf, readDump } from "./dumps.mjs";
+import { address, capability, check, hash, same, text, tools } from "./given.mjs";
 
 const HIGH = "ffff1ffffbffd000";
 const LOW = "0000000000001000";
@@ -43,7 +44,7 @@ const PARTS = [
     ["[rwRW,0x1000-0x2000]", { base: 0x1000n, top: 0x2000n, view: 0x3c, address: 0x1000n, otype: 0x3ffff }, 1],
     [
         "c4: 0x40001234 [rxR,0x40000000-0x40010000] (sentry)",
-        { base: 0x40000000n, top: 0x40010000n, view: 0x16, address: 0x40001234n, otype: 0x3ffff }, 1
+        { base: 0x40000000n, top: 0x40010000n, view: 0x16, address: 0x40001234n, otype: 0x3fffe }, 1
     ],
     ["0x1000 [rwxRWE,0x1000-0x1fff]", { base: 0x1000n, top: 0x1fffn, view: 0x3e, address: 0x1000n, otype: 0x3ffff }, 1],
     ["0x1000 [,0x1000-0x1fff] (invalid)", { base: 0x1000n, top: 0x1fffn, view: 0, address: 0x1000n, otype: 0x3ffff }, 0],
@@ -135,6 +136,41 @@ export async function pastedIsTaken(page) {
     await memoryIsOffered(page);
     await wordIsMade(page);
     await capabilityIsSaid(page);
+}
+
+/** Each row of the table of dumps, and what the page shows of some. */
+export async function dumpsAreRead(page) {
+    const rows = dumpsOf(text("web/tests/dumps.rows"));
+    check(rows.length > 35, `${rows.length} dumps`);
+    for (const row of rows) same(differs(row, await page.run(readDump, row.text)), "", `the dump ${JSON.stringify(row.text)}`);
+    const shown = await page.run((texts) => texts.map((text) => {
+        turn("capability");
+        order("register");
+        tick("tag", true);
+        type("word", text);
+        return [error("word"), results(), document.getElementById("tag").checked, seen("type"), seen("means")];
+    }), [
+        `0 ${WORD} 0x1000 [rwxRW,0x1000-0x1fff] (untagged)`, "0x1000 [rwRW,0x1000-0x1fff] (sentry)",
+        "0x1000 [rwRW,0x1000-0x1fff] (sealed)", "ca0: 0x0000000040825f28",
+    ]);
+    same(shown[0].slice(0, 3), ["", 1, false], "a note that there is no tag");
+    same(shown[1][3], "Object type 0x3fffe, reserved.", "a sentry");
+    check(shown[2][3].startsWith("Object type not told") && shown[2][4].includes("sealed with type 0x0"), `sealed: ${shown[2]}`);
+    same([shown[3][0] !== "", shown[3][1]], [true, 0], "an address alone");
+    const memory = await page.run((text) => {
+        order("memory");
+        type("word", text);
+        return [error("word"), rows("lines").word, seen("taken").startsWith("Taken, of 0x1000: ")];
+    }, "0x1000:\t0x0000000000001000\t0xffff000007fe5004");
+    same(memory, ["", WORD, true], "a dump of memory in memory order");
+    const stale = await page.run((first, then) => {
+        order("register");
+        type("word", first);
+        const before = seen("offer");
+        type("word", then);
+        return [before !== "", seen("taken"), seen("offer")];
+    }, "00100000000000000450fe070000ffff", "c".repeat(31));
+    same(stale, [true, "", ""], "what was said of the text before is gone");
 }
 
 async function memoryIsOffered(page) {

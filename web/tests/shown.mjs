@@ -3,7 +3,7 @@ import { execFileSync } from "node:child_process";
 import fs from "node:fs";
 import { pathToFileURL } from "node:url";
 
-import { address, capability, check, file, hash, root, same, text, tools } from "./given.mjs";
+import { address, capability, check, file, hash, root, same, STATES, text, tools } from "./given.mjs";
 import { settled } from "./logs.mjs";
 
 /** The page at a link. */
@@ -113,7 +113,7 @@ export async function wordsAreGlossed(page) {
             [...document.querySelectorAll("#lines tr, #round-lines tr, #exact-lines tr")].filter(visible)
                 .filter((it) => !it.querySelector("small")?.textContent).map((it) => it.cells[0].textContent)
         ]);
-        same(got[0], ["“0x1000 up to 0x1020” are the addresses from 0x1000 to 0x101f: a top isn't one of them."], "“up to” is explained");
+        same(got[0], ["How ranges are written: for example, “0x1000 up to 0x1020” are the addresses from 0x1000 to 0x101f; a top isn't one of them."], "“up to” is explained");
         same(got[2], [], "fields without a gloss");
         check(!UNWANTED.test(got[1]), `words of ${link.slice(0, 30)}: ${got[1].match(UNWANTED)}`);
     }
@@ -154,4 +154,21 @@ export async function pageIsKept(page) {
     const opened = await page.run(() => [results(), seen("means").slice(0, 14), [...document.querySelectorAll("footer a, #allocator a")].map((it) => it.href)]);
     same(opened.slice(0, 2), [1, "Read and write"], "the page of the tree opens");
     for (const it of opened[2]) check(it.startsWith(pathToFileURL(file("docs/")).href) && fs.existsSync(new URL(it)), `${it} is there`);
+}
+
+/** All ticks of the drawings are there on a narrow screen too: bounds lie at the long ones. */
+export async function ticksAreDrawn(page) {
+    const ticks = () => {
+        const all = [...document.querySelectorAll("svg line.tick")].filter((it) => it.closest("section:not([hidden])"));
+        return [all.length, all.filter((it) => it.classList.contains("long")).length, all.filter(visible).length];
+    };
+    for (const width of [360, 390, 640, 1000]) {
+        await page.size(width, 900);
+        for (const link of [STATES[0], capability("ffff1ffffbffd0000000000000001000"), STATES[8]]) {
+            await page.go(address + link);
+            await page.run(tools);
+            const [all, long, seen] = await page.run(ticks);
+            check(all > 40 && long > 10 && seen === all, `${width} pixels, ${link}: ${seen} of ${all} ticks, ${long} of them long`);
+        }
+    }
 }

@@ -1,0 +1,37 @@
+# Completion of capcheck and capdiag for bash: the commands, the options of each in their order, then files.
+
+# The options of a command, in the order that it takes them.
+_capcheck_options() {
+    case $1 in
+        'capcheck explain') echo '--memory --tag' ;;
+        'capcheck judge' | 'capdiag why') echo '--origins' ;;
+        'capdiag heap') echo '--report --why' ;;
+    esac
+}
+
+_capcheck() {
+    local program=${1##*/} word=$2 command=${COMP_WORDS[1]} offered='' option
+    if [ "$COMP_CWORD" = 1 ]; then
+        case $program in
+            capdiag) offered='why heap --help --version' ;;
+            *) offered='explain round judge vectors' ;;
+        esac
+        mapfile -t COMPREPLY < <(compgen -W "$offered" -- "$word")
+        return
+    fi
+    # An option that was given is left out, with those that come before it.
+    for option in $(_capcheck_options "$program $command"); do
+        case " ${COMP_WORDS[*]:2:COMP_CWORD-2} " in
+            *" $option "*) offered='' ;;
+            *) offered="$offered $option" ;;
+        esac
+    done
+    [ "$program$COMP_CWORD" != capdiag2 ] || offered="$offered --help"
+    mapfile -t COMPREPLY < <(compgen -W "$offered" -- "$word")
+    case "$program $command $word" in
+        *' -'*) ;;
+        'capcheck judge '* | 'capcheck vectors '* | 'capdiag why '* | 'capdiag heap '*)
+            mapfile -t -O "${#COMPREPLY[@]}" COMPREPLY < <(compgen -f -- "$word") ;;
+    esac
+}
+complete -o filenames -F _capcheck capcheck capdiag
