@@ -94,7 +94,7 @@ HELPS = re.compile(r"LD_|PKG_CONFIG|PYTHON(PATH|HOME)|CAPCHECK|CAPDIAG|CAP_|HEAP
 # Files of the tree that pages show whole.
 SHOWN = {
     "docs/FIRST_HOUR.md": ["examples/emulator/first.c"],
-    "docs/WORDS.md": ["crates/arena/src/main.rt", "crates/arena/stdout"],
+    "CONTRIBUTING.md": ["crates/arena/src/main.rt", "crates/arena/stdout"],
 }
 
 
