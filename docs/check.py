@@ -11,7 +11,7 @@ own, in which the tree's files stand by their names, or what is installed in sha
 without a GDB they are left out, and a line says so. Blocks with `>>> ` are run by doctest. Other commands of the pages are those of ELSEWHERE, which says
 where each is run. Rows that give the verdict of an example or of a log are judged too, blocks that show a file of the
 tree are compared with it, each link has to lead to a file and a heading, and `judge/heap.c` has to have as many lines
-as is said. The manual pages and the changelog have to have the header's version. The phrases of PHRASES are looked for in the pages, the manual pages, the headers, and the comments of the
+as is said. The manual pages and the changelog have to have the header's version. The words of TERMS are looked for in the users' pages, and each figure of theirs in bench/README.md. The phrases of PHRASES are looked for in the pages, the manual pages, the headers, and the comments of the
 crates and of the C examples; text in code font isn't read. A block of C that prints something is the program.c of the
 page's lines `cc program.c ..`, and is run as each of them links it. The status is 1 where anything differs."""
 import glob
@@ -79,6 +79,35 @@ PHRASES = {
     r"let through": "permitted",
     r"room to room|(?:a|the) tree before": "CHANGELOG.md, for what was before",
 }
+# One name for each concept, on the pages that users read.
+TERMS = {
+    r"first fault": "the faulty line",
+    r"(?:hand|hands|handed|handing) (?:over|it to|them to|to a judge)": "pass",
+    r"log's machine": "the model",
+    r"this profile": "this project's own choice, or the rules",
+    r"some (?=\d)": "about",
+    r"exactly if": "if and only if, or exactly when",
+    r"(?:is|are|was|nothing is|something is) said of": "about",
+    r"proved of": "proved about",
+    r"shortest log": "a short log",
+    r"current CHERI-RISC-V|later RISC-V extension": "CHERI ISA version 9, RVY",
+    r"legal": "allowed",
+    r"beside": "next to, with, or at the same time as",
+}
+# The pages that TERMS and figures are looked for in: those of users, without the ones that are made.
+OURS = [it for it in PAGES if it not in ("docs/STANDARD.md", "docs/PROOFS.md", "bench/README.md", "web/README.md", "conformance/README.md")]
+# A figure of time, memory or cost. Each has to be in bench/README.md, or to round what is there.
+FIGURE = re.compile(r"(?<![\w.^])\d+(?:[.,]\d+)*(?: to \d+(?:[.,]\d+)*)? (?:ns|ms|s|seconds?|minutes?|hours?|[MG]B|Ki?B|per cent|instructions|microseconds?)\b|\b(?:half|a quarter of) an? (?:hour|minute)\b")
+ROUNDED = {
+    "0.02 to 0.06 s": ["0.023 to 0.058 s"],
+    "60 to 120 instructions": ["| 63 | 83 | 82 | 86 | 109 | 111 | 116 |"],
+    "10 ns": ["| decoding | 8.9 |", "| rounding: the fields, and whether it is exact | 11.9 |"],
+    "30 to 40 ns": ["| each line by itself, its length known | 29 | 41 |"],
+    "2,000 KB": ["`(ulimit -v 2000; ..)`"],
+    "90 KB": ["90 KiB of stack"],
+}
+# Sizes that the format or the code fixes: the reach of an offset, a region of the store.
+FIXED = ("2 KB", "256 KiB")
 # Commands that need a proof. After one that builds over a library for C no command of its page can run without it.
 BUILT = re.compile(r"install\.sh|libcapcheck_|pkg-config|\brt |^gdb |-m capcheck")
 # Whether this Python can run the package of python/.
@@ -320,6 +349,21 @@ def phrases(path):
             yield f"{path}:{text.count(chr(10), 0, m.start()) + 1}: '{' '.join(m[0].split())}': {better}"
 
 
+def terms(path, text):
+    """The words of a page that have another name everywhere else, and its figures that bench/README.md doesn't have."""
+    if path not in OURS:
+        return
+    with open("bench/README.md", encoding="utf-8") as it:
+        bench = it.read()
+    text = re.sub(r"`[^`\n]*`", lambda m: "`" * len(m[0]), "\n".join(prose(path, text)))
+    for phrase, better in TERMS.items():
+        for m in re.finditer(r"\b(?:%s)\b" % phrase.replace(" ", r"\s+"), text):
+            yield f"{path}:{text.count(chr(10), 0, m.start()) + 1}: '{' '.join(m[0].split())}': {better}"
+    for m in FIGURE.finditer(text):
+        if m[0] not in bench and m[0] not in FIXED and not (m[0] in ROUNDED and all(it in bench for it in ROUNDED[m[0]])):
+            yield f"{path}:{text.count(chr(10), 0, m.start()) + 1}: the figure '{m[0]}' isn't in bench/README.md"
+
+
 def versions():
     """The places whose version isn't that of the header."""
     with open("include/capcheck.h", encoding="utf-8") as it:
@@ -356,7 +400,7 @@ def main(words):
                 run_python = ([], 0) if unproved else doctests(page, text, folder)
                 os.environ.clear()
                 os.environ.update(before)
-                for bad, tried in (run_sessions, rows(page, text, folder), shown(page, text), run_blocks, run_python, links(page, text), counted(page, text)):
+                for bad, tried in (run_sessions, ([*terms(page, text)], 1), rows(page, text, folder), shown(page, text), run_blocks, run_python, links(page, text), counted(page, text)):
                     wrong += bad
                     count += tried
     if not unproved and not is_installed():
