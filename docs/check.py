@@ -2,9 +2,11 @@
 """Runs the commands of the pages, compares what they print with what the pages say, and looks for phrases that confuse.
 
     python3 docs/check.py [--unproved] [PAGE..]
+    python3 docs/check.py --archive FOLDER [PAGE..]
 
 A page's commands run as a reader's: HOME and PATH are set, with the installed programs in it, and of what concerns the
-libraries only what the page exports: a line `export NAME=VALUE` holds for the rest of the page. With `--unproved` it takes the programs that CAPCHECK and CAPDIAG name, and leaves out what needs a library for C. It wants the programs and the library for C built, or builds them. A block of a page that has lines beginning with
+libraries only what the page exports: a line `export NAME=VALUE` holds for the rest of the page. With `--unproved` it takes the programs that CAPCHECK and CAPDIAG name, and leaves out what needs a library for C. With `--archive` the pages, the files and the installed programs are those of an unpacked archive (release.sh), as its
+reader has them, and what needs the kit is left out. It wants the programs and the library for C built, or builds them. A block of a page that has lines beginning with
 `$ ` is a session: each such line is a command, lines that begin with `> ` go on with it, and the lines below it are
 all that it prints; a line `..` stands for any lines. A page's commands run one after another in a folder of their
 own, in which the tree's files stand by their names, or what is installed in share/capcheck for the pages of INSTALLED. Lines that begin with `(gdb) ` are commands of the GDB that the session starts;
@@ -110,6 +112,8 @@ ROUNDED = {
 FIXED = ("2 KB", "256 KiB")
 # Commands that need a proof. After one that builds over a library for C no command of its page can run without it.
 BUILT = re.compile(r"install\.sh|libcapcheck_|pkg-config|\brt |^gdb |-m capcheck")
+# Commands that need the kit.
+KIT = re.compile(r"install\.sh|\brt |judge/build\.sh")
 # Whether this Python can run the package of python/.
 HAS_PACKAGE = sys.version_info >= (3, 10)
 COMMAND = re.compile(r"(\$|cc|sh|bash|cd|rt|python3|capcheck|capdiag|make|cat|git) ")
@@ -164,7 +168,7 @@ def run(command, folder, given=None):
     return ran.stdout.decode("utf-8", "replace")
 
 
-def place(work, unproved):
+def place(work, unproved, archive):
     """A folder in which the tree's files stand by their names, and a home in which what is built is installed."""
     programs = {name: os.path.abspath(os.environ[name.upper()]) for name in ("capcheck", "capdiag") if unproved}
     for name in [*os.environ]:
@@ -175,13 +179,16 @@ def place(work, unproved):
         os.makedirs(f"{work}/home/.local/bin")
         for name, path in programs.items():
             os.symlink(path, f"{work}/home/.local/bin/{name}")
+    elif archive:
+        for name in ("bin", "include", "lib", "share"):
+            shutil.copytree(name, f"{work}/home/.local/{name}", symlinks=True)
     else:
         subprocess.run(["sh", "install.sh", f"{work}/home/.local"], check=True, stdout=subprocess.DEVNULL)
     folder = f"{work}/tree"
     os.makedirs(folder)
     for name in os.listdir("."):
         if not name.startswith("."):
-            os.symlink(f"{ROOT}/{name}", f"{folder}/{name}")
+            os.symlink(os.path.abspath(name), f"{folder}/{name}")
     return folder
 
 
@@ -191,7 +198,7 @@ def export(line, folder):
         os.environ[m[1]] = run(f'{line} && printf %s "${m[1]}"', folder)
 
 
-def sessions(page, text, folder, unproved):
+def sessions(page, text, folder, unproved, archive):
     """Runs the sessions of a page; what is wrong, a line each, and how many commands it ran."""
     wrong, count, is_left = [], 0, False
     for first, _, lines in blocks(text):
@@ -202,7 +209,7 @@ def sessions(page, text, folder, unproved):
             if unproved and BUILT.search(command[0]):
                 is_left = is_left or "install.sh" not in command[0] and "rt " not in command[0]
                 continue
-            if is_left:
+            if is_left or archive and KIT.search(command[0]):
                 continue
             if "-m capcheck" in command[0] and not HAS_PACKAGE:
                 continue
@@ -303,7 +310,7 @@ def links(page, text):
         count += 1
         path, _, name = target.partition("#")
         there = os.path.normpath(os.path.join(os.path.dirname(page), path)) if path else page
-        if not os.path.exists(there):
+        if there.startswith("..") or not os.path.exists(there):
             wrong.append(f"{page}: there is no {target}")
         elif name and os.path.isfile(there):
             with open(there, encoding="utf-8") as it:
@@ -381,13 +388,17 @@ def versions():
 
 
 def main(words):
-    wrong, count, unproved = [*versions()], 0, "--unproved" in words
-    pages = [it for it in words if it != "--unproved"]
+    unproved, archive = "--unproved" in words, "--archive" in words
+    pages = [it for it in words if it not in ("--unproved", "--archive")]
+    if archive:
+        os.chdir(pages.pop(0))
+        pages = pages or [it for it in PAGES if it != "CONTRIBUTING.md"]
+    wrong, count = [] if archive else [*versions()], 0
     read = [it for it in PAGES if it != "docs/STANDARD.md"] + glob.glob("docs/*.1") + glob.glob("include/*.h") + glob.glob("judge/*.c")
     for path in pages or sorted([*read, *glob.glob("crates/*/src/**/*.rt", recursive=True), *glob.glob("examples/*/*.c")]):
         wrong += phrases(path)
     with tempfile.TemporaryDirectory() as work:
-        tree = place(work, unproved)
+        tree = place(work, unproved, archive)
         for page in pages or PAGES:
             with open(page, encoding="utf-8") as it:
                 text = it.read()
@@ -395,7 +406,7 @@ def main(words):
                 folder = f"{room}/tree"
                 shutil.copytree(f"{work}/home/.local/share/capcheck" if page in INSTALLED and not unproved else tree, folder, symlinks=True)
                 before = dict(os.environ)
-                run_sessions = sessions(page, text, folder, unproved)
+                run_sessions = sessions(page, text, folder, unproved, archive)
                 run_blocks = ([], 0) if unproved else programs(page, text, folder)
                 run_python = ([], 0) if unproved else doctests(page, text, folder)
                 os.environ.clear()
