@@ -327,6 +327,18 @@ def counted(page, text):
     return [f"{page}: judge/heap.c has {lines} lines, and not {it}" for it in said if it != lines], len(said)
 
 
+def sizes(page, text):
+    """Whether the commands of the rows of docs/TESTING.md count what the rows say: a round number within a twentieth."""
+    rows = re.findall(r"(?m)^\| [^|]* \| (over )?([\d,]+) \| `((?:cat|ls|tail) .*)` \|$", text) if page == "docs/TESTING.md" else []
+    wrong = []
+    for is_over, said, command in rows if os.path.isdir("crates") else []:
+        number, found = int(said.replace(",", "")), int(re.match(r"\d+", run(command.replace("\\|", "|"), "."))[0])
+        most = number * 1.25 if is_over else number * 1.05 if number % 100 == 0 else number
+        if not (number if is_over or number % 100 else number * 0.95) <= found <= most:
+            wrong.append(f"{page}: `{command}` counts {found}, and not {said}")
+    return wrong, len(rows)
+
+
 def prose(path, text):
     """The text of a file that is read as prose, line by line: a page without its blocks, or the comments of a source."""
     fenced, lines = False, []
@@ -411,7 +423,7 @@ def main(words):
                 run_python = ([], 0) if unproved else doctests(page, text, folder)
                 os.environ.clear()
                 os.environ.update(before)
-                for bad, tried in (run_sessions, ([*terms(page, text)], 1), rows(page, text, folder), shown(page, text), run_blocks, run_python, links(page, text), counted(page, text)):
+                for bad, tried in (run_sessions, ([*terms(page, text)], 1), rows(page, text, folder), shown(page, text), run_blocks, run_python, links(page, text), counted(page, text), sizes(page, text)):
                     wrong += bad
                     count += tried
     if not unproved and not is_installed():
