@@ -328,13 +328,13 @@ def counted(page, text):
 
 
 def sizes(page, text):
-    """Whether the commands of the rows of docs/TESTING.md count what the rows say: a round number within a twentieth."""
+    """Whether the commands of the rows of docs/TESTING.md count what the rows say: a round number within a fifth."""
     rows = re.findall(r"(?m)^\| [^|]* \| (over )?([\d,]+) \| `((?:cat|ls|tail) .*)` \|$", text) if page == "docs/TESTING.md" else []
     wrong = []
     for is_over, said, command in rows if os.path.isdir("crates") else []:
         number, found = int(said.replace(",", "")), int(re.match(r"\d+", run(command.replace("\\|", "|"), "."))[0])
-        most = number * 1.25 if is_over else number * 1.05 if number % 100 == 0 else number
-        if not (number if is_over or number % 100 else number * 0.95) <= found <= most:
+        most = number * 1.2 if is_over or number % 100 == 0 else number
+        if not (number if is_over or number % 100 else number * 0.8) <= found <= most:
             wrong.append(f"{page}: `{command}` counts {found}, and not {said}")
     return wrong, len(rows)
 
