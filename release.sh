@@ -4,8 +4,9 @@
 #
 #   sh release.sh
 #
-# It has what install.sh installs, the wheel of the Python package, the browser page, the pages of docs/, the kit's name in
-# KIT, and SHA256SUMS. It needs what install.sh needs, and objdump. It stops if the page that the tree keeps, web/capcheck.html,
+# It has what install.sh installs, the wheel of the Python package, the browser page, all pages with the files that they name
+# and link to, the kit's name in KIT, and SHA256SUMS. The trial follows each link of its pages and runs their commands. It needs
+# what install.sh needs, and objdump. It stops if the page that the tree keeps, web/capcheck.html,
 # was built from other sources.
 set -eu
 cd "$(dirname "$0")"
@@ -21,11 +22,8 @@ DESTDIR=$work sh install.sh "/$name"
 rm -r "$to/share/gdb"
 sed -i 's|^prefix=.*|prefix=${pcfiledir}/../..|' "$to"/lib/pkgconfig/*.pc
 CAPCHECK_LIB=$to/lib python3 python/build_wheel.py "$to"
-mkdir "$to/web" "$to/docs" "$to/examples"
-cp web/capcheck.html "$to/web/"
-cp README.md CHANGELOG.md "$to/"
-cp docs/*.md docs/*.svg docs/*.png "$to/docs/"
-cp examples/*.log "$to/examples/"
+git ls-files -z README.md CHANGELOG.md CONTRIBUTING.md docs examples conformance bench web/README.md web/capcheck.html include judge/heap.c |
+    tar --null -T - -cf - | tar -C "$to" -xf -
 rt version > "$to/KIT"
 needed=$(objdump -p "$to"/bin/* "$to"/lib/*.so.1 | sed -n 's/^ *NEEDED *//p' | sort -u)
 glibc=$(objdump -T "$to"/bin/* "$to"/lib/*.so.1 | grep -o 'GLIBC_[0-9.]*' | sort -uV | tail -n 1)
@@ -41,7 +39,9 @@ share/capcheck/capcheck_gdb.py  commands for GDB: source FILE; docs/GDB.md
 share/capcheck/rust             the Rust crate: docs/C.md
 share/capcheck/examples         sources: the recorders, and example emulators; docs/RECORDING.md, docs/ALLOCATORS.md
 web/capcheck.html               the page, for a browser
-examples/                       logs to judge: bin/capcheck judge examples/moves.log
+examples/                       logs to judge, recorders and emulators: bin/capcheck judge examples/moves.log
+docs/, README.md                the pages; docs/FIRST_HOUR.md is a tutorial that needs this archive alone
+conformance/                    logs with their verdicts, for authors of judges and emulators
 KIT                             the Rattle kit that proved and built it
 SHA256SUMS                      sha256sum -c SHA256SUMS
 TEXT
@@ -61,5 +61,6 @@ if command -v pkg-config > /dev/null; then
     env -i PATH="$PATH" PKG_CONFIG_PATH="$PWD/lib/pkgconfig" sh -c "${CC:-cc} "'share/capcheck/examples/emulator/emulator.c $(pkg-config --cflags --libs capcheck) -o emulator'
     [ "$(env -i ./emulator | env -i bin/capcheck judge)" = 'yes 27 1' ] || failed 'a program over the libraries prints otherwise'
 fi
+python3 "$OLDPWD/docs/check.py" --archive "$PWD" || failed 'a page of the archive says what is not so'
 [ "$needed" = libc.so.6 ] || failed "other libraries are needed: $needed"
 echo "out/$name.tar.gz: $(wc -c < "$OLDPWD/out/$name.tar.gz") bytes; needs libc.so.6 of ${glibc#GLIBC_} or later"

@@ -2,16 +2,18 @@
 """Runs the commands of the pages, compares what they print with what the pages say, and looks for phrases that confuse.
 
     python3 docs/check.py [--unproved] [PAGE..]
+    python3 docs/check.py --archive FOLDER [PAGE..]
 
 A page's commands run as a reader's: HOME and PATH are set, with the installed programs in it, and of what concerns the
-libraries only what the page exports: a line `export NAME=VALUE` holds for the rest of the page. With `--unproved` it takes the programs that CAPCHECK and CAPDIAG name, and leaves out what needs a library for C. It wants the programs and the library for C built, or builds them. A block of a page that has lines beginning with
+libraries only what the page exports: a line `export NAME=VALUE` holds for the rest of the page. With `--unproved` it takes the programs that CAPCHECK and CAPDIAG name, and leaves out what needs a library for C. With `--archive` the pages, the files and the installed programs are those of an unpacked archive (release.sh), as its
+reader has them, and what needs the kit is left out. It wants the programs and the library for C built, or builds them. A block of a page that has lines beginning with
 `$ ` is a session: each such line is a command, lines that begin with `> ` go on with it, and the lines below it are
 all that it prints; a line `..` stands for any lines. A page's commands run one after another in a folder of their
 own, in which the tree's files stand by their names, or what is installed in share/capcheck for the pages of INSTALLED. Lines that begin with `(gdb) ` are commands of the GDB that the session starts;
 without a GDB they are left out, and a line says so. Blocks with `>>> ` are run by doctest. Other commands of the pages are those of ELSEWHERE, which says
 where each is run. Rows that give the verdict of an example or of a log are judged too, blocks that show a file of the
 tree are compared with it, each link has to lead to a file and a heading, and `judge/heap.c` has to have as many lines
-as is said. The manual pages and the changelog have to have the header's version. The phrases of PHRASES are looked for in the pages, the manual pages, the headers, and the comments of the
+as is said. The manual pages and the changelog have to have the header's version. The words of TERMS are looked for in the users' pages, and each figure of theirs in bench/README.md. The phrases of PHRASES are looked for in the pages, the manual pages, the headers, and the comments of the
 crates and of the C examples; text in code font isn't read. A block of C that prints something is the program.c of the
 page's lines `cc program.c ..`, and is run as each of them links it. The status is 1 where anything differs."""
 import glob
@@ -30,7 +32,7 @@ sys.path.insert(0, f"{ROOT}/gdb")
 from sessions import PROMPT, agrees, is_installed, transcript  # noqa: E402
 
 PAGES = ["README.md", "CONTRIBUTING.md", "docs/FIRST_HOUR.md", "docs/FORMAT.md", "docs/WORDS.md", "docs/MACHINE.md", "docs/RECORDING.md"]
-PAGES += ["docs/PYTHON.md", "docs/GDB.md", "docs/ALLOCATORS.md", "docs/STANDARD.md", "docs/C.md", "docs/GLOSSARY.md", "docs/PROOFS.md", "docs/DECISIONS.md", "docs/INTERNALS.md", "CHANGELOG.md", "examples/README.md", "examples/qemu/README.md", "conformance/README.md", "web/README.md", "bench/README.md"]
+PAGES += ["docs/PYTHON.md", "docs/GDB.md", "docs/ALLOCATORS.md", "docs/STANDARD.md", "docs/C.md", "docs/GLOSSARY.md", "docs/PROOFS.md", "docs/TESTING.md", "docs/DECISIONS.md", "docs/INTERNALS.md", "CHANGELOG.md", "examples/README.md", "examples/objects/README.md", "examples/qemu/README.md", "conformance/README.md", "web/README.md", "bench/README.md"]
 
 # Commands that no session runs, and where they are run.
 ELSEWHERE = {
@@ -79,8 +81,39 @@ PHRASES = {
     r"let through": "permitted",
     r"room to room|(?:a|the) tree before": "CHANGELOG.md, for what was before",
 }
+# One name for each concept, on the pages that users read.
+TERMS = {
+    r"first fault": "the faulty line",
+    r"(?:hand|hands|handed|handing) (?:over|it to|them to|to a judge)": "pass",
+    r"log's machine": "the model",
+    r"this profile": "this project's own choice, or the rules",
+    r"some (?=\d)": "about",
+    r"exactly if": "if and only if, or exactly when",
+    r"(?:is|are|was|nothing is|something is) said of": "about",
+    r"proved of": "proved about",
+    r"shortest log": "a short log",
+    r"current CHERI-RISC-V|later RISC-V extension": "CHERI ISA version 9, RVY",
+    r"legal": "allowed",
+    r"beside": "next to, with, or at the same time as",
+}
+# The pages that TERMS and figures are looked for in: those of users, without the ones that are made.
+OURS = [it for it in PAGES if it not in ("docs/STANDARD.md", "docs/PROOFS.md", "bench/README.md", "web/README.md", "conformance/README.md")]
+# A figure of time, memory or cost. Each has to be in bench/README.md, or to round what is there.
+FIGURE = re.compile(r"(?<![\w.^])\d+(?:[.,]\d+)*(?: to \d+(?:[.,]\d+)*)? (?:ns|ms|s|seconds?|minutes?|hours?|[MG]B|Ki?B|per cent|instructions|microseconds?)\b|\b(?:half|a quarter of) an? (?:hour|minute)\b")
+ROUNDED = {
+    "0.02 to 0.06 s": ["0.023 to 0.058 s"],
+    "60 to 120 instructions": ["| 63 | 83 | 82 | 86 | 109 | 111 | 116 |"],
+    "10 ns": ["| decoding | 8.9 |", "| rounding: the fields, and whether it is exact | 11.9 |"],
+    "30 to 40 ns": ["| each line by itself, its length known | 29 | 41 |"],
+    "2,000 KB": ["`(ulimit -v 2000; ..)`"],
+    "90 KB": ["90 KiB of stack"],
+}
+# Sizes that the format or the code fixes: the reach of an offset, a region of the store.
+FIXED = ("2 KB", "256 KiB")
 # Commands that need a proof. After one that builds over a library for C no command of its page can run without it.
 BUILT = re.compile(r"install\.sh|libcapcheck_|pkg-config|\brt |^gdb |-m capcheck")
+# Commands that need the kit.
+KIT = re.compile(r"install\.sh|\brt |judge/build\.sh")
 # Whether this Python can run the package of python/.
 HAS_PACKAGE = sys.version_info >= (3, 10)
 COMMAND = re.compile(r"(\$|cc|sh|bash|cd|rt|python3|capcheck|capdiag|make|cat|git) ")
@@ -94,7 +127,7 @@ HELPS = re.compile(r"LD_|PKG_CONFIG|PYTHON(PATH|HOME)|CAPCHECK|CAPDIAG|CAP_|HEAP
 # Files of the tree that pages show whole.
 SHOWN = {
     "docs/FIRST_HOUR.md": ["examples/emulator/first.c"],
-    "docs/WORDS.md": ["crates/arena/src/main.rt", "crates/arena/stdout"],
+    "CONTRIBUTING.md": ["crates/arena/src/main.rt", "crates/arena/stdout"],
 }
 
 
@@ -135,7 +168,7 @@ def run(command, folder, given=None):
     return ran.stdout.decode("utf-8", "replace")
 
 
-def place(work, unproved):
+def place(work, unproved, archive):
     """A folder in which the tree's files stand by their names, and a home in which what is built is installed."""
     programs = {name: os.path.abspath(os.environ[name.upper()]) for name in ("capcheck", "capdiag") if unproved}
     for name in [*os.environ]:
@@ -146,13 +179,16 @@ def place(work, unproved):
         os.makedirs(f"{work}/home/.local/bin")
         for name, path in programs.items():
             os.symlink(path, f"{work}/home/.local/bin/{name}")
+    elif archive:
+        for name in ("bin", "include", "lib", "share"):
+            shutil.copytree(name, f"{work}/home/.local/{name}", symlinks=True)
     else:
         subprocess.run(["sh", "install.sh", f"{work}/home/.local"], check=True, stdout=subprocess.DEVNULL)
     folder = f"{work}/tree"
     os.makedirs(folder)
     for name in os.listdir("."):
         if not name.startswith("."):
-            os.symlink(f"{ROOT}/{name}", f"{folder}/{name}")
+            os.symlink(os.path.abspath(name), f"{folder}/{name}")
     return folder
 
 
@@ -162,7 +198,7 @@ def export(line, folder):
         os.environ[m[1]] = run(f'{line} && printf %s "${m[1]}"', folder)
 
 
-def sessions(page, text, folder, unproved):
+def sessions(page, text, folder, unproved, archive):
     """Runs the sessions of a page; what is wrong, a line each, and how many commands it ran."""
     wrong, count, is_left = [], 0, False
     for first, _, lines in blocks(text):
@@ -173,7 +209,7 @@ def sessions(page, text, folder, unproved):
             if unproved and BUILT.search(command[0]):
                 is_left = is_left or "install.sh" not in command[0] and "rt " not in command[0]
                 continue
-            if is_left:
+            if is_left or archive and KIT.search(command[0]):
                 continue
             if "-m capcheck" in command[0] and not HAS_PACKAGE:
                 continue
@@ -274,7 +310,7 @@ def links(page, text):
         count += 1
         path, _, name = target.partition("#")
         there = os.path.normpath(os.path.join(os.path.dirname(page), path)) if path else page
-        if not os.path.exists(there):
+        if there.startswith("..") or not os.path.exists(there):
             wrong.append(f"{page}: there is no {target}")
         elif name and os.path.isfile(there):
             with open(there, encoding="utf-8") as it:
@@ -289,6 +325,18 @@ def counted(page, text):
         lines = len(it.readlines())
     said = [int(it) for it in re.findall(r"(\d+) lines of C\b", text)]
     return [f"{page}: judge/heap.c has {lines} lines, and not {it}" for it in said if it != lines], len(said)
+
+
+def sizes(page, text):
+    """Whether the commands of the rows of docs/TESTING.md count what the rows say: a round number within a fifth."""
+    rows = re.findall(r"(?m)^\| [^|]* \| (over )?([\d,]+) \| `((?:cat|ls|tail) .*)` \|$", text) if page == "docs/TESTING.md" else []
+    wrong = []
+    for is_over, said, command in rows if os.path.isdir("crates") else []:
+        number, found = int(said.replace(",", "")), int(re.match(r"\d+", run(command.replace("\\|", "|"), "."))[0])
+        most = number * 1.2 if is_over or number % 100 == 0 else number
+        if not (number if is_over or number % 100 else number * 0.8) <= found <= most:
+            wrong.append(f"{page}: `{command}` counts {found}, and not {said}")
+    return wrong, len(rows)
 
 
 def prose(path, text):
@@ -320,6 +368,21 @@ def phrases(path):
             yield f"{path}:{text.count(chr(10), 0, m.start()) + 1}: '{' '.join(m[0].split())}': {better}"
 
 
+def terms(path, text):
+    """The words of a page that have another name everywhere else, and its figures that bench/README.md doesn't have."""
+    if path not in OURS:
+        return
+    with open("bench/README.md", encoding="utf-8") as it:
+        bench = it.read()
+    text = re.sub(r"`[^`\n]*`", lambda m: "`" * len(m[0]), "\n".join(prose(path, text)))
+    for phrase, better in TERMS.items():
+        for m in re.finditer(r"\b(?:%s)\b" % phrase.replace(" ", r"\s+"), text):
+            yield f"{path}:{text.count(chr(10), 0, m.start()) + 1}: '{' '.join(m[0].split())}': {better}"
+    for m in FIGURE.finditer(text):
+        if m[0] not in bench and m[0] not in FIXED and not (m[0] in ROUNDED and all(it in bench for it in ROUNDED[m[0]])):
+            yield f"{path}:{text.count(chr(10), 0, m.start()) + 1}: the figure '{m[0]}' isn't in bench/README.md"
+
+
 def versions():
     """The places whose version isn't that of the header."""
     with open("include/capcheck.h", encoding="utf-8") as it:
@@ -337,13 +400,17 @@ def versions():
 
 
 def main(words):
-    wrong, count, unproved = [*versions()], 0, "--unproved" in words
-    pages = [it for it in words if it != "--unproved"]
+    unproved, archive = "--unproved" in words, "--archive" in words
+    pages = [it for it in words if it not in ("--unproved", "--archive")]
+    if archive:
+        os.chdir(pages.pop(0))
+        pages = pages or [it for it in PAGES if it != "CONTRIBUTING.md"]
+    wrong, count = [] if archive else [*versions()], 0
     read = [it for it in PAGES if it != "docs/STANDARD.md"] + glob.glob("docs/*.1") + glob.glob("include/*.h") + glob.glob("judge/*.c")
     for path in pages or sorted([*read, *glob.glob("crates/*/src/**/*.rt", recursive=True), *glob.glob("examples/*/*.c")]):
         wrong += phrases(path)
     with tempfile.TemporaryDirectory() as work:
-        tree = place(work, unproved)
+        tree = place(work, unproved, archive)
         for page in pages or PAGES:
             with open(page, encoding="utf-8") as it:
                 text = it.read()
@@ -351,12 +418,12 @@ def main(words):
                 folder = f"{room}/tree"
                 shutil.copytree(f"{work}/home/.local/share/capcheck" if page in INSTALLED and not unproved else tree, folder, symlinks=True)
                 before = dict(os.environ)
-                run_sessions = sessions(page, text, folder, unproved)
+                run_sessions = sessions(page, text, folder, unproved, archive)
                 run_blocks = ([], 0) if unproved else programs(page, text, folder)
                 run_python = ([], 0) if unproved else doctests(page, text, folder)
                 os.environ.clear()
                 os.environ.update(before)
-                for bad, tried in (run_sessions, rows(page, text, folder), shown(page, text), run_blocks, run_python, links(page, text), counted(page, text)):
+                for bad, tried in (run_sessions, ([*terms(page, text)], 1), rows(page, text, folder), shown(page, text), run_blocks, run_python, links(page, text), counted(page, text), sizes(page, text)):
                     wrong += bad
                     count += tried
     if not unproved and not is_installed():
