@@ -48,14 +48,6 @@ below-where holds key n low is =
     let e : one (holds key) ≡ 1 = ap one is in
     omega (arith, put, e)
 
-pub below-some : (holds : ℕ → Bool) (n : ℕ) → 0 < count_below holds n → (key : ℕ) × (holds key ≡ true)
-unfolding count_below
-below-some holds zero some = absurd (omega arith)
-below-some holds (suc n) some = elim (cases_Bool (holds n)) [
-  | inl held ↦ (n, held)
-  | inr free ↦ let e : one (holds n) ≡ 0 = ap one free in below-some holds n (omega (arith, some, e))
-]
-
 -- counts stay right where one place gets another owner
 pub CountsAre-move : (owners : Owners) (old new : ℕ → ℕ) (key : ℕ) (owner : Option ℕ) → key < most_places → CountsAre owners old
     → Moves old (owners key) owner new → CountsAre (at_key owners key owner) new
