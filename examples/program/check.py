@@ -171,7 +171,9 @@ def inputs(room):
         room.wants(f"{words}, a closed input", room.run(words, closed=[0]), fault)
     os.close(folder)
     for words in room.inputs:
-        room.wants(f"{words}, a folder by its name", room.run([*words, "."]), fault)
+        # capdiag names the folder.
+        told = fault if room.program == "capcheck" else (3, b"", room.fault("cannot open '.': is a directory"))
+        room.wants(f"{words}, a folder by its name", room.run([*words, "."]), told)
 
 
 def verdicts(room):
