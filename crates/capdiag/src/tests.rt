@@ -1,7 +1,7 @@
 //! The words of the program, and what it does for them over readers and writers in memory.
 
 use crate::rows::ROWS;
-use crate::{Unopened, file_of, read_words, run, tell_unopened, tell_waiting, tell_words};
+use crate::{Unopened, file_of, read_words, run, tell_unopened, tell_words};
 use cap_log::WriteSink;
 use std::alloc::{AllocError, Global};
 
@@ -86,38 +86,6 @@ fn first_other(alloc: Global) -> Result<Option<&'static str>, AllocError> {
         }
     }
     Ok(None)
-}
-
-// The line for a file that cannot be opened.
-fn unopened(alloc: Global, reason: Unopened) -> Vec<u8> {
-    let mut told = Vec::new(alloc);
-    tell_unopened("log/x", reason, &mut WriteSink::new(&mut told));
-    told
-}
-
-#[test]
-fn each_reason_is_told(rt: HostRuntime) {
-    let reasons: [(Unopened, &str); 4] = [
-        (Unopened::Directory, "is a directory"),
-        (Unopened::Through, "a part of the path is a file"),
-        (Unopened::Long, "the name is too long"),
-        (Unopened::Circle, "a circle of symbolic links"),
-    ];
-    for (reason, text) in reasons {
-        let told = unopened(rt.alloc(), reason);
-        let line = told.as_slice();
-        assert!(rt; line.starts_with(b"capdiag: cannot open 'log/x': "));
-        assert!(rt; line.ends_with(b"\n") && line[..line.len() - 1].ends_with(text.as_bytes()));
-    }
-}
-
-#[test]
-fn a_wait_is_told(rt: HostRuntime) {
-    let mut told = Vec::new(rt.alloc());
-    tell_waiting(&mut WriteSink::new(&mut told));
-    assert!(rt;
-        told.as_slice() == b"capdiag: reading a log from the terminal; Ctrl-D ends it\n".as_slice()
-    );
 }
 
 #[test]
