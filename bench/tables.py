@@ -19,8 +19,11 @@ FIELDS = {"perms_of": "perms", "reserved_of": "res", "flag_of": "f", "otype_of":
 PERMISSIONS = "permit_global permit_load permit_store permit_load_capability permit_store_capability permit_store_local_capability permit_seal permit_unseal".split()
 LIMITS = "most_roots most_granules most_steps".split()
 # The operands and the recorded results of a step, as a line of the page has them.
-NAMED = {"step.target": "cD", "step.source": "cS", "step.authority": "cA", "step.length": "LENGTH", "step.address": "ADDRESS", "step.mask": "MASK",
+NAMED = {"step.target": "cD", "step.source": "cS", "step.authority": "cA", "step.number": "NUMBER",
          "step.offset": "OFFSET", "step.datum.size": "SIZE", "step.datum.value": "VALUE", "step.result.tag": "T", "step.result.word.0": "WORD"}
+
+# What the number of a step is.
+NUMBERS = {"SetBounds": "LENGTH", "SetBoundsExact": "LENGTH", "SetAddr": "ADDRESS", "AndPerm": "MASK"}
 
 
 def unfolder(names):
@@ -120,8 +123,9 @@ def steps_table(first):
         records = "nothing" if records is None else "what it writes" if row["records"][1][1] == "Written" else f"`{in_short(records[1])}`"
         access = row["access"][2][2] if row["access"][0] == "app" else None
         access = ", ".join(in_short(access[it]) for it in ("authority", "address", "size", "permission")) if access else "none"
-        found.append([number, "`" + " ".join(operand(it) for it in words[kind]) + "`", checks_cell(row), defined,
-                      f"{in_short(writes[0])}: `{in_short(writes[1])}`" if writes else "nothing", parent, records, access])
+        cells = [number, "`" + " ".join(operand(it) for it in words[kind]) + "`", checks_cell(row), defined,
+                 f"{in_short(writes[0])}: `{in_short(writes[1])}`" if writes else "nothing", parent, records, access]
+        found.append([it.replace("NUMBER", NUMBERS.get(kind, "")) for it in cells])
     return rows_of(["", "Line", "Checks, in order", "Defined by", "Writes", "Parent", "Records", "Access"], found)
 
 

@@ -86,8 +86,11 @@ def clauses_from(lines):
 
 
 def declared(path, name):
-    """A declared type in one line: a struct's fields, or an enum's variants."""
+    """A declared type in one line: a struct's fields, or an enum's variants; of an alias, those of its type."""
     lines = read(path).split("\n")
+    alias = next((m[1] for it in lines if (m := re.match(rf"pub type {name} = (\w+)<", it))), None)
+    if alias:
+        return declared(path, alias)
     at = next((i for i, it in enumerate(lines) if re.match(rf"pub(?:\(crate\))? (?:enum|struct) {name}\b", it)), None)
     if at is None:
         fail(f"no type {name} in {path}")

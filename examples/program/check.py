@@ -6,6 +6,7 @@ wrong words, and where their input or their output fails.
     python3 examples/program/check.py [PROGRAM..]
 
 CAPCHECK and CAPDIAG name built programs, where these are not those of `rt ci`. The status is 1 where anything differs."""
+import ctypes
 import os
 import re
 import resource
@@ -30,6 +31,14 @@ PROGRAMS = {
 }
 
 
+def obey_modes():
+    """From the next exec on, a process of root too opens only the files whose mode lets it: its bounding set of
+    capabilities loses CAP_DAC_OVERRIDE and CAP_DAC_READ_SEARCH."""
+    if os.geteuid() == 0:
+        for capability in (1, 2):
+            ctypes.CDLL(None).prctl(24, capability, 0, 0, 0)
+
+
 class Room:
     """A folder in which a program runs, how many runs there were, and what was otherwise than it is wanted."""
 
@@ -50,12 +59,14 @@ class Room:
             it.write(text)
         return f"{self.folder}/{name}"
 
-    def run(self, words, given=subprocess.DEVNULL, out=subprocess.PIPE, err=subprocess.PIPE, closed=(), room=None):
+    def run(self, words, given=subprocess.DEVNULL, out=subprocess.PIPE, err=subprocess.PIPE, closed=(), room=None, obeys=False):
         """What a run with these words gives: its status, and what it wrote where no other place is named. Standard
         input is a file, a socket or bytes. The descriptors that are `closed` are not there at its start, and with
-        `room` no file may grow above so many bytes."""
+        `room` no file may grow above so many bytes. One that `obeys` opens only files whose mode lets it."""
 
         def prepare():
+            if obeys:
+                obey_modes()
             for number in closed:
                 os.close(number)
             if room is not None:
@@ -176,6 +187,22 @@ def inputs(room):
         room.wants(f"{words}, a folder by its name", room.run([*words, "."]), told)
 
 
+def unopened(room):
+    """A file that is there and may not be read, and one that can't be opened for another reason."""
+    os.chmod(room.put("locked", YES), 0)
+    room.put("log", YES)
+    os.symlink("round", f"{room.folder}/round")
+    reasons = [("gone", "no such file"), ("log/log", "a part of the path is a file"), (".", "is a directory"),
+               ("round", "a circle of symbolic links"), ("locked", "permission denied")]
+    if subprocess.run(["cat", f"{room.folder}/locked"], preexec_fn=obey_modes, capture_output=True).returncode == 0:
+        print(f"left out: {room.program} on a file that may not be read, since here every file may be", file=sys.stderr)
+        reasons.pop()
+    for words in room.inputs:
+        for name, why in reasons:
+            line = f"cannot open '{name}': {why}" if room.program == "capdiag" else "read fault"
+            room.wants(f"{words}, {name}", room.run([*words, name], obeys=True), (3, b"", room.fault(line)))
+
+
 def verdicts(room):
     """A no comes while the input stays open, and where it fails behind the first fault."""
     for words in room.judge:
@@ -230,7 +257,7 @@ def main(programs):
     for program in programs or PROGRAMS:
         with tempfile.TemporaryDirectory() as folder:
             room = Room(folder, program)
-            for part in (printed, inputs, verdicts, outputs, errors):
+            for part in (printed, inputs, unopened, verdicts, outputs, errors):
                 part(room)
         print("\n".join([*room.wrong, f"{room.count} runs of {program}, {len(room.wrong)} otherwise than is wanted"]))
         wrong += room.wrong

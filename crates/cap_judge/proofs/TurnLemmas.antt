@@ -347,6 +347,13 @@ fault_reads : (old : Stage) (lines : List Line) (new : Stage) → IsAtFault old.
 fault_reads old [] new is reads = reads
 fault_reads old (line ∷ lines) new is reads = absurd (fault_refuses old.account old.due line is reads.0)
 
+no_lines : (old : Stage) (lines : List Line) (new : Stage) → IsAtFault old.due → Reads old lines new → lines ≡ []
+no_lines old [] new is reads = refl
+no_lines old (line ∷ lines) new is reads = absurd (fault_refuses old.account old.due line is reads.0)
+
+pub fault_goes : (old : Stage) (bytes : List ℕ) (new : Stage) → IsAtFault old.due → Goes old bytes new → bytes ≡ []
+fault_goes old bytes new is goes = goes.bytes_are ∙ ap text_of (no_lines old goes.lines new is goes.reads)
+
 fault_faults : (old : Stage) (rest : List ℕ) (new : Stage) → IsAtFault old.due → Faults old rest new → new ≡ old
 fault_faults old rest new is (inl faults) = faults.1
 fault_faults old rest new is (inr faults) = absurd (faults.0 is)

@@ -6,7 +6,7 @@ use Rattle.cap_streams.specs.declared.judge_faults.JudgeFault.{JudgeFault, TheVa
 use Rattle.cap_streams.specs.Front.{FrontIs, IsLine}
 use Rattle.cap_log.specs.{declared.{kinds.Step.Step, lines.Line.TheVariants.{Version, Step as Stepping}}, Lines.Spells}
 use Rattle.cap_machine.specs.declared.{ends.StepEnd.{StepEnd, TheVariants.Refused}, rules.Rules.Rules}
-use Rattle.cap_machine.specs.{declared.rules.Rules.TheVariants.{One, TwoClear}, Escapes.{AsksBeyond, asked_by}}
+use Rattle.cap_machine.specs.{declared.rules.Rules.TheVariants.{One, TwoClear}, Escapes.AsksBeyond, Steps.asked_by}
 use Rattle.cap_machine.specs.{Runs.{IsRun, AuthorityNeverGrows, AccessesLieInside}, States.{State, DeclaredRoot, start}}
 use Rattle.cap_machine.specs.declared.ends.StepEnd.TheVariants as ends
 use Rattle.cap_judge.specs.declared.verdict.Verdict.{Verdict, TheVariants.{Yes, No}}

@@ -2,13 +2,13 @@
 //! lines that stand there.
 
 ghost use Rattle.std.specs.Prelude.{◌≡◌, ◌≤◌, ◌<◌, ◌^◌, ◌↔◌, ◌⊎◌, ℕ, List, [], ◌++◌, length, take, drop, true, false};
-ghost use Rattle.std.specs.Prelude.{Err, None, IfSome, OnOk, IfErr, ◌≢◌, ◌∷◌, ◌+◌, IfOk, Some};
+ghost use Rattle.std.specs.Prelude.{Err, None, IfSome, OnOk, IfErr, ◌≢◌, ◌∷◌, ◌+◌, IfOk, Some, is_some};
 ghost use Rattle.std.specs.FinMap as map;
 ghost use Rattle.cap_log.specs.{declared.lines.Line.Line, Lines.{IsStepInRange, Spells, spelling, IsInRange, IsPlace}};
 ghost use Rattle.cap_log.specs.Parts.{Begins};
 ghost use Rattle.cap_streams.specs.{FaultLines.bytes_of, Front.{IsCut, IsFront, IsFrontText, IsLine, IsTooLong}};
 ghost use Rattle.cap_log.specs.declared.lines.Line.TheVariants as lines;
-ghost use Rattle.cap_machine.specs.States.{granule_key, key_of};
+ghost use Rattle.cap_machine.specs.States.{granule_key, key_of, untagged_null};
 ghost use Rattle.cap_judge.specs.declared.{faults.RefusedLine.RefusedLine as FaultIn, judges.NextLine.TheVariants.Body};
 ghost use Rattle.cap_judge.specs.declared.judges.NextLine.TheVariants.{Refused as RefusedIn};
 ghost use Rattle.cap_judge.specs.{declared.verdict.TakeFault.TheVariants.{NoLine, NoMemory}, Expectations.ExpectsAt};
@@ -171,10 +171,12 @@ impl<M: TaggedStore> Judge<M> {
         }
     }
 
-    /// What a register holds after the lines so far, or before the faulty line. Register 0 is c0.
+    /// What a register holds after the lines so far, or before the faulty line. Register 0 is c0, which is NULL
+    /// without a tag.
     pub fn register(&self, number: u8) -> Cap
         requires { number ≤ 31 }
         ensures holds { result ≡ (stage_of self.now).account.state number }
+        ensures zero { number ≡ 0 → result ≡ untagged_null }
     {
         self.machine.register(number)
     }
@@ -189,10 +191,11 @@ impl<M: TaggedStore> Judge<M> {
     }
 
     /// The place of the root that a place's capability descends from, after the lines so far or before the faulty
-    /// line. `None` if it is untagged.
+    /// line. `None` exactly if it is untagged.
     pub fn origin(&self, place: Place) -> Option<Place>
         requires { IsPlace place }
         ensures holds { result ≡ (stage_of self.now).account.origin (key_of place) }
+        ensures tagged { is_some result ≡ (let cap = (stage_of self.now).account.state (key_of place) in cap.tag) }
         ensures in_range { IfSome result IsPlace }
     {
         self.machine.origin(place)

@@ -3,14 +3,13 @@
 #![tactic(auto, unfolding(cap_log::specs::Lines::spelling))]
 
 ghost use Rattle.std.specs.Prelude.{◌≡◌, ◌∷◌, ◌++◌, IfSome, Ok, true};
-ghost use Rattle.cap_log.specs.{Heads.head_spelling, Lines.{IsInRange, spelling}, Parts.{Begins, result_spelling}};
+ghost use Rattle.cap_log.specs.{Heads.{head_spelling, numbered_step, plain_step}, Lines.{IsInRange, spelling}, Parts.{Begins, result_spelling}};
 ghost use Rattle.cap_log.specs.declared.lines.Line.TheVariants as lines;
-ghost use Rattle.cap_log.specs.declared.kinds.Step.TheVariants as steps;
 ghost use Rattle.cap_machine.specs.{Changes.result_in, Helds.{EndsBy, state_of}, States.{State, untagged_null}};
 ghost use Rattle.cap_machine.specs.Steps.{Recorded.Written, Row, row_of};
 ghost use Rattle.cap_judge.specs.Readings.{mark_of};
 
-use cap_log::kinds::{AndPerm, ClearTag, Move, SetAddr};
+use cap_log::kinds::{Numbered, Plain};
 use cap_log::{Part, Register, Target, are_four};
 use cap_machine::{Machine, Operation};
 use cap_word::{Cap, Word, number_text};
@@ -28,73 +27,29 @@ pub(crate) trait Derived: Operation {
     /// The step that takes this and records this result.
     fn recording(before: Self::Before, recorded: Cap) -> Self
         ensures spelled { spelling (lines.Step (Self.step result))
-            ≡ head_spelling Self.head ++ 32 ∷ (Self.Before.spelled before ++ 32 ∷ result_spelling recorded) }
+            ≡ head_spelling Self.HEAD ++ 32 ∷ (Self.Before.spelled before ++ 32 ∷ result_spelling recorded) }
         ensures row { (state : State) → row_of state (Self.step result) ≡ record (row before state) { records = Written recorded } };
 }
 
-impl Derived for Move {
+impl<const IS_CLEARING: bool> Derived for Plain<IS_CLEARING> {
     type Before = (Target, Register);
 
-    ghost row = { λ before state. row_of state (steps.Move (record { target = before.0; source = before.1; result = untagged_null })) };
+    ghost row = { λ before state. row_of state (plain_step IS_CLEARING before.0 before.1 untagged_null) };
 
     #[inline(always)]
-    fn recording(before: Self::Before, recorded: Cap) -> Self {
-        let (target, source) = before;
-        Move {
-            target,
-            source,
-            result: recorded,
-        }
+    fn recording((target, source): Self::Before, recorded: Cap) -> Self {
+        Plain::new(target, source, recorded)
     }
 }
 
-impl Derived for ClearTag {
-    type Before = (Target, Register);
-
-    ghost row = { λ before state. row_of state (steps.ClearTag (record { target = before.0; source = before.1; result = untagged_null })) };
-
-    #[inline(always)]
-    fn recording(before: Self::Before, recorded: Cap) -> Self {
-        let (target, source) = before;
-        ClearTag {
-            target,
-            source,
-            result: recorded,
-        }
-    }
-}
-
-impl Derived for SetAddr {
+impl<const WHAT: u8> Derived for Numbered<WHAT> {
     type Before = (Target, (Register, u64));
 
-    ghost row = { λ before state. row_of state (steps.SetAddr (record { target = before.0; source = before.1.0; address = before.1.1; result = untagged_null })) };
+    ghost row = { λ before state. row_of state (numbered_step WHAT before.0 before.1.0 before.1.1 untagged_null) };
 
     #[inline(always)]
-    fn recording(before: Self::Before, recorded: Cap) -> Self {
-        let (target, (source, address)) = before;
-        SetAddr {
-            target,
-            source,
-            address,
-            result: recorded,
-        }
-    }
-}
-
-impl Derived for AndPerm {
-    type Before = (Target, (Register, u64));
-
-    ghost row = { λ before state. row_of state (steps.AndPerm (record { target = before.0; source = before.1.0; mask = before.1.1; result = untagged_null })) };
-
-    #[inline(always)]
-    fn recording(before: Self::Before, recorded: Cap) -> Self {
-        let (target, (source, mask)) = before;
-        AndPerm {
-            target,
-            source,
-            mask,
-            result: recorded,
-        }
+    fn recording((target, (source, number)): Self::Before, recorded: Cap) -> Self {
+        Numbered::new(target, source, number, recorded)
     }
 }
 
@@ -105,7 +60,7 @@ pub(crate) fn glance<'a, M: TaggedStore, D: Derived>(
     machine: &Machine<M>,
     operands: &'a [u8],
 ) -> Option<(D, Cap, &'a [u8])>
-    ensures some { IfSome result (λ p. Begins IsInRange spelling 10 (head_spelling D.Operands.head ++ 32 ∷ operands.now)
+    ensures some { IfSome result (λ p. Begins IsInRange spelling 10 (head_spelling D.Operands.HEAD ++ 32 ∷ operands.now)
         (lines.Step (D.Operands.step p.0)) p.2.now) }
     ensures derived { IfSome result (λ p. let row = row_of (state_of machine.now) (D.Operands.step p.0) in
         EndsBy machine.now.rules row.checks (result_in row.writes) (Ok p.1)) }

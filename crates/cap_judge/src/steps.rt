@@ -137,7 +137,7 @@ fn take_derived<'a, M: TaggedStore, D: Derived>(
     machine: &mut Machine<M>,
     operands: &'a [u8],
 ) -> Result<Option<&'a [u8]>, StepEnd>
-    ensures { TakesOne machine.old (head_spelling D.Operands.head ++ 32 ∷ operands.now) result machine.new }
+    ensures { TakesOne machine.old (head_spelling D.Operands.HEAD ++ 32 ∷ operands.now) result machine.new }
 {
     if operands.len() < MOST_BYTES - MOST_HEAD_BYTES {
         return Ok(None);

@@ -1,12 +1,12 @@
 -- Lines by their heads: what stands behind each head, and the line that head and operands make.
 use Rattle.std.specs.Fmt.{signed_decimal}
-use Rattle.std.proofs.Common.{append_assoc, ◌≡◌, ℕ, ◌+◌, ◌≤◌, ◌^◌, List, ◌∷◌, ◌++◌, length, sym, ap, subst, ◌∙◌, refl}
+use Rattle.std.proofs.Common.{append_assoc, ◌≡◌, ℕ, zero, suc, ℤ, ◌+◌, ◌≤◌, ◌^◌, List, ◌∷◌, ◌++◌, length, sym, ap, subst, ◌∙◌, refl}
 use Rattle.std.proofs.Common.{arith, Bool, true, false, inl, inr, decimal, codes, lit≤, if◌then◌else◌, bytes_eq}
 use Rattle.std.proofs.lemmas.Fmt.{decimal_digit, decimal_injective, length-decimal-le}
 use Rattle.cap_word.specs.{declared.word.{Cap.Cap, Word.Word}, Digits.hex_digits}
 use Rattle.cap_log.specs.declared.{kinds.{Head.Head, Step.Step}, lines.{Line.Line, Mode.Mode}}
 use Rattle.cap_log.specs.declared.parts.{headers.Version.Version, sized.Accessed.Accessed}
-use Rattle.cap_log.specs.Heads.{IsHead, head_spelling}
+use Rattle.cap_log.specs.Heads.{IsHead, authorized_head, data_head, head_spelling, numbered_head, plain_head}
 use Rattle.cap_log.specs.Lines.{IsInRange, IsNumber, IsVersion, IsOffset, IsPlace, IsRegister, IsTarget, IsWord}
 use Rattle.cap_log.specs.Lines.{mode_spelling, place_spelling, register_spelling, spelling}
 use Rattle.cap_log.specs.Parts.{BeginsWithNone, BeginsWithout, FitBoth, IsCount, IsMode, StandsBehind}
@@ -191,10 +191,10 @@ made Head.Move x = Line.Step (Step.Move (record { target = x.0; source = x.1.0; 
 made Head.ClearTag x = Line.Step (Step.ClearTag (record { target = x.0; source = x.1.0; result = x.1.1 }))
 made Head.Seal x = Line.Step (Step.Seal (record { target = x.0; source = x.1.0; authority = x.1.1.0; result = x.1.1.1 }))
 made Head.Unseal x = Line.Step (Step.Unseal (record { target = x.0; source = x.1.0; authority = x.1.1.0; result = x.1.1.1 }))
-made Head.SetBounds x = Line.Step (Step.SetBounds (record { target = x.0; source = x.1.0; length = x.1.1.0; result = x.1.1.1 }))
-made Head.SetBoundsExact x = Line.Step (Step.SetBoundsExact (record { target = x.0; source = x.1.0; length = x.1.1.0; result = x.1.1.1 }))
-made Head.SetAddr x = Line.Step (Step.SetAddr (record { target = x.0; source = x.1.0; address = x.1.1.0; result = x.1.1.1 }))
-made Head.AndPerm x = Line.Step (Step.AndPerm (record { target = x.0; source = x.1.0; mask = x.1.1.0; result = x.1.1.1 }))
+made Head.SetBounds x = Line.Step (Step.SetBounds (record { target = x.0; source = x.1.0; number = x.1.1.0; result = x.1.1.1 }))
+made Head.SetBoundsExact x = Line.Step (Step.SetBoundsExact (record { target = x.0; source = x.1.0; number = x.1.1.0; result = x.1.1.1 }))
+made Head.SetAddr x = Line.Step (Step.SetAddr (record { target = x.0; source = x.1.0; number = x.1.1.0; result = x.1.1.1 }))
+made Head.AndPerm x = Line.Step (Step.AndPerm (record { target = x.0; source = x.1.0; number = x.1.1.0; result = x.1.1.1 }))
 made Head.LoadCap x = Line.Step (Step.LoadCap (record { target = x.0; authority = x.1.0; offset = x.1.1.0; result = x.1.1.1 }))
 made Head.StoreCap x = Line.Step (Step.StoreCap (record { source = x.0; authority = x.1.0; offset = x.1.1 }))
 made Head.Load x = Line.Step (Step.Load (record { authority = x.0; offset = x.1.0; datum = x.1.1.0 }))
@@ -210,10 +210,10 @@ lined (Line.Step (Step.Move s)) = (Head.Move, (s.target, (s.source, s.result)), 
 lined (Line.Step (Step.ClearTag s)) = (Head.ClearTag, (s.target, (s.source, s.result)), refl)
 lined (Line.Step (Step.Seal s)) = (Head.Seal, (s.target, (s.source, (s.authority, s.result))), refl)
 lined (Line.Step (Step.Unseal s)) = (Head.Unseal, (s.target, (s.source, (s.authority, s.result))), refl)
-lined (Line.Step (Step.SetBounds s)) = (Head.SetBounds, (s.target, (s.source, (s.length, s.result))), refl)
-lined (Line.Step (Step.SetBoundsExact s)) = (Head.SetBoundsExact, (s.target, (s.source, (s.length, s.result))), refl)
-lined (Line.Step (Step.SetAddr s)) = (Head.SetAddr, (s.target, (s.source, (s.address, s.result))), refl)
-lined (Line.Step (Step.AndPerm s)) = (Head.AndPerm, (s.target, (s.source, (s.mask, s.result))), refl)
+lined (Line.Step (Step.SetBounds s)) = (Head.SetBounds, (s.target, (s.source, (s.number, s.result))), refl)
+lined (Line.Step (Step.SetBoundsExact s)) = (Head.SetBoundsExact, (s.target, (s.source, (s.number, s.result))), refl)
+lined (Line.Step (Step.SetAddr s)) = (Head.SetAddr, (s.target, (s.source, (s.number, s.result))), refl)
+lined (Line.Step (Step.AndPerm s)) = (Head.AndPerm, (s.target, (s.source, (s.number, s.result))), refl)
 lined (Line.Step (Step.LoadCap s)) = (Head.LoadCap, (s.target, (s.authority, (s.offset, s.result))), refl)
 lined (Line.Step (Step.StoreCap s)) = (Head.StoreCap, (s.source, (s.authority, s.offset)), refl)
 lined (Line.Step (Step.Load s)) = (Head.Load, (s.authority, (s.offset, record { 0 = s.datum })), refl)
@@ -317,28 +317,52 @@ none_behind h Fits spelled is bytes none l rest begins =
     let found = is.part_of l words begins.0 (spelling-of l ∙ ap (λ (bs : List ℕ). bs ++ 32 ∷ words) (sym parts.0)) in
     none found.0 rest (found.1, parts.1 ∙ ap (λ (bs : List ℕ). bs ++ 10 ∷ rest) found.2)
 
--- for each head
+-- for each head of a shape of its own
 abbrev Behind : Head → Type 0
 Behind h = StandsBehind h (Fits h) (text h)
 
-pub behind_each : Behind Head.Version × Behind Head.Mode × Behind Head.Root × Behind Head.End × Behind Head.Move × Behind Head.ClearTag
-    × Behind Head.SetBounds × Behind Head.SetBoundsExact × Behind Head.SetAddr × Behind Head.AndPerm × Behind Head.Seal × Behind Head.Unseal
-    × Behind Head.LoadCap × Behind Head.StoreCap × Behind Head.Load × Behind Head.Store
+pub behind_each : Behind Head.Version × Behind Head.Mode × Behind Head.Root × Behind Head.End × Behind Head.LoadCap × Behind Head.StoreCap
 behind_each = (
   stands_behind Head.Version,
   stands_behind Head.Mode,
   stands_behind Head.Root,
   stands_behind Head.End,
-  stands_behind Head.Move,
-  stands_behind Head.ClearTag,
-  stands_behind Head.SetBounds,
-  stands_behind Head.SetBoundsExact,
-  stands_behind Head.SetAddr,
-  stands_behind Head.AndPerm,
-  stands_behind Head.Seal,
-  stands_behind Head.Unseal,
   stands_behind Head.LoadCap,
   stands_behind Head.StoreCap,
-  stands_behind Head.Load,
-  stands_behind Head.Store,
 )
+
+-- what stands behind the heads of one shape: a result at the end
+abbrev FitsResult : Cap → Type 0
+FitsResult cap = IsWord cap.word.0
+
+pub plain_behind : (is_clearing : Bool) → StandsBehind (plain_head is_clearing)
+    (FitBoth IsTarget (FitBoth IsRegister FitsResult))
+    (spaced register_spelling (spaced register_spelling result_spelling))
+plain_behind false = stands_behind Head.Move
+plain_behind true = stands_behind Head.ClearTag
+
+pub numbered_behind : (what : ℕ) → StandsBehind (numbered_head what)
+    (FitBoth IsTarget (FitBoth IsRegister (FitBoth IsNumber FitsResult)))
+    (spaced register_spelling (spaced register_spelling (spaced (hex_digits 16) result_spelling)))
+numbered_behind zero = stands_behind Head.SetBounds
+numbered_behind (suc zero) = stands_behind Head.SetBoundsExact
+numbered_behind (suc (suc zero)) = stands_behind Head.SetAddr
+numbered_behind (suc (suc (suc more))) = stands_behind Head.AndPerm
+
+pub authorized_behind : (is_unsealing : Bool) → StandsBehind (authorized_head is_unsealing)
+    (FitBoth IsTarget (FitBoth IsRegister (FitBoth IsRegister FitsResult)))
+    (spaced register_spelling (spaced register_spelling (spaced register_spelling result_spelling)))
+authorized_behind false = stands_behind Head.Seal
+authorized_behind true = stands_behind Head.Unseal
+
+pub data_behind : (n : ℕ) (is_load : Bool) → StandsBehind {A = ℕ × (ℤ × Accessed n)} (data_head is_load)
+    (FitBoth IsRegister (FitBoth IsOffset (λ a. IsDatum a.0)))
+    (spaced register_spelling (spaced signed_decimal (λ a. accessed_spelling is_load a.0)))
+data_behind n true = record {
+  part_of = λ line text range e. let found = (stands_behind Head.Load).part_of line text range e in
+      ((found.0.0, (found.0.1.0, record { 0 = found.0.1.1.0 })), found.1, found.2);
+}
+data_behind n false = record {
+  part_of = λ line text range e. let found = (stands_behind Head.Store).part_of line text range e in
+      ((found.0.0, (found.0.1.0, record { 0 = found.0.1.1.0 })), found.1, found.2);
+}

@@ -58,11 +58,11 @@ register_words name target source more result = name ∷ register_spelling targe
 abbrev pub step_words : Step → List (List ℕ)
 step_words (Move step) = register_words (codes "move") step.target step.source [] step.result
 step_words (ClearTag step) = register_words (codes "cleartag") step.target step.source [] step.result
-step_words (SetBounds step) = register_words (codes "setbounds") step.target step.source (hex_digits 16 step.length ∷ []) step.result
+step_words (SetBounds step) = register_words (codes "setbounds") step.target step.source (hex_digits 16 step.number ∷ []) step.result
 step_words (SetBoundsExact step) =
-    register_words (codes "setboundsexact") step.target step.source (hex_digits 16 step.length ∷ []) step.result
-step_words (SetAddr step) = register_words (codes "setaddr") step.target step.source (hex_digits 16 step.address ∷ []) step.result
-step_words (AndPerm step) = register_words (codes "andperm") step.target step.source (hex_digits 16 step.mask ∷ []) step.result
+    register_words (codes "setboundsexact") step.target step.source (hex_digits 16 step.number ∷ []) step.result
+step_words (SetAddr step) = register_words (codes "setaddr") step.target step.source (hex_digits 16 step.number ∷ []) step.result
+step_words (AndPerm step) = register_words (codes "andperm") step.target step.source (hex_digits 16 step.number ∷ []) step.result
 step_words (Seal step) = register_words (codes "seal") step.target step.source (register_spelling step.authority ∷ []) step.result
 step_words (Unseal step) = register_words (codes "unseal") step.target step.source (register_spelling step.authority ∷ []) step.result
 step_words (LoadCap step) = register_words (codes "lc") step.target step.authority (signed_decimal step.offset ∷ []) step.result
@@ -89,10 +89,10 @@ spelling line = join_with_byte 32 (line_words line)
 abbrev pub IsStepInRange : Step → Type 0
 IsStepInRange (Move step) = IsTarget step.target × IsRegister step.source × IsWord step.result.word.0
 IsStepInRange (ClearTag step) = IsTarget step.target × IsRegister step.source × IsWord step.result.word.0
-IsStepInRange (SetBounds step) = IsTarget step.target × IsRegister step.source × IsNumber step.length × IsWord step.result.word.0
-IsStepInRange (SetBoundsExact step) = IsTarget step.target × IsRegister step.source × IsNumber step.length × IsWord step.result.word.0
-IsStepInRange (SetAddr step) = IsTarget step.target × IsRegister step.source × IsNumber step.address × IsWord step.result.word.0
-IsStepInRange (AndPerm step) = IsTarget step.target × IsRegister step.source × IsNumber step.mask × IsWord step.result.word.0
+IsStepInRange (SetBounds step) = IsTarget step.target × IsRegister step.source × IsNumber step.number × IsWord step.result.word.0
+IsStepInRange (SetBoundsExact step) = IsTarget step.target × IsRegister step.source × IsNumber step.number × IsWord step.result.word.0
+IsStepInRange (SetAddr step) = IsTarget step.target × IsRegister step.source × IsNumber step.number × IsWord step.result.word.0
+IsStepInRange (AndPerm step) = IsTarget step.target × IsRegister step.source × IsNumber step.number × IsWord step.result.word.0
 IsStepInRange (Seal step) = IsTarget step.target × IsRegister step.source × IsRegister step.authority × IsWord step.result.word.0
 IsStepInRange (Unseal step) = IsTarget step.target × IsRegister step.source × IsRegister step.authority × IsWord step.result.word.0
 IsStepInRange (LoadCap step) = IsTarget step.target × IsRegister step.authority × IsOffset step.offset × IsWord step.result.word.0

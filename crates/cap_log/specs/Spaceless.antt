@@ -85,21 +85,7 @@ offset-spaceless z fits = Lacks-signed 32 z (omega arith) fits
 -- a head has few bytes, all above a space
 pub head-plain : (h : Head) → (list_all (λ b. nat_lt 32 b) (head_spelling h) ≡ true) × (length (head_spelling h) ≤ 14)
 head-plain head.Version = (refl, lit≤ tt)
-head-plain head.Mode = (refl, lit≤ tt)
-head-plain head.Root = (refl, lit≤ tt)
-head-plain head.Move = (refl, lit≤ tt)
-head-plain head.ClearTag = (refl, lit≤ tt)
-head-plain head.Seal = (refl, lit≤ tt)
-head-plain head.Unseal = (refl, lit≤ tt)
-head-plain head.SetBounds = (refl, lit≤ tt)
-head-plain head.SetBoundsExact = (refl, lit≤ tt)
-head-plain head.SetAddr = (refl, lit≤ tt)
-head-plain head.AndPerm = (refl, lit≤ tt)
-head-plain head.LoadCap = (refl, lit≤ tt)
-head-plain head.StoreCap = (refl, lit≤ tt)
-head-plain head.Load = (refl, lit≤ tt)
-head-plain head.Store = (refl, lit≤ tt)
-head-plain head.End = (refl, lit≤ tt)
+head-plain h = (refl, lit≤ tt)
 
 pub Lacks-head : (c : ℕ) (h : Head) → c ≤ 32 → Lacks c (head_spelling h)
 Lacks-head c h low = Lacks-by_above c (head_spelling h) low (head-plain h).0

@@ -3,7 +3,7 @@
 #![tactic(auto, using(crate::proofs::Shapes::behind_each), unfolding(crate::specs::Lines::spelling))]
 
 ghost use Rattle.std.specs.Prelude.{◌≡◌, ◌≤◌, All, [], ◌∷◌, ◌++◌, length, take, IfSome, IfNone};
-ghost use Rattle.cap_log.specs.{Heads.{IsHead, head_spelling}, Lines.{IsInRange, spelling}};
+ghost use Rattle.cap_log.specs.{Heads.{IsHead, head_spelling, kind_words, shape_of, text_at}, Lines.{IsInRange, spelling}};
 ghost use Rattle.cap_log.specs.{Parts.{Begins, BeginsWithNone, BeginsWithout}, Spaceless.head-spaceless};
 ghost use Rattle.cap_streams.specs.Written.{Writes};
 ghost use Rattle.cap_log.specs.declared.kinds.Head.TheVariants as heads;
@@ -31,11 +31,12 @@ macro_rules! first_found {
 
 mod accesses;
 mod operations;
+mod shapes;
 
 use crate::buffers::put;
-pub use crate::kinds::accesses::{Load, LoadCap, Store, StoreCap};
-pub use crate::kinds::operations::{
-    AndPerm, ClearTag, Move, Seal, SetAddr, SetBounds, SetBoundsExact, Unseal,
+pub use crate::kinds::shapes::{
+    ADDRESS, AndPerm, Authorized, ClearTag, Data, EXACT_LENGTH, LENGTH, Load, LoadCap, Move,
+    Numbered, Plain, Seal, SetAddr, SetBounds, SetBoundsExact, Store, StoreCap, Unseal,
 };
 use crate::lines::{Line, Mode, Place};
 use crate::operands::{Operands, take_parts, take_step, write_parts};
@@ -81,7 +82,55 @@ pub enum Head {
     End,
 }
 
+/// What follows the word of a line: for a step one of the shapes of its operands.
+#[derive(Clone, Copy, Debug, PartialEq, Eq)]
+pub enum Shape {
+    /// A version.
+    Version,
+    /// The name of a mode.
+    Mode,
+    /// A place and a word.
+    Root,
+    /// [`Plain`].
+    Plain,
+    /// [`Numbered`].
+    Numbered,
+    /// [`Authorized`].
+    Authorized,
+    /// [`LoadCap`].
+    LoadCap,
+    /// [`StoreCap`].
+    StoreCap,
+    /// [`Load`].
+    Load,
+    /// [`Store`].
+    Store,
+    /// A count.
+    End,
+}
+
 impl Head {
+    /// What follows the word.
+    pub fn shape(self) -> Shape
+        ensures shape { result ≡ shape_of self }
+    {
+        match self {
+            Head::Version => Shape::Version,
+            Head::Mode => Shape::Mode,
+            Head::Root => Shape::Root,
+            Head::Move | Head::ClearTag => Shape::Plain,
+            Head::SetBounds | Head::SetBoundsExact | Head::SetAddr | Head::AndPerm => {
+                Shape::Numbered
+            }
+            Head::Seal | Head::Unseal => Shape::Authorized,
+            Head::LoadCap => Shape::LoadCap,
+            Head::StoreCap => Shape::StoreCap,
+            Head::Load => Shape::Load,
+            Head::Store => Shape::Store,
+            Head::End => Shape::End,
+        }
+    }
+
     /// Takes the head of a usual kind of step, as [`Part::take`] does: the first four bytes tell which. It may be `None`
     /// where `lc` or `sc` stands there and no register follows.
     #[inline(always)]
@@ -127,13 +176,17 @@ impl Part for Head {
 
     #[inline(always)]
     fn write(&self, buffer: &mut [u8], at: usize) -> usize {
-        put(buffer, at, head_text(*self))
+        put(buffer, at, head_text(*self).as_bytes())
     }
 }
 
 impl Single for Head {
     ghost spaceless = { λ head fits. head-spaceless head };
 }
+
+/// What may follow the header of a log, in words.
+pub const LINE_NAMES: &[u8] =
+    b"root, end or a step: move, cleartag, setbounds, setboundsexact, setaddr, andperm, seal, unseal, lc, sc, load or store";
 
 // A head, and what follows it.
 type Found<'a> = Option<(Head, &'a [u8])>;
@@ -186,27 +239,54 @@ fn by_register<'a>(bytes: &'a [u8], end: u8, head: Head, start: &[u8; 4]) -> Fou
 
 // The first word of a line.
 #[inline(always)]
-fn head_text(head: Head) -> &'static [u8]
-    ensures { result.now ≡ head_spelling head }
+fn head_text(head: Head) -> &'static str
+    ensures word { result.now ≡ head_spelling head }
+    ensures short { length result.now ≤ 14 }
 {
     match head {
-        Head::Version => b"capcheck",
-        Head::Mode => b"mode",
-        Head::Root => b"root",
-        Head::Move => b"move",
-        Head::ClearTag => b"cleartag",
-        Head::Seal => b"seal",
-        Head::Unseal => b"unseal",
-        Head::SetBounds => b"setbounds",
-        Head::SetBoundsExact => b"setboundsexact",
-        Head::SetAddr => b"setaddr",
-        Head::AndPerm => b"andperm",
-        Head::LoadCap => b"lc",
-        Head::StoreCap => b"sc",
-        Head::Load => b"load",
-        Head::Store => b"store",
-        Head::End => b"end",
+        Head::Version => "capcheck",
+        Head::Mode => "mode",
+        Head::Root => "root",
+        Head::Move => "move",
+        Head::ClearTag => "cleartag",
+        Head::Seal => "seal",
+        Head::Unseal => "unseal",
+        Head::SetBounds => "setbounds",
+        Head::SetBoundsExact => "setboundsexact",
+        Head::SetAddr => "setaddr",
+        Head::AndPerm => "andperm",
+        Head::LoadCap => "lc",
+        Head::StoreCap => "sc",
+        Head::Load => "load",
+        Head::Store => "store",
+        Head::End => "end",
     }
+}
+
+/// The word of a kind of line by its number in C, and no bytes if the number is none's.
+pub fn kind_word(number: u8) -> &'static str
+    ensures word { result.now ≡ text_at kind_words number }
+    ensures short { length result.now ≤ 14 }
+{
+    head_text(match number {
+        1 => Head::Version,
+        2 => Head::Mode,
+        3 | 4 => Head::Root,
+        5 => Head::Move,
+        6 => Head::ClearTag,
+        7 => Head::SetBounds,
+        8 => Head::SetBoundsExact,
+        9 => Head::SetAddr,
+        10 => Head::AndPerm,
+        11 => Head::Seal,
+        12 => Head::Unseal,
+        13 => Head::LoadCap,
+        14 => Head::StoreCap,
+        15 => Head::Load,
+        16 => Head::Store,
+        17 => Head::End,
+        _ => return "",
+    })
 }
 
 /// One step of the machine, with its operands and the result that the log records.

@@ -16,8 +16,10 @@ pub trait Operands: Copy {
     /// What they are made from: numbers that may be out of range.
     type Numbers;
 
-    // The head of its lines.
-    ghost head: { Head };
+    /// The head of its lines.
+    const HEAD: Head;
+
+    ghost HEAD: { Head };
 
     // The step.
     ghost step: { Self → Step };
@@ -32,9 +34,9 @@ pub trait Operands: Copy {
     /// Takes the operands after the head of such a line and its space, with the line feed. Returns them and the
     /// bytes after them, or `None` if there are no such operands with a line feed.
     fn take(bytes: &[u8]) -> Option<(Self, &[u8])>
-        ensures some { IfSome result (λ p. Begins IsInRange spelling 10 (head_spelling head ++ 32 ∷ bytes.now)
+        ensures some { IfSome result (λ p. Begins IsInRange spelling 10 (head_spelling HEAD ++ 32 ∷ bytes.now)
             (lines.Step (step p.0)) p.1.now) }
-        ensures none { IfNone result (BeginsWithNone IsInRange spelling 10 (head_spelling head ++ 32 ∷ bytes.now)) };
+        ensures none { IfNone result (BeginsWithNone IsInRange spelling 10 (head_spelling HEAD ++ 32 ∷ bytes.now)) };
 
     /// Writes the step's line, without its line feed, at the front of the buffer, and answers where it ends.
     fn write(&self, buffer: &mut [u8]) -> usize
@@ -83,8 +85,8 @@ pub(crate) fn write_parts<P: Part>(line: &Line, head: Head, parts: P, buffer: &m
 
 /// Takes the operands of one kind of step, as its line.
 pub(crate) fn take_step<O: Operands>(bytes: &[u8]) -> Option<(Line, &[u8])>
-    ensures some { IfSome result (λ p. Begins IsInRange spelling 10 (head_spelling O.head ++ 32 ∷ bytes.now) p.0 p.1.now) }
-    ensures none { IfNone result (BeginsWithNone IsInRange spelling 10 (head_spelling O.head ++ 32 ∷ bytes.now)) }
+    ensures some { IfSome result (λ p. Begins IsInRange spelling 10 (head_spelling O.HEAD ++ 32 ∷ bytes.now) p.0 p.1.now) }
+    ensures none { IfNone result (BeginsWithNone IsInRange spelling 10 (head_spelling O.HEAD ++ 32 ∷ bytes.now)) }
 {
     let (operands, rest) = O::take(bytes)?;
     Some((Line::Step(operands.into_step()), rest))

@@ -19,7 +19,7 @@ use Rattle.cap_log.specs.Lines.{IsStepInRange}
 use Rattle.cap_machine.specs.declared.{ends.StepEnd.{StepEnd, TheVariants.{Refused, NoMemory}}, rules.Rules.Rules}
 use Rattle.cap_machine.specs.{declared.rules.Rules.TheVariants.{One, TwoStrict, TwoClear}, Accounts.{Account, row_in}}
 use Rattle.cap_machine.specs.{Accounts.step_checks, Escapes.{AsksBeyond, ClearsBeyond, ClearsExactly, Escapes}}
-use Rattle.cap_machine.specs.{Escapes.asked_by, Helds.{Held, AnswersStep, state_of, account_of, checks_by}}
+use Rattle.cap_machine.specs.{Steps.asked_by, Helds.{Held, AnswersStep, state_of, account_of, checks_by}}
 use Rattle.cap_machine.specs.{Parents.{IsSoundState, StaysWithinParents}, Runs.{AreSound, IsRun, state_at}}
 use Rattle.cap_machine.specs.States.{State, DeclaredRoot, put, start}
 use Rattle.cap_machine.specs.Steps.{Access, Leads, Row, Written, clear_row, row_by, row_of, state_with}
@@ -147,11 +147,11 @@ never account step none = (
 pub escapes_first : (account : Account) (step : Step) → IsStepInRange step → IsSoundState account.state
     → (first_of (step_checks account step) ≡ Some BoundsEscape) ↔ Escapes account.rules account.state step
 escapes_first account (SetBounds step) range sound =
-    narrowed account (SetBounds step) step.source step.length false
+    narrowed account (SetBounds step) step.source step.number false
     (ap (λ (row : Row). row.checks) (row_by-written account.rules _ (Register step.target) _ (Some (Register step.source)) (Written step.result) None))
     range.2 sound
 escapes_first account (SetBoundsExact step) range sound =
-    narrowed account (SetBoundsExact step) step.source step.length true
+    narrowed account (SetBoundsExact step) step.source step.number true
     (ap (λ (row : Row). row.checks) (row_by-written account.rules _ (Register step.target) _ (Some (Register step.source)) (Written step.result) None))
     range.2 sound
 escapes_first account step range sound = never account step refl
@@ -172,10 +172,10 @@ pub clears : (rules : Rules) (old : State) (step : Step) (new : State) → IsSte
     → ClearsBeyond rules old step new
 clears rules old (SetBounds step) new range sound leads = λ mode held unsealed.
     let row = row_of old (SetBounds step) in
-    let made = clear_result (set_bounds_checks (old step.source) step.length false) (set_bounds_result (old step.source) step.length) in
+    let made = clear_result (set_bounds_checks (old step.source) step.number false) (set_bounds_result (old step.source) step.number) in
     let after : new ≡ put old step.target made = leads.after ∙ ap (λ (r : Rules). state_with old (row_by r row).writes) mode in
     let is : new step.target ≡ made = ap (λ (s : State). s step.target) after ∙ put_there old step.target made in
-    untagged_where_beyond (old step.source) step.length false (new step.target) range.2 is refl held unsealed (sound step.source held)
+    untagged_where_beyond (old step.source) step.number false (new step.target) range.2 is refl held unsealed (sound step.source held)
 clears rules old step new range sound leads = tt
 
 pub clears_exactly : (old new : Held) (step : Step) (result : Result (Unit {0}) StepEnd) → IsStepInRange step → IsSoundState (state_of old)

@@ -10,7 +10,7 @@ use Rattle.cap_word.proofs.Bytes.{stored_word-memory_of, memory_of-stored_word}
 use Rattle.cap_ops.specs.declared.{faults.OpFault.OpFault, refusal.Refusal.{Refusal, TheVariants.WrongResult}}
 use Rattle.cap_ops.specs.{declared.refusal.Refusal.TheVariants.LimitPassed, Checks.first_of, Refusals.refusal_of}
 use Rattle.cap_ops.proofs.TestLemmas.{first_of-append_free, first_of-append_none, first_of-append_some}
-use Rattle.cap_log.specs.declared.kinds.{Step.Step, accesses.{Load.Load, Store.Store, StoreCap.StoreCap}}
+use Rattle.cap_log.specs.declared.kinds.{Step.Step, shapes.{Data.Data, StoreCap.StoreCap}}
 use Rattle.cap_log.specs.{declared.lines.Place.{Place, TheVariants.{Register, Granule}}, Lines.IsStepInRange}
 use Rattle.tagmem.specs.Granules.{Entry, AreStored, bytes_at, overwritten}
 use Rattle.tagmem.proofs.Granules.{length-bytes_at, bytes_at_fit}
@@ -262,7 +262,7 @@ granule_bytes held granule stored_all =
     ∙ memory_of-stored_word bytes sixteen (λ i. byte_small bytes i (bytes_at_fit held.memory stored_all granule))
 
 -- a stored value
-pub stored_value : (old new : Held) (store : Store) (result : Result (Unit {0}) StepEnd)
+pub stored_value : (old new : Held) (store : Data 0) (result : Result (Unit {0}) StepEnd)
     → AreStored old.memory
     → first_of (row_of (state_of old) (Step.Store store)).checks ≡ None
     → AnswersPut old (address_through (state_of old) store.authority store.offset / 16)
@@ -287,14 +287,14 @@ value_in held address size stored_all =
     ap (λ (bytes : List ℕ). number_of (take size (drop (address % 16) bytes))) (granule_bytes held (address / 16) stored_all)
 
 -- the number that is read at the address of a load is the value there
-pub value_read : (held : Held) (load : Load) (address read : ℕ)
+pub value_read : (held : Held) (load : Data 1) (address read : ℕ)
     → address ≡ address_through (state_of held) load.authority load.offset
     → read ≡ value_at (state_of held) address load.datum.size
     → read ≡ value_at (state_of held) (address_through (state_of held) load.authority load.offset) load.datum.size
 value_read held load address read at is = is ∙ ap (λ (a : ℕ). value_at (state_of held) a load.datum.size) at
 
 -- a load is made
-pub loaded_value : (old : Held) (load : Load)
+pub loaded_value : (old : Held) (load : Data 1)
     → first_of (row_of (state_of old) (Step.Load load)).checks ≡ None
     → load.datum.value ≡ value_at (state_of old) (address_through (state_of old) load.authority load.offset) load.datum.size → old.steps < most_steps
     → Makes old (Step.Load load) (record old { steps = old.steps + 1 })
@@ -305,7 +305,7 @@ loaded_value old load free same few =
     ∙ ap (λ (b : Bool). first_of (ending true b)) (lt-leb most_steps old.steps few)) refl
 
 -- a load is refused
-pub load_refused : (old : Held) (load : Load) (recorded : Bool) (refusal : Refusal)
+pub load_refused : (old : Held) (load : Data 1) (recorded : Bool) (refusal : Refusal)
     → first_of (row_of (state_of old) (Step.Load load)).checks ≡ None
     → is_recorded (row_of (state_of old) (Step.Load load)) ≡ recorded
     → first_of (last_checks old recorded) ≡ Some refusal

@@ -35,11 +35,11 @@ pub writes_within : (state : State) (step : Step) → IsStepInRange step → fir
 writes_within state (Move step) range free = StaysWithin-refl (state step.source)
 writes_within state (ClearTag step) range free = StaysWithin-cleared (state step.source)
 writes_within state (SetBounds step) range free =
-    StaysWithin-set_bounds (state step.source) step.length false range.2 free
+    StaysWithin-set_bounds (state step.source) step.number false range.2 free
 writes_within state (SetBoundsExact step) range free =
-    StaysWithin-set_bounds (state step.source) step.length true range.2 free
-writes_within state (SetAddr step) range free = StaysWithin-set_addr (state step.source) step.address range.2 free
-writes_within state (AndPerm step) range free = StaysWithin-and_perm (state step.source) step.mask
+    StaysWithin-set_bounds (state step.source) step.number true range.2 free
+writes_within state (SetAddr step) range free = StaysWithin-set_addr (state step.source) step.number range.2 free
+writes_within state (AndPerm step) range free = StaysWithin-and_perm (state step.source) step.number
 writes_within state (Seal step) range free = StaysWithin-seal (state step.source) (state step.authority)
 writes_within state (Unseal step) range free = StaysWithin-unseal (state step.source) (state step.authority)
 writes_within state (LoadCap step) range free =

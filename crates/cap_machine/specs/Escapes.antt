@@ -1,15 +1,9 @@
 -- When a step that sets bounds is refused for them, or loses its tag.
 use Rattle.std.specs.Prelude.{◌≡◌, ◌≢◌, ◌↔◌, ℕ, suc, List, Option, Some, None, IsTrue, IsFalse, slice_get}
 use Rattle.cap_ops.specs.{Operations.HasRoomFor, Permissions.is_sealed}
-use Rattle.cap_log.specs.declared.kinds.Step.{Step, TheVariants.{SetBounds, SetBoundsExact}}
+use Rattle.cap_log.specs.declared.kinds.Step.{Step, TheVariants.SetBounds}
 use Rattle.cap_machine.specs.{declared.rules.Rules.{Rules, TheVariants.TwoClear}, Runs.state_at}
-use Rattle.cap_machine.specs.States.{State, DeclaredRoot, start}
-
--- the register that a step takes bounds from, and the requested length
-abbrev pub asked_by : Step → Option (ℕ × ℕ)
-asked_by (SetBounds step) = Some (step.source, step.length)
-asked_by (SetBoundsExact step) = Some (step.source, step.length)
-asked_by step = None
+use Rattle.cap_machine.specs.{States.{State, DeclaredRoot, start}, Steps.asked_by}
 
 -- the requested bounds, before rounding, do not lie inside those of a tagged, unsealed source
 abbrev pub AsksBeyond : State → Option (ℕ × ℕ) → Type 0
@@ -27,7 +21,7 @@ Escapes rules state step = (rules ≢ TwoClear) × AsksBeyond state (asked_by st
 abbrev pub ClearsBeyond : Rules → State → Step → State → Type 0
 ClearsBeyond rules old (SetBounds step) new =
     rules ≡ TwoClear → IsTrue (old step.source).tag → IsFalse (is_sealed (old step.source).word.0)
-    → IsFalse (new step.target).tag ↔ (HasRoomFor (old step.source) step.length → ⊥)
+    → IsFalse (new step.target).tag ↔ (HasRoomFor (old step.source) step.number → ⊥)
 ClearsBeyond rules old step new = Unit {0}
 
 -- the same of each step of a run, from the state at its moment to the next

@@ -3,24 +3,12 @@ use Rattle.std.specs.Prelude.{ℕ, ◌+◌, ◌≤◌, ◌<◌, ◌^◌, if◌th
 use Rattle.cap_word.specs.declared.word.Cap.{Cap}
 use Rattle.cap_ops.specs.{declared.refusal.Refusal.Refusal, Checks.first_of}
 use Rattle.cap_ops.specs.Permissions.{has_permission, permit_global, permit_store, permit_store_capability}
-use Rattle.cap_ops.specs.Permissions.{permit_store_local_capability, permit_seal, permit_unseal}
-use Rattle.cap_log.specs.declared.kinds.Step.{Step}
-use Rattle.cap_log.specs.declared.kinds.Step.TheVariants.{SetBounds, SetBoundsExact, SetAddr, Seal, Unseal, StoreCap}
+use Rattle.cap_ops.specs.Permissions.{permit_store_local_capability}
+use Rattle.cap_log.specs.declared.kinds.Step.{Step, TheVariants.StoreCap}
 use Rattle.cap_log.specs.declared.lines.Place.{Place, TheVariants.{Register, Granule}}
-use Rattle.cap_machine.specs.{declared.shown.{Given.Given, Request.Request, Shown.Shown}, States.State}
-use Rattle.cap_machine.specs.Steps.{Access, Recorded, Written, ReadNumber, Row, row_of, clear_row}
+use Rattle.cap_machine.specs.{declared.shown.{Given.Given, Shown.Shown}, States.State}
+use Rattle.cap_machine.specs.Steps.{Access, Recorded, Written, ReadNumber, Row, request_of, row_of, clear_row}
 use Rattle.cap_machine.specs.declared.shown.Given.TheVariants as givens
-use Rattle.cap_machine.specs.declared.shown.Request.TheVariants as requests
-
--- what an operation on registers asks for: bounds of a length, an address, or an authority over object types with a
--- permission
-abbrev pub request_of : Step → Request
-request_of (SetBounds step) = requests.Length step.length
-request_of (SetBoundsExact step) = requests.Length step.length
-request_of (SetAddr step) = requests.Address step.address
-request_of (Seal step) = requests.Authority step.authority (2 ^ permit_seal)
-request_of (Unseal step) = requests.Authority step.authority (2 ^ permit_unseal)
-request_of step = requests.Nothing
 
 -- the permissions that storing a capability needs, in the view
 abbrev pub needs_to_store : Cap → ℕ

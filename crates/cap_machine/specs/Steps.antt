@@ -1,5 +1,5 @@
 -- One step of the machine (the operations and accesses of UCAM-CL-TR-987 for CHERI-RISC-V).
-use Rattle.std.specs.Prelude.{◌≡◌, ℕ, ℤ, ◌/◌, ◌%◌, Bool, true, false, ◌==◌, ◌&&◌, List, [], Option, Some, None, IsTrue}
+use Rattle.std.specs.Prelude.{◌≡◌, ℕ, ℤ, ◌/◌, ◌%◌, ◌^◌, Bool, true, false, ◌==◌, ◌&&◌, List, [], Option, Some, None, IsTrue}
 use Rattle.std.specs.{Prelude.{option_map, option_and_then}, Bool.beq, Option.option_map_or}
 use Rattle.cap_word.specs.{declared.word.Cap.Cap, Memory.{low_bytes, memory_of, stored_word}}
 use Rattle.cap_ops.specs.declared.{kinds.Kind.Kind, refusal.Refusal.Refusal}
@@ -12,7 +12,10 @@ use Rattle.cap_log.specs.declared.kinds.Step.{Step, TheVariants.{Move, ClearTag,
 use Rattle.cap_log.specs.declared.kinds.Step.TheVariants.{AndPerm, Seal, Unseal, LoadCap, StoreCap, Load, Store}
 use Rattle.cap_log.specs.declared.lines.Place.{Place, TheVariants.{Register, Granule}}
 use Rattle.tagmem.specs.Granules.{overwritten}
+use Rattle.cap_ops.specs.Permissions.{permit_seal, permit_unseal}
 use Rattle.cap_machine.specs.{declared.rules.Rules.{Rules, TheVariants.TwoClear}, States.{State, key_of, put, value_at}}
+use Rattle.cap_machine.specs.declared.shown.Request.{Request}
+use Rattle.cap_machine.specs.declared.shown.Request.TheVariants as requests
 
 -- an access: the register that is its authority, its address, its size, and the permission it needs
 pub record Access : Type 0 where
@@ -76,13 +79,13 @@ abbrev pub row_of : State → Step → Row
 row_of state (Move step) = operation step.target step.source step.result [] (state step.source)
 row_of state (ClearTag step) = operation step.target step.source step.result [] (cleared (state step.source))
 row_of state (SetBounds step) =
-    operation step.target step.source step.result (set_bounds_checks (state step.source) step.length false) (set_bounds_result (state step.source) step.length)
+    operation step.target step.source step.result (set_bounds_checks (state step.source) step.number false) (set_bounds_result (state step.source) step.number)
 row_of state (SetBoundsExact step) =
-    operation step.target step.source step.result (set_bounds_checks (state step.source) step.length true) (set_bounds_result (state step.source) step.length)
+    operation step.target step.source step.result (set_bounds_checks (state step.source) step.number true) (set_bounds_result (state step.source) step.number)
 row_of state (SetAddr step) =
-    operation step.target step.source step.result (set_addr_checks (state step.source) step.address) (set_addr_result (state step.source) step.address)
+    operation step.target step.source step.result (set_addr_checks (state step.source) step.number) (set_addr_result (state step.source) step.number)
 row_of state (AndPerm step) =
-    operation step.target step.source step.result (and_perm_checks (state step.source)) (and_perm_result (state step.source) step.mask)
+    operation step.target step.source step.result (and_perm_checks (state step.source)) (and_perm_result (state step.source) step.number)
 row_of state (Seal step) =
     operation step.target step.source step.result (seal_checks (state step.source) (state step.authority)) (seal_result (state step.source) (state step.authority))
 row_of state (Unseal step) =
@@ -106,6 +109,22 @@ row_of state (Store step) =
     record (access_through state step.authority kinds.StoreData step.offset step.datum.size) {
       writes = Some (Granule granule, with_value (state (key_of (Granule granule))) (address_through state step.authority step.offset % 16) step.datum.size step.datum.value);
     }
+
+-- the register that a step takes bounds from, and the requested length
+abbrev pub asked_by : Step → Option (ℕ × ℕ)
+asked_by (SetBounds step) = Some (step.source, step.number)
+asked_by (SetBoundsExact step) = Some (step.source, step.number)
+asked_by step = None
+
+-- what an operation on registers asks for: bounds of a length, an address, or an authority over object types with a
+-- permission
+abbrev pub request_of : Step → Request
+request_of (SetBounds step) = requests.Length step.number
+request_of (SetBoundsExact step) = requests.Length step.number
+request_of (SetAddr step) = requests.Address step.number
+request_of (Seal step) = requests.Authority step.authority (2 ^ permit_seal)
+request_of (Unseal step) = requests.Authority step.authority (2 ^ permit_unseal)
+request_of step = requests.Nothing
 
 -- what is written, or read, is what the line records
 abbrev pub agrees : Option (Place × Cap) → Recorded → Bool

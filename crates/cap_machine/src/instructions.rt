@@ -2,18 +2,18 @@
 //! file of this crate's code names them.
 
 ghost use Rattle.std.specs.Prelude.{◌≡◌, List, ℕ, ◌∷◌, ◌++◌};
-ghost use Rattle.cap_ops.specs.{Checks.first_of, Operations.clear_result};
-ghost use Rattle.cap_log.specs.{Heads.head_spelling, Lines.IsStepInRange};
+ghost use Rattle.cap_ops.specs.{Checks.Ends, Operations.clear_result};
+ghost use Rattle.cap_log.specs.{declared.kinds.Step.Step, Heads.head_spelling, Lines.IsStepInRange};
 ghost use Rattle.cap_machine.specs.{Changes.{IsOperation, result_in}, Helds.{AnswersStep, EndsBy, state_of}};
-ghost use Rattle.cap_machine.specs.{Shown.{IsShown, needs_to_store, request_of, shown_of}, States.State, Steps.row_of};
+ghost use Rattle.cap_machine.specs.{Shown.{IsShown, needs_to_store, shown_of}, States.State, Steps.{request_of, row_of}};
 
 use crate::ends::StepEnd;
 use crate::machine::{MOST_STEPS, Machine};
 use crate::rules::Rules;
 use crate::shown::{Given, Request, Shown};
 use cap_log::kinds::{
-    AndPerm, ClearTag, Load, LoadCap, Move, Seal, SetAddr, SetBounds, SetBoundsExact, Store,
-    StoreCap, Unseal,
+    ADDRESS, AndPerm, Authorized, ClearTag, EXACT_LENGTH, LENGTH, Load, LoadCap, Move, Numbered,
+    Plain, Seal, SetAddr, SetBounds, SetBoundsExact, Store, StoreCap, Unseal,
 };
 use cap_log::{Head, Operands, Place, Register, Step, Target};
 use cap_ops::{
@@ -68,11 +68,31 @@ pub trait Operation: Operands {
         ensures request { result.request ≡ request_of (Self.step self) }
         ensures row { (state : State) → IsOperation (row_of state (Self.step self)) result };
 
-    /// How it ends by some rules: its result, or its first failed check. The path by strict rules stands where the
-    /// step is made; the one in clear mode is called.
-    fn outcome<M: TaggedStore>(self, rules: Rules, machine: &Machine<M>) -> Result<Cap, OpFault>
+    /// Its result, or its first failed check.
+    fn strict<M: TaggedStore>(self, machine: &Machine<M>) -> Result<Cap, OpFault>
         ensures ends { let row = row_of (state_of machine.now) (Self.step self) in
-            EndsBy rules row.checks (result_in row.writes) result };
+            Ends result row.checks (λ cap. cap ≡ result_in row.writes) };
+
+    /// Its result in clear mode: untagged if a check fails. It is called, and doesn't stand where the step is made.
+    fn clear<M: TaggedStore>(self, machine: &Machine<M>) -> Cap
+        ensures clears { let row = row_of (state_of machine.now) (Self.step self) in
+            result ≡ clear_result row.checks (result_in row.writes) };
+
+    /// How it ends by some rules: its result, or its first failed check.
+    #[inline(always)]
+    final fn outcome<M: TaggedStore>(
+        self,
+        rules: Rules,
+        machine: &Machine<M>,
+    ) -> Result<Cap, OpFault>
+        ensures ends { let row = row_of (state_of machine.now) (Self.step self) in
+            EndsBy rules row.checks (result_in row.writes) result }
+    {
+        match rules {
+            Rules::TwoClear => Ok(self.clear(machine)),
+            Rules::One | Rules::TwoStrict => self.strict(machine),
+        }
+    }
 }
 
 /// The parts of an operation from a register to a register.
@@ -116,15 +136,14 @@ impl<O: Operation> Instruction for O {
 
     fn shown<M: TaggedStore>(self, machine: &Machine<M>) -> Shown {
         let parts = self.parts();
-        let (cap, fault) = cleared_with_fault(self, machine);
         Shown {
             source: Some(Place::Register(parts.source.number())),
             request: parts.request,
             access: None,
             given: Given::Capability {
                 place: Place::Register(parts.target.number()),
-                cap,
-                fault,
+                cap: self.clear(machine),
+                fault: self.strict(machine).err().map(Refusal::from),
                 recorded: parts.recorded,
             },
         }
@@ -149,166 +168,99 @@ pub fn perform_ended<O: Operation, M: TaggedStore>(
     machine.conclude(&operation, parts.target, outcome, parts.recorded, code)
 }
 
-// The result of an operation in clear mode, and the first failed check. Where none fails it is that of strict rules.
-fn cleared_with_fault<M: TaggedStore, O: Operation>(
-    operation: O,
-    machine: &Machine<M>,
-) -> (Cap, Option<Refusal>)
-    ensures cap { let row = row_of (state_of machine.now) (O.step operation) in
-        result.0 ≡ clear_result row.checks (result_in row.writes) }
-    ensures fault { let row = row_of (state_of machine.now) (O.step operation) in
-        result.1 ≡ first_of row.checks }
-{
-    match operation.outcome(Rules::TwoStrict, machine) {
-        Ok(cap) => (cap, None),
-        Err(fault) => {
-            let cap = operation.outcome(Rules::TwoClear, machine).unwrap();
-            (cap, Some(Refusal::from(fault)))
+impl<const IS_CLEARING: bool> Operation for Plain<IS_CLEARING> {
+    #[inline(always)]
+    fn parts(self) -> OperationParts {
+        OperationParts::new(self.target, self.source, Request::Nothing, self.result)
+    }
+
+    #[inline(always)]
+    fn strict<M: TaggedStore>(self, machine: &Machine<M>) -> Result<Cap, OpFault> {
+        Ok(self.clear(machine))
+    }
+
+    #[inline(always)]
+    fn clear<M: TaggedStore>(self, machine: &Machine<M>) -> Cap {
+        let source = machine.register(self.source.number());
+        if IS_CLEARING {
+            clear_tag(source)
+        } else {
+            source
         }
     }
 }
 
-// A capability for a call that is seldom made. It is a value of its own: so the one that it is made of needn't stand in
-// memory where the call isn't made.
-#[inline(always)]
-fn apart(cap: Cap) -> Cap
-    ensures value { result ≡ cap }
-{
-    let Cap { tag, word } = cap;
-    Cap { tag, word }
-}
+impl<const WHAT: u8> Operation for Numbered<WHAT> {
+    const IS_RARE: bool = WHAT == EXACT_LENGTH;
 
-impl Operation for Move {
-    #[inline(always)]
-    fn parts(self) -> OperationParts {
-        OperationParts::new(self.target, self.source, Request::Nothing, self.result)
-    }
-
-    #[inline(always)]
-    fn outcome<M: TaggedStore>(self, _rules: Rules, machine: &Machine<M>) -> Result<Cap, OpFault> {
-        Ok(machine.register(self.source.number()))
-    }
-}
-
-impl Operation for ClearTag {
-    #[inline(always)]
-    fn parts(self) -> OperationParts {
-        OperationParts::new(self.target, self.source, Request::Nothing, self.result)
-    }
-
-    #[inline(always)]
-    fn outcome<M: TaggedStore>(self, _rules: Rules, machine: &Machine<M>) -> Result<Cap, OpFault> {
-        Ok(clear_tag(machine.register(self.source.number())))
-    }
-}
-
-impl Operation for SetBounds {
-    const IS_LARGE: bool = true;
+    const IS_LARGE: bool = WHAT == LENGTH;
 
     #[inline(always)]
     fn parts(self) -> OperationParts {
-        let request = Request::Length(self.length);
+        let request = match WHAT {
+            LENGTH | EXACT_LENGTH => Request::Length(self.number),
+            ADDRESS => Request::Address(self.number),
+            _ => Request::Nothing,
+        };
         OperationParts::new(self.target, self.source, request, self.result)
     }
 
     #[inline(always)]
-    fn outcome<M: TaggedStore>(self, rules: Rules, machine: &Machine<M>) -> Result<Cap, OpFault> {
+    fn strict<M: TaggedStore>(self, machine: &Machine<M>) -> Result<Cap, OpFault> {
         let source = machine.register(self.source.number());
-        match rules {
-            Rules::TwoClear => Ok(set_bounds_clear(apart(source), self.length, false)),
-            Rules::One | Rules::TwoStrict => set_bounds_soundly(source, self.length, false),
+        match WHAT {
+            LENGTH => set_bounds_soundly(source, self.number, false),
+            EXACT_LENGTH => set_bounds_soundly(source, self.number, true),
+            ADDRESS => set_addr(source, self.number),
+            _ => and_perm(source, self.number),
+        }
+    }
+
+    #[inline(always)]
+    fn clear<M: TaggedStore>(self, machine: &Machine<M>) -> Cap {
+        let source = machine.register(self.source.number());
+        match WHAT {
+            LENGTH => set_bounds_clear(source, self.number, false),
+            EXACT_LENGTH => set_bounds_clear(source, self.number, true),
+            ADDRESS => set_addr_clear(source, self.number),
+            _ => and_perm_clear(source, self.number),
         }
     }
 }
 
-impl Operation for SetBoundsExact {
+impl<const IS_UNSEALING: bool> Operation for Authorized<IS_UNSEALING> {
     const IS_RARE: bool = true;
 
     #[inline(always)]
     fn parts(self) -> OperationParts {
-        let request = Request::Length(self.length);
+        let permission = if IS_UNSEALING {
+            PERMIT_UNSEAL
+        } else {
+            PERMIT_SEAL
+        };
+        let request = Request::Authority(self.authority, 1 << permission);
         OperationParts::new(self.target, self.source, request, self.result)
     }
 
     #[inline(always)]
-    fn outcome<M: TaggedStore>(self, rules: Rules, machine: &Machine<M>) -> Result<Cap, OpFault> {
-        let source = machine.register(self.source.number());
-        match rules {
-            Rules::TwoClear => Ok(set_bounds_clear(apart(source), self.length, true)),
-            Rules::One | Rules::TwoStrict => set_bounds_soundly(source, self.length, true),
-        }
-    }
-}
-
-impl Operation for SetAddr {
-    #[inline(always)]
-    fn parts(self) -> OperationParts {
-        let request = Request::Address(self.address);
-        OperationParts::new(self.target, self.source, request, self.result)
-    }
-
-    #[inline(always)]
-    fn outcome<M: TaggedStore>(self, rules: Rules, machine: &Machine<M>) -> Result<Cap, OpFault> {
-        let source = machine.register(self.source.number());
-        match rules {
-            Rules::TwoClear => Ok(set_addr_clear(apart(source), self.address)),
-            Rules::One | Rules::TwoStrict => set_addr(source, self.address),
-        }
-    }
-}
-
-impl Operation for AndPerm {
-    #[inline(always)]
-    fn parts(self) -> OperationParts {
-        OperationParts::new(self.target, self.source, Request::Nothing, self.result)
-    }
-
-    #[inline(always)]
-    fn outcome<M: TaggedStore>(self, rules: Rules, machine: &Machine<M>) -> Result<Cap, OpFault> {
-        let source = machine.register(self.source.number());
-        match rules {
-            Rules::TwoClear => Ok(and_perm_clear(apart(source), self.mask)),
-            Rules::One | Rules::TwoStrict => and_perm(source, self.mask),
-        }
-    }
-}
-
-impl Operation for Seal {
-    const IS_RARE: bool = true;
-
-    #[inline(always)]
-    fn parts(self) -> OperationParts {
-        let request = Request::Authority(self.authority, 1 << PERMIT_SEAL);
-        OperationParts::new(self.target, self.source, request, self.result)
-    }
-
-    #[inline(always)]
-    fn outcome<M: TaggedStore>(self, rules: Rules, machine: &Machine<M>) -> Result<Cap, OpFault> {
+    fn strict<M: TaggedStore>(self, machine: &Machine<M>) -> Result<Cap, OpFault> {
         let source = machine.register(self.source.number());
         let authority = machine.register(self.authority.number());
-        match rules {
-            Rules::TwoClear => Ok(seal_clear(source, authority)),
-            Rules::One | Rules::TwoStrict => seal(source, authority),
+        if IS_UNSEALING {
+            unseal(source, authority)
+        } else {
+            seal(source, authority)
         }
     }
-}
-
-impl Operation for Unseal {
-    const IS_RARE: bool = true;
 
     #[inline(always)]
-    fn parts(self) -> OperationParts {
-        let request = Request::Authority(self.authority, 1 << PERMIT_UNSEAL);
-        OperationParts::new(self.target, self.source, request, self.result)
-    }
-
-    #[inline(always)]
-    fn outcome<M: TaggedStore>(self, rules: Rules, machine: &Machine<M>) -> Result<Cap, OpFault> {
+    fn clear<M: TaggedStore>(self, machine: &Machine<M>) -> Cap {
         let source = machine.register(self.source.number());
         let authority = machine.register(self.authority.number());
-        match rules {
-            Rules::TwoClear => Ok(unseal_clear(source, authority)),
-            Rules::One | Rules::TwoStrict => unseal(source, authority),
+        if IS_UNSEALING {
+            unseal_clear(source, authority)
+        } else {
+            seal_clear(source, authority)
         }
     }
 }
@@ -443,7 +395,7 @@ pub trait ByKind<'a, T> {
 
     /// Does it with the operands of a step of one kind.
     fn with_kind<I: Instruction>(on: &mut T, operands: &'a [u8]) -> Self::Answer
-        ensures done { does on.old (head_spelling I.head ++ 32 ∷ operands.now) result on.new };
+        ensures done { does on.old (head_spelling I.HEAD ++ 32 ∷ operands.now) result on.new };
 
     /// Does it with a line that is no step's.
     fn with_none(on: &mut T) -> Self::Answer
@@ -498,7 +450,19 @@ pub fn make<M: TaggedStore>(step: &Step, machine: &mut Machine<M>) -> Result<(),
     ensures outcome { AnswersStep machine.old step.now result machine.new }
     ensures range { IsStepInRange step.now }
 {
-    by_kind!(*step, step => step.perform(machine))
+    by_kind!(*step, step => make_kind(step, machine))
+}
+
+// Makes a step that is of this kind.
+#[inline(always)]
+fn make_kind<M: TaggedStore, I: Instruction>(
+    kind: I,
+    machine: &mut Machine<M>,
+) -> Result<(), StepEnd>
+    ensures outcome { (step : Step) → step ≡ I.step kind → AnswersStep machine.old step result machine.new }
+    ensures range { IsStepInRange (I.step kind) }
+{
+    kind.perform(machine)
 }
 
 /// What a step shows, as [`Instruction::shown`] does.

@@ -1,7 +1,7 @@
 -- What is told of bytes that are no line of a machine's log (this profile's own, as are all below).
 use Rattle.std.specs.Prelude.{◌≡◌, ◌⊎◌, ℕ, List, [], ◌∷◌, ◌++◌, length, codes}
-use Rattle.cap_log.specs.{declared.kinds.Head.Head, Heads.{IsHead, head_spelling}, Parts.{Begins, BeginsWithNone}}
-use Rattle.cap_log.specs.declared.kinds.Head.TheVariants as heads
+use Rattle.cap_log.specs.{declared.kinds.{Head.Head, Shape.Shape}, Heads.{IsHead, head_spelling, shape_of}, Parts.{Begins, BeginsWithNone}}
+use Rattle.cap_log.specs.declared.kinds.Shape.TheVariants as shapes
 use Rattle.cap_texts.specs.{declared.fields.Field.Field, Fields.{AllStand, IsFirstWrong}, TextLines.text_line}
 use Rattle.cap_texts.specs.WrongLines.{header_lines, hint_line, wrong_lines}
 use Rattle.cap_texts.specs.declared.fields.Field.TheVariants as fields
@@ -10,24 +10,23 @@ use Rattle.cap_texts.specs.declared.fields.Field.TheVariants as fields
 abbrev pub result_fields : List Field
 result_fields = fields.Equals ∷ fields.Tag ∷ fields.Word ∷ []
 
+-- the fields of a shape
+abbrev pub shape_fields : Shape → List Field
+shape_fields shapes.Version = fields.LogVersion ∷ []
+shape_fields shapes.Mode = fields.Mode ∷ []
+shape_fields shapes.Root = fields.Place ∷ fields.Word ∷ []
+shape_fields shapes.Plain = fields.Target ∷ fields.Register ∷ result_fields
+shape_fields shapes.Numbered = fields.Target ∷ fields.Register ∷ fields.Number ∷ result_fields
+shape_fields shapes.Authorized = fields.Target ∷ fields.Register ∷ fields.Register ∷ result_fields
+shape_fields shapes.LoadCap = fields.Target ∷ fields.Register ∷ fields.Offset ∷ result_fields
+shape_fields shapes.StoreCap = fields.Register ∷ fields.Register ∷ fields.Offset ∷ []
+shape_fields shapes.Load = fields.Register ∷ fields.Offset ∷ fields.Size ∷ fields.Equals ∷ fields.Value ∷ []
+shape_fields shapes.Store = fields.Register ∷ fields.Offset ∷ fields.Size ∷ fields.Value ∷ []
+shape_fields shapes.End = fields.Count ∷ []
+
 -- the fields that follow the first word of a line
 abbrev pub fields_of : Head → List Field
-fields_of heads.Version = fields.LogVersion ∷ []
-fields_of heads.Mode = fields.Mode ∷ []
-fields_of heads.Root = fields.Place ∷ fields.Word ∷ []
-fields_of heads.Move = fields.Target ∷ fields.Register ∷ result_fields
-fields_of heads.ClearTag = fields.Target ∷ fields.Register ∷ result_fields
-fields_of heads.SetBounds = fields.Target ∷ fields.Register ∷ fields.Number ∷ result_fields
-fields_of heads.SetBoundsExact = fields.Target ∷ fields.Register ∷ fields.Number ∷ result_fields
-fields_of heads.SetAddr = fields.Target ∷ fields.Register ∷ fields.Number ∷ result_fields
-fields_of heads.AndPerm = fields.Target ∷ fields.Register ∷ fields.Number ∷ result_fields
-fields_of heads.Seal = fields.Target ∷ fields.Register ∷ fields.Register ∷ result_fields
-fields_of heads.Unseal = fields.Target ∷ fields.Register ∷ fields.Register ∷ result_fields
-fields_of heads.LoadCap = fields.Target ∷ fields.Register ∷ fields.Offset ∷ result_fields
-fields_of heads.StoreCap = fields.Register ∷ fields.Register ∷ fields.Offset ∷ []
-fields_of heads.Load = fields.Register ∷ fields.Offset ∷ fields.Size ∷ fields.Equals ∷ fields.Value ∷ []
-fields_of heads.Store = fields.Register ∷ fields.Offset ∷ fields.Size ∷ fields.Value ∷ []
-fields_of heads.End = fields.Count ∷ []
+fields_of head = shape_fields (shape_of head)
 
 -- the first wrong word of a line with its line feed: its name, or the first of the fields of its kind
 abbrev pub IsWrongWord : List ℕ → Field → ℕ → List ℕ → Type 0

@@ -5,6 +5,7 @@ ghost use Rattle.cap_streams.specs.Written.{Writes};
 ghost use Rattle.cap_report.specs.BadLines.{AreBadLines, AreFirstLines, HasNoWrongWord, IsWrongWord, fields_of};
 
 use cap_log::buffers::put;
+use cap_log::kinds::Shape;
 use cap_log::{Head, Part};
 use cap_texts::fields::Field::{
     Count, Equals, LogName, LogVersion, Mode, Number, Offset, Place, Register, Size, Tag, Target,
@@ -76,19 +77,17 @@ fn wrong_word(line: &[u8]) -> Option<Wrong<'_>>
 fn fields_of(head: Head) -> &'static [Field]
     ensures { result.now ≡ fields_of head }
 {
-    match head {
-        Head::Version => &[LogVersion],
-        Head::Mode => &[Mode],
-        Head::Root => &[Place, Word],
-        Head::Move | Head::ClearTag => &[Target, Register, Equals, Tag, Word],
-        Head::SetBounds | Head::SetBoundsExact | Head::SetAddr | Head::AndPerm => {
-            &[Target, Register, Number, Equals, Tag, Word]
-        }
-        Head::Seal | Head::Unseal => &[Target, Register, Register, Equals, Tag, Word],
-        Head::LoadCap => &[Target, Register, Offset, Equals, Tag, Word],
-        Head::StoreCap => &[Register, Register, Offset],
-        Head::Load => &[Register, Offset, Size, Equals, Value],
-        Head::Store => &[Register, Offset, Size, Value],
-        Head::End => &[Count],
+    match head.shape() {
+        Shape::Version => &[LogVersion],
+        Shape::Mode => &[Mode],
+        Shape::Root => &[Place, Word],
+        Shape::Plain => &[Target, Register, Equals, Tag, Word],
+        Shape::Numbered => &[Target, Register, Number, Equals, Tag, Word],
+        Shape::Authorized => &[Target, Register, Register, Equals, Tag, Word],
+        Shape::LoadCap => &[Target, Register, Offset, Equals, Tag, Word],
+        Shape::StoreCap => &[Register, Register, Offset],
+        Shape::Load => &[Register, Offset, Size, Equals, Value],
+        Shape::Store => &[Register, Offset, Size, Value],
+        Shape::End => &[Count],
     }
 }

@@ -2,6 +2,7 @@
 use Rattle.std.specs.Prelude.{◌≡◌, ◌==◌, if◌then◌else◌, ◌⊎◌, ℕ, ◌*◌, ◌^◌, ◌<◌, List, [], ◌∷◌, ◌++◌, Contains, codes}
 use Rattle.std.specs.{Prelude.{decimal, ℤ}, Fmt.signed_decimal}
 use Rattle.cap_word.specs.{declared.word.Word.Word, Digits.hex_digits}
+use Rattle.cap_log.specs.Heads.{line_names}
 use Rattle.cap_log.specs.declared.lines.{Mode.Mode as ModeOf, Place.Place as PlaceOf}
 use Rattle.cap_log.specs.Lines.{IsPlace, IsWord, IsNumber, place_spelling, register_spelling, mode_spelling}
 use Rattle.cap_log.specs.{Parts.{Begins, IsCount, IsMode}, Ranges.{IsOffset, IsRegisterFrom}}
@@ -77,8 +78,7 @@ IsFirstWrong (field ∷ fields) size bytes wrong end from =
 
 -- what a field has to be, in words
 abbrev pub expected_text : Field → List ℕ
-expected_text LogName =
-    codes "root, end or a step: move, cleartag, setbounds, setboundsexact, setaddr, andperm, seal, unseal, lc, sc, load or store"
+expected_text LogName = line_names
 expected_text HeapName = codes "root, malloc, free or end"
 expected_text LogVersion = codes "the version, 1 or 2"
 expected_text HeapVersion = codes "the version, 1"

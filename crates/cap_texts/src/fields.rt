@@ -5,6 +5,7 @@ ghost use Rattle.cap_log.specs.Parts.{Begins, BeginsWithNone, IsEnd};
 ghost use Rattle.cap_texts.specs.Fields.{AllStand, IsFirstWrong, Stands, StandsDigit, StandsValue, StandsTop};
 ghost use Rattle.cap_texts.specs.Fields.{bytes_of_size, end_of, expected_text, size_after};
 
+use cap_log::kinds::LINE_NAMES;
 use cap_log::{Mode, Offset, Part, Place, Register, Target};
 use cap_word::{Word, take_bytes};
 
@@ -211,9 +212,7 @@ pub(crate) fn expected_text(field: Field) -> &'static [u8]
     ensures short { length result.now ≤ 160 }
 {
     match field {
-        Field::LogName => {
-            b"root, end or a step: move, cleartag, setbounds, setboundsexact, setaddr, andperm, seal, unseal, lc, sc, load or store"
-        }
+        Field::LogName => LINE_NAMES,
         Field::HeapName => b"root, malloc, free or end",
         Field::LogVersion => b"the version, 1 or 2",
         Field::HeapVersion => b"the version, 1",

@@ -60,17 +60,7 @@ rest_of bytes reads rest all =
 -- a line that was read has a kind
 step_kind : (step : Step) (read : LineRead) → IsStepRead step read → read.kind ≡ 0 → ⊥
 step_kind (Step.Move step) read is none = omega (arith, none, is.0.kind_is)
-step_kind (Step.ClearTag step) read is none = omega (arith, none, is.0.kind_is)
-step_kind (Step.SetBounds step) read is none = omega (arith, none, is.0.kind_is)
-step_kind (Step.SetBoundsExact step) read is none = omega (arith, none, is.0.kind_is)
-step_kind (Step.SetAddr step) read is none = omega (arith, none, is.0.kind_is)
-step_kind (Step.AndPerm step) read is none = omega (arith, none, is.0.kind_is)
-step_kind (Step.Seal step) read is none = omega (arith, none, is.0.kind_is)
-step_kind (Step.Unseal step) read is none = omega (arith, none, is.0.kind_is)
-step_kind (Step.LoadCap step) read is none = omega (arith, none, is.0.kind_is)
-step_kind (Step.StoreCap step) read is none = omega (arith, none, is.0.kind_is)
-step_kind (Step.Load step) read is none = omega (arith, none, is.0.kind_is)
-step_kind (Step.Store step) read is none = omega (arith, none, is.0.kind_is)
+step_kind step read is none = omega (arith, none, is.0.kind_is)
 
 line_kind : (line : Line) (read : LineRead) → IsLineRead line read → read.kind ≡ 0 → ⊥
 line_kind (Line.Version version) read is none = omega (arith, none, is.0.kind_is)

@@ -32,10 +32,10 @@ ReadsAt kind target source authority offset size number cap read =
 abbrev pub IsStepRead : Step → LineRead → Type 0
 IsStepRead (steps.Move step) read = HasNumbers 5 step.target step.source 0 0 step.result read
 IsStepRead (steps.ClearTag step) read = HasNumbers 6 step.target step.source 0 0 step.result read
-IsStepRead (steps.SetBounds step) read = HasNumbers 7 step.target step.source 0 step.length step.result read
-IsStepRead (steps.SetBoundsExact step) read = HasNumbers 8 step.target step.source 0 step.length step.result read
-IsStepRead (steps.SetAddr step) read = HasNumbers 9 step.target step.source 0 step.address step.result read
-IsStepRead (steps.AndPerm step) read = HasNumbers 10 step.target step.source 0 step.mask step.result read
+IsStepRead (steps.SetBounds step) read = HasNumbers 7 step.target step.source 0 step.number step.result read
+IsStepRead (steps.SetBoundsExact step) read = HasNumbers 8 step.target step.source 0 step.number step.result read
+IsStepRead (steps.SetAddr step) read = HasNumbers 9 step.target step.source 0 step.number step.result read
+IsStepRead (steps.AndPerm step) read = HasNumbers 10 step.target step.source 0 step.number step.result read
 IsStepRead (steps.Seal step) read = HasNumbers 11 step.target step.source step.authority 0 step.result read
 IsStepRead (steps.Unseal step) read = HasNumbers 12 step.target step.source step.authority 0 step.result read
 IsStepRead (steps.LoadCap step) read = ReadsAt 13 step.target 0 step.authority step.offset 0 0 step.result read

@@ -1,5 +1,6 @@
 -- The names of what C knows by number, as C strings, and a sentence for each (this profile's own, as are all below).
-use Rattle.std.specs.Prelude.{ℕ, zero, suc, ◌-◌, List, [], ◌∷◌, ◌++◌, codes, length, replicate}
+use Rattle.std.specs.Prelude.{ℕ, ◌-◌, List, [], ◌∷◌, ◌++◌, codes, length, replicate}
+pub use Rattle.cap_log.specs.Heads.{kind_words, text_at}
 use Rattle.cap_ops.specs.declared.refusal.Refusal.{Refusal, TheVariants.{BadHeader, LineTooLong, BadLine, Misplaced}}
 use Rattle.cap_ops.specs.declared.refusal.Refusal.TheVariants.{Truncated, WrongCount, PlaceTaken, UnsoundRoot}
 use Rattle.cap_ops.specs.declared.refusal.Refusal.TheVariants.{SourceUntagged, SourceSealed, BoundsEscape, NotExact}
@@ -11,12 +12,6 @@ use Rattle.cap_ops.specs.declared.refusal.Refusal.TheVariants.{StoreLocalPermiss
 -- bytes that hold a text as a C string: the text, and zeros after it
 abbrev pub c_string_in : ℕ → List ℕ → List ℕ
 c_string_in size text = text ++ replicate (size - length text) 0
-
--- the text with a number, counted from 0, and none after the last
-abbrev pub text_at : List (List ℕ) → ℕ → List ℕ
-text_at [] number = []
-text_at (text ∷ texts) zero = text
-text_at (text ∷ texts) (suc number) = text_at texts number
 
 -- the states of an answer
 abbrev pub state_names : List (List ℕ)
@@ -33,13 +28,7 @@ state_sentences =
     ∷ codes "The bytes aren't one line with its line feed, or a number is out of range."
     ∷ []
 
--- the kinds of lines, from 0, which is none: each has the word that its lines begin with
-abbrev pub kind_names : List (List ℕ)
-kind_names =
-    [] ∷ codes "capcheck" ∷ codes "mode" ∷ codes "root" ∷ codes "root" ∷ codes "move" ∷ codes "cleartag"
-    ∷ codes "setbounds" ∷ codes "setboundsexact" ∷ codes "setaddr" ∷ codes "andperm" ∷ codes "seal" ∷ codes "unseal"
-    ∷ codes "lc" ∷ codes "sc" ∷ codes "load" ∷ codes "store" ∷ codes "end" ∷ []
-
+-- what each kind of line is, by its number
 abbrev pub kind_sentences : List (List ℕ)
 kind_sentences =
     []

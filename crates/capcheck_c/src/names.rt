@@ -1,10 +1,11 @@
 //! The names of what C knows by number, and a sentence for each.
 
 ghost use Rattle.std.specs.Prelude.{◌≡◌, ◌≤◌, codes, length};
-ghost use Rattle.capcheck_c.specs.{Answers.c_string, Names.{c_string_in, kind_names, kind_sentences, state_names}};
+ghost use Rattle.capcheck_c.specs.{Answers.c_string, Names.{c_string_in, kind_words, kind_sentences, state_names}};
 ghost use Rattle.capcheck_c.specs.Names.{state_sentences, text_at};
 
 use crate::values::{RefusalName, Sentence};
+use cap_log::kinds::kind_word;
 
 /// The version of this library, that of `include/capcheck.h`.
 const VERSION: &str = "1.2.0";
@@ -56,27 +57,9 @@ pub extern "C" fn capcheck_state_name(state: u8) -> RefusalName
 /// The word that a line of a kind begins with, as `setbounds`, and an empty string of a number that is no kind.
 #[unsafe(no_mangle)]
 pub extern "C" fn capcheck_kind_name(kind: u8) -> RefusalName
-    ensures name { result.text ≡ c_string (text_at kind_names kind) }
+    ensures name { result.text ≡ c_string (text_at kind_words kind) }
 {
-    as_c_string(match kind {
-        1 => "capcheck",
-        2 => "mode",
-        3 | 4 => "root",
-        5 => "move",
-        6 => "cleartag",
-        7 => "setbounds",
-        8 => "setboundsexact",
-        9 => "setaddr",
-        10 => "andperm",
-        11 => "seal",
-        12 => "unseal",
-        13 => "lc",
-        14 => "sc",
-        15 => "load",
-        16 => "store",
-        17 => "end",
-        _ => "",
-    })
+    as_c_string(kind_word(kind))
 }
 
 /// What a state says, in a sentence, and an empty string of a number that is none.

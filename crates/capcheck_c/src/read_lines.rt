@@ -1,6 +1,6 @@
 //! A line read: the inverse of the calls that write lines.
 
-ghost use Rattle.std.specs.Prelude.{◌≡◌, ◌≢◌, ◌<◌, ◌≤◌, ◌*◌, drop, length, take, true};
+ghost use Rattle.std.specs.{List.All, Prelude.{◌≡◌, ◌≢◌, ◌<◌, ◌≤◌, ◌*◌, drop, length, take, true}};
 ghost use Rattle.cap_log.specs.{Lines.{IsInRange, IsPlace, spelling}, Parts.BeginsWithNone};
 ghost use Rattle.cap_log.specs.declared.lines.Line.TheVariants as lines;
 ghost use Rattle.capcheck_c.specs.LinesRead.{HasNumbers, IsLineRead, ReadsFront, ReadsLines};
@@ -43,6 +43,7 @@ pub extern "C" fn capcheck_read_line(bytes: &[u8]) -> LineRead
 pub extern "C" fn capcheck_read_lines(bytes: &[u8], lines: &mut [LineRead]) -> LinesCount
     ensures few { (result.lines ≤ length lines.new) × (result.bytes ≤ length bytes.now) }
     ensures read { ReadsLines bytes.now (take result.lines lines.new) (drop result.bytes bytes.now) }
+    ensures tags { All (λ line. line.cap.tag ≤ 1) (take result.lines lines.new) }
     ensures rest { drop result.lines lines.new ≡ drop result.lines lines.old }
     ensures stops { result.lines < length lines.new → BeginsWithNone IsInRange spelling 10 (drop result.bytes bytes.now) }
 {

@@ -5,7 +5,8 @@
 
 ghost use Rattle.std.specs.Prelude.{◌≡◌, ◌≢◌, ◌≤◌};
 ghost use Rattle.cap_log.specs.declared.lines.Line.TheVariants as line;
-ghost use Rattle.cap_halves.specs.PassedSteps as steps;
+ghost use Rattle.cap_log.specs.declared.kinds.Step.TheVariants as steps;
+ghost use Rattle.cap_halves.specs.PassedSteps.{authorized_passed, data_passed, lc_passed, numbered_passed, plain_passed, sc_passed};
 ghost use Rattle.capcheck_c.specs.{LinesRead.IsStepRead, LinesWritten.AnswersLine};
 
 use crate::values::LineRead;
@@ -50,7 +51,7 @@ pub extern "C" fn capcheck_line_move(
     source: u64,
     recorded: Capability,
 ) -> usize
-    ensures line { AnswersLine (line.Step (steps.move_passed target source recorded)) buffer.old buffer.new result }
+    ensures line { AnswersLine (line.Step (steps.Move (plain_passed target source recorded))) buffer.old buffer.new result }
 {
     put_step::<Move>((target, source, from_c(recorded)), buffer)
 }
@@ -63,7 +64,7 @@ pub extern "C" fn capcheck_line_cleartag(
     source: u64,
     recorded: Capability,
 ) -> usize
-    ensures line { AnswersLine (line.Step (steps.cleartag_passed target source recorded)) buffer.old buffer.new result }
+    ensures line { AnswersLine (line.Step (steps.ClearTag (plain_passed target source recorded))) buffer.old buffer.new result }
 {
     put_step::<ClearTag>((target, source, from_c(recorded)), buffer)
 }
@@ -77,7 +78,7 @@ pub extern "C" fn capcheck_line_setbounds(
     length: u64,
     recorded: Capability,
 ) -> usize
-    ensures line { AnswersLine (line.Step (steps.setbounds_passed target source length recorded)) buffer.old buffer.new result }
+    ensures line { AnswersLine (line.Step (steps.SetBounds (numbered_passed target source length recorded))) buffer.old buffer.new result }
 {
     put_step::<SetBounds>((target, source, length, from_c(recorded)), buffer)
 }
@@ -91,7 +92,7 @@ pub extern "C" fn capcheck_line_setboundsexact(
     length: u64,
     recorded: Capability,
 ) -> usize
-    ensures line { AnswersLine (line.Step (steps.setboundsexact_passed target source length recorded)) buffer.old buffer.new result }
+    ensures line { AnswersLine (line.Step (steps.SetBoundsExact (numbered_passed target source length recorded))) buffer.old buffer.new result }
 {
     put_step::<SetBoundsExact>((target, source, length, from_c(recorded)), buffer)
 }
@@ -105,7 +106,7 @@ pub extern "C" fn capcheck_line_setaddr(
     address: u64,
     recorded: Capability,
 ) -> usize
-    ensures line { AnswersLine (line.Step (steps.setaddr_passed target source address recorded)) buffer.old buffer.new result }
+    ensures line { AnswersLine (line.Step (steps.SetAddr (numbered_passed target source address recorded))) buffer.old buffer.new result }
 {
     put_step::<SetAddr>((target, source, address, from_c(recorded)), buffer)
 }
@@ -119,7 +120,7 @@ pub extern "C" fn capcheck_line_andperm(
     mask: u64,
     recorded: Capability,
 ) -> usize
-    ensures line { AnswersLine (line.Step (steps.andperm_passed target source mask recorded)) buffer.old buffer.new result }
+    ensures line { AnswersLine (line.Step (steps.AndPerm (numbered_passed target source mask recorded))) buffer.old buffer.new result }
 {
     put_step::<AndPerm>((target, source, mask, from_c(recorded)), buffer)
 }
@@ -133,7 +134,7 @@ pub extern "C" fn capcheck_line_seal(
     authority: u64,
     recorded: Capability,
 ) -> usize
-    ensures line { AnswersLine (line.Step (steps.seal_passed target source authority recorded)) buffer.old buffer.new result }
+    ensures line { AnswersLine (line.Step (steps.Seal (authorized_passed target source authority recorded))) buffer.old buffer.new result }
 {
     put_step::<Seal>((target, source, authority, from_c(recorded)), buffer)
 }
@@ -147,7 +148,7 @@ pub extern "C" fn capcheck_line_unseal(
     authority: u64,
     recorded: Capability,
 ) -> usize
-    ensures line { AnswersLine (line.Step (steps.unseal_passed target source authority recorded)) buffer.old buffer.new result }
+    ensures line { AnswersLine (line.Step (steps.Unseal (authorized_passed target source authority recorded))) buffer.old buffer.new result }
 {
     put_step::<Unseal>((target, source, authority, from_c(recorded)), buffer)
 }
@@ -161,7 +162,7 @@ pub extern "C" fn capcheck_line_lc(
     offset: i64,
     recorded: Capability,
 ) -> usize
-    ensures line { AnswersLine (line.Step (steps.lc_passed target authority offset recorded)) buffer.old buffer.new result }
+    ensures line { AnswersLine (line.Step (steps.LoadCap (lc_passed target authority offset recorded))) buffer.old buffer.new result }
 {
     put_step::<LoadCap>((target, authority, offset, from_c(recorded)), buffer)
 }
@@ -174,7 +175,7 @@ pub extern "C" fn capcheck_line_sc(
     authority: u64,
     offset: i64,
 ) -> usize
-    ensures line { AnswersLine (line.Step (steps.sc_passed source authority offset)) buffer.old buffer.new result }
+    ensures line { AnswersLine (line.Step (steps.StoreCap (sc_passed source authority offset))) buffer.old buffer.new result }
 {
     put_step::<StoreCap>((source, authority, offset), buffer)
 }
@@ -188,7 +189,7 @@ pub extern "C" fn capcheck_line_load(
     size: u64,
     value: u64,
 ) -> usize
-    ensures line { AnswersLine (line.Step (steps.load_passed authority offset size value)) buffer.old buffer.new result }
+    ensures line { AnswersLine (line.Step (steps.Load (data_passed authority offset size value))) buffer.old buffer.new result }
 {
     put_step::<Load>((authority, offset, size, value), buffer)
 }
@@ -202,7 +203,7 @@ pub extern "C" fn capcheck_line_store(
     size: u64,
     value: u64,
 ) -> usize
-    ensures line { AnswersLine (line.Step (steps.store_passed authority offset size value)) buffer.old buffer.new result }
+    ensures line { AnswersLine (line.Step (steps.Store (data_passed authority offset size value))) buffer.old buffer.new result }
 {
     put_step::<Store>((authority, offset, size, value), buffer)
 }
@@ -235,19 +236,19 @@ pub(crate) fn step_read(step: Step, count: usize) -> LineRead
             count,
         ),
         Step::SetBounds(step) => LineRead {
-            number: step.length,
+            number: step.number,
             ..LineRead::recorded(SETBOUNDS, step.target, step.source, step.result, count)
         },
         Step::SetBoundsExact(step) => LineRead {
-            number: step.length,
+            number: step.number,
             ..LineRead::recorded(SETBOUNDSEXACT, step.target, step.source, step.result, count)
         },
         Step::SetAddr(step) => LineRead {
-            number: step.address,
+            number: step.number,
             ..LineRead::recorded(SETADDR, step.target, step.source, step.result, count)
         },
         Step::AndPerm(step) => LineRead {
-            number: step.mask,
+            number: step.number,
             ..LineRead::recorded(ANDPERM, step.target, step.source, step.result, count)
         },
         Step::Seal(step) => LineRead {

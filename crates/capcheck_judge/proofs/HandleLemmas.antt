@@ -1,5 +1,5 @@
 -- What a handle holds, by the judge that was taken out of it.
-use Rattle.std.proofs.Common.{◌≡◌, refl, ◌<◌, ◌⊎◌, ◌∙◌, inl, inr, ℕ, List, [], ◌∷◌, ◌++◌, ap, arith, sym, subst}
+use Rattle.std.proofs.Common.{◌≡◌, ◌≢◌, ◌↔◌, IsTrue, refl, ◌<◌, ◌⊎◌, ◌∙◌, inl, inr, ℕ, List, [], ◌∷◌, ◌++◌, ap, arith, sym, subst}
 use Rattle.std.proofs.{Common.{None, Option, is_some, Some}, lemmas.Bool.{false≢true}}
 use denote.RattleType.{RattleType}
 use Rattle.cap_word.specs.declared.word.Cap.{Cap}
@@ -10,7 +10,8 @@ use Rattle.cap_judge.specs.Readings.{HasRead, Known, Stands, at, stage_of, verdi
 use Rattle.cap_judge.specs.{Turns.unread, contracts.judges.Judge.the_row as judge_row}
 use Rattle.cap_judge.proofs.{TurnLaws.{lacks_memory, none_so_far, reached, stands_so_far}, TurnLemmas.follows_on}
 use Rattle.cap_report.specs.declared.answers.Answer.{Answer}
-use Rattle.capcheck_judge.specs.Handles.{AnswersSoFar, Standing, HandsOver, HeldJudge, Holds, known_in, origin_behind}
+use Rattle.capcheck_judge.specs.Handles.{AnswersSoFar, IsPassed, Standing, HandsOver, HeldJudge, Holds, known_in, origin_behind}
+use Rattle.capcheck_judge.specs.declared.answers.PassedPlace.{PassedPlace}
 use Rattle.capcheck_judge.specs.{Handles.state_behind, Takings.TakesLine}
 
 -- a judge over pages
@@ -38,6 +39,12 @@ pub held_origin : (held : HeldJudge) (bytes : List ℕ) (holds : Holds held byte
     (key : ℕ) → root ≡ (stage_of judge).account.origin key → root ≡ origin_behind holds key
 held_origin held bytes holds judge is root key told =
     told ∙ ap (λ (j : J). (stage_of j).account.origin key) (one_held held bytes holds judge is)
+
+-- there is a place exactly if its kind isn't 0
+pub passed_some : (root : Option Place) (passed : PassedPlace) → IsPassed root passed → (passed.kind ≢ 0) ↔ IsTrue (is_some root)
+passed_some None passed is = (λ some. absurd (some is.0), λ yes none. false≢true yes)
+passed_some (Some (Place.Register n)) passed is = (λ some. refl, λ yes none. omega (arith, none, is.0))
+passed_some (Some (Place.Granule n)) passed is = (λ some. refl, λ yes none. omega (arith, none, is.0))
 
 -- what holds a judge isn't without one
 pub there : (held : HeldJudge) (judge : J) → held ≡ Some judge → held ≡ None → ⊥

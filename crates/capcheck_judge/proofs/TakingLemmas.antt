@@ -1,11 +1,12 @@
 -- What a handle's judge takes that is handed lines.
-use Rattle.std.proofs.Common.{inl, ◌≡◌, ◌≢◌, ◌<◌, ◌∙◌, ℕ, List, ◌++◌, ap, append_assoc, arith, drop, refl, subst, sym}
-use Rattle.std.proofs.Common.{take, take-append-drop, Some}
+use Rattle.std.proofs.Common.{inl, ◌≡◌, ◌≢◌, ◌<◌, ◌≤◌, ◌∙◌, ℕ, List, ◌++◌, ap, append_assoc, arith, drop, refl, subst, sym}
+use Rattle.std.proofs.Common.{[], ◌∷◌, length, suc, take, take-append-drop, zero, Some}
+use Rattle.cap_log.specs.Lines.{spelling}
 use Rattle.cap_judge.specs.{declared.judges.Stop.{Stop, TheVariants.{Cut, Fault, NoMemory}}, Judgings.IsBehind}
-use Rattle.cap_judge.specs.{Logs.{MayLackMemory, Refuses}, Readings.{BeginsWhole, Follows, HasRead, Goes, IsRest}}
+use Rattle.cap_judge.specs.{Logs.{MayLackMemory, Refuses}, Readings.{BeginsWhole, Follows, HasRead, Goes, IsAtFault, IsRest}}
 use Rattle.cap_judge.specs.{Readings.{StopsAt, stage_of}, Turns.{Due, Stage, unread}}
 use Rattle.cap_judge.proofs.TurnLaws.{begins, clear_goes, fault_in, fault_reached, lacks_memory, never_faulty, reached}
-use Rattle.cap_judge.proofs.TurnLemmas.{faults_at, follows_on, goes_on, stop_follows}
+use Rattle.cap_judge.proofs.TurnLemmas.{fault_goes, faults_at, follows_on, goes_on, line_is, stop_follows}
 use Rattle.capcheck_judge.specs.declared.answers.LinesTaken.{LinesTaken}
 use Rattle.capcheck_judge.specs.{Handles.{HandsOverLines, HeldJudge, Holds, IsRefusedAfter}, Takings.{TakesLines, state_at}}
 use Rattle.capcheck_judge.proofs.HandleLemmas.{J, held_taken, there}
@@ -21,6 +22,22 @@ refused_after old new front rest before (middle, goes, faults) read whole =
     let behind = subst (IsBehind ((before ++ front) ++ rest) is.0.beginning) is.1 is.0.behind in
     let found = subst (λ (d : Due). IsRest d is.0.beginning is.0.rest) fault.3 is.0.rest_is in
     (is.0.beginning, fault.1, behind, subst (λ (r : List ℕ). (more : List ℕ) → Refuses is.0.beginning (r ++ more) fault.1) is.1 found.2)
+
+-- nothing is taken where a line was faulty before
+faulty_at : (due : Due) → ((IsAtFault due → ⊥) → ⊥) → IsAtFault due
+faulty_at (Due.Refused line refusal text) some = tt
+faulty_at due some = absurd (some (λ fault. fault))
+
+no_bytes : (given : List ℕ) (n : ℕ) → n ≤ length given → take n given ≡ [] → n ≡ 0
+no_bytes given zero few none = refl
+no_bytes [] (suc n) few none = absurd (omega (arith, few))
+no_bytes (b ∷ given) (suc n) few none = cc
+
+none_taken : (old new : Stage) (given : List ℕ) (n : ℕ) (before : List ℕ) → n ≤ length given
+    → StopsAt old (take n given) (drop n given) Fault new → Follows unread before old → (BeginsWhole before → ⊥) → n ≡ 0
+none_taken old new given n before few (middle, goes, faults) read some =
+    let is = faulty_at old.due (λ clear. some (begins before old (reached before old read) clear)) in
+    no_bytes given n few (fault_goes old (take n given) middle is goes)
 
 -- the states of a call
 stop_of : (stop wanted : Stop) → state_at stop ≡ state_at wanted → stop ≡ wanted
@@ -76,10 +93,14 @@ took_lines given held after old new answer is now takes =
           (faults_at stop.0 rest (stage_of new) stop.2);
       faulty = λ two bytes holds. refused_after (stage_of old) (stage_of new) front rest bytes (at Fault two)
           (held_taken held bytes holds old is);
+      faulty_before = λ two bytes holds. none_taken (stage_of old) (stage_of new) given answer.bytes bytes takes.few (at Fault two)
+          (held_taken held bytes holds old is);
       no_memory = λ three bytes holds.
           let stop = at NoMemory three in
           let same = append_assoc bytes front rest ∙ ap (λ (g : List ℕ). bytes ++ g) (take-append-drop answer.bytes given) in (
+            spelling stop.2.line,
             stop.1,
+            line_is stop.2.line rest stop.1 stop.2.begins,
             subst (λ (b : List ℕ). MayLackMemory b stop.1) same
                 (lacks_memory (bytes ++ front) rest stop.1 (stage_of new) (read bytes front holds (inl stop.0)) stop.2),
           );

@@ -1,12 +1,12 @@
 -- What a handle of C holds, and what the calls on it answer (this profile's own, as are all below).
 use Rattle.std.specs.Prelude.{◌≡◌, ◌≢◌, ◌<◌, ◌≤◌, ◌↔◌, ◌*◌, ℕ, length, drop, take, List, [], ◌∷◌, ◌++◌, Option, None}
-use Rattle.std.specs.Prelude.{Some}
+use Rattle.std.specs.Prelude.{Bool, Some}
 use denote.RattleType.{RattleType}
 use Rattle.cap_word.specs.declared.word.Cap.{Cap}
 use Rattle.cap_ops.specs.declared.refusal.Refusal.{Refusal}
 use Rattle.cap_log.specs.declared.lines.{Line.Line, Place.{Place, TheVariants.{Register, Granule}}}
 use Rattle.cap_log.specs.Lines.{IsInRange, spelling}
-use Rattle.cap_streams.specs.Front.{IsCut}
+use Rattle.cap_streams.specs.Front.{IsCut, IsLine}
 use Rattle.tagmem.specs.contracts.page_store.{PageStore.the_row as store_row, PageStoreTaggedStore.TheImpl.ghosts}
 use Rattle.cap_machine.specs.States.{State}
 use Rattle.cap_judge.specs.declared.verdict.{Expected.{Expected, TheVariants.{Capability, Number}}, Verdict.Verdict}
@@ -42,6 +42,10 @@ pub record Holds (held : HeldJudge) (bytes : List ℕ) : Type 0 where
 abbrev pub state_behind : {held : HeldJudge} {bytes : List ℕ} → Holds held bytes → State
 state_behind holds = (stage_of holds.judge).account.state
 
+-- whether a place of it holds a tagged capability
+abbrev pub tag_behind : {held : HeldJudge} {bytes : List ℕ} → Holds held bytes → ℕ → Bool
+tag_behind holds key = let cap = state_behind holds key in cap.tag
+
 -- what a call answers that hands over a step: where the step's line is in range, what the call answers that hands over
 -- that line; else that it is none
 pub record HandsOver (line : Line) (old new : HeldJudge) (state : ℕ) : Type 0 where
@@ -64,9 +68,9 @@ IsRefusedAfter front rest =
     × ((more : List ℕ) → Refuses beginning (rest ++ more) refusal)
 
 -- what a call answers that hands over as many whole lines as some bytes begin with: how many bytes were taken; and that
--- no line so far is faulty, and less than a line is left; that a line is faulty, the next one unless it was an earlier
--- one; that memory ran out at the next line, which may be handed over again with all after it; or that there is no
--- judge
+-- no line so far is faulty, and less than a line is left; that a line is faulty, the next one, or an earlier one, and
+-- then no bytes were taken; that memory ran out at the next line, which names a granule for the first time and may be
+-- handed over again with all after it; or that there is no judge
 pub record HandsOverLines (given : List ℕ) (old new : HeldJudge) (answer : LinesTaken) : Type 0 where
   pub few : answer.bytes ≤ length given
   pub answers : answer.state < 5
@@ -78,7 +82,9 @@ pub record HandsOverLines (given : List ℕ) (old new : HeldJudge) (answer : Lin
   pub at_fault : answer.state ≡ 2 → (bytes : List ℕ) → Holds old bytes → BeginsWhole (bytes ++ given) → ⊥
   pub faulty : answer.state ≡ 2 → (bytes : List ℕ) → Holds old bytes → BeginsWhole bytes
       → IsRefusedAfter (bytes ++ take answer.bytes given) (drop answer.bytes given)
-  pub no_memory : answer.state ≡ 3 → (bytes : List ℕ) → Holds old bytes → (more : List ℕ) × MayLackMemory (bytes ++ given) more
+  pub faulty_before : answer.state ≡ 2 → (bytes : List ℕ) → Holds old bytes → (BeginsWhole bytes → ⊥) → answer.bytes ≡ 0
+  pub no_memory : answer.state ≡ 3 → (bytes : List ℕ) → Holds old bytes
+      → (line : List ℕ) × (more : List ℕ) × IsLine (drop answer.bytes given) line more × MayLackMemory (bytes ++ given) more
   pub no_judge : (answer.state ≡ 4) ↔ (old ≡ None)
   pub nothing : old ≡ None → answer.bytes ≡ 0
   pub held : (new ≡ None) ↔ (old ≡ None)

@@ -1,11 +1,11 @@
 //! What the machine of an open judge holds, and what it gives.
 
-ghost use Rattle.std.specs.Prelude.{◌≡◌, ◌≢◌, ◌⊎◌, ◌<◌, ◌≤◌, ◌/◌, ℕ, IfSome, List, None, Some};
+ghost use Rattle.std.specs.Prelude.{◌≡◌, ◌≢◌, ◌⊎◌, ◌↔◌, ◌<◌, ◌≤◌, ◌/◌, ℕ, IfSome, IsTrue, List, None, Some};
 ghost use Rattle.cap_log.specs.{declared.lines.Place.TheVariants.{Register, Granule}, Lines.IsPlace};
 ghost use Rattle.cap_machine.specs.States.{granule_key};
 ghost use Rattle.cap_halves.specs.Passed.{cap_of, no_cap};
 ghost use Rattle.capcheck_judge.specs.Handles.{AnswersExpected, Holds, IsGiven, IsPassed, held_in, origin_behind};
-ghost use Rattle.capcheck_judge.specs.Handles.{state_behind};
+ghost use Rattle.capcheck_judge.specs.Handles.{state_behind, tag_behind};
 
 use crate::answers::{OptionalCap, PassedExpected, PassedPlace};
 use crate::handle::Handle;
@@ -30,6 +30,7 @@ pub extern "C" fn capcheck_judge_register(
 ) -> OptionalCap
     ensures register { number ≤ 31 → (bytes : List ℕ) → (holds : Holds (held_in judge.old) bytes)
         → (result.present ≡ 1) × (cap_of result.cap ≡ state_behind holds number) }
+    ensures zero { number ≡ 0 → cap_of result.cap ≡ no_cap }
     ensures tag { result.cap.tag ≤ 1 }
     ensures none { (31 < number) ⊎ (held_in judge.old ≡ None) → (result.present ≡ 0) × (cap_of result.cap ≡ no_cap) }
     ensures kept { held_in judge.new ≡ held_in judge.old }
@@ -84,6 +85,12 @@ pub extern "C" fn capcheck_judge_origin(
         → (holds : Holds (held_in judge.old) bytes) → IsPassed (origin_behind holds place.number) result }
     ensures granule { place.kind ≡ 2 → (bytes : List ℕ) → (holds : Holds (held_in judge.old) bytes)
         → IsPassed (origin_behind holds (granule_key (place.number / 16))) result }
+
+    // There is one exactly if the place holds a tagged capability.
+    ensures register_tag { place.kind ≡ 1 → 1 ≤ place.number → place.number ≤ 31 → (bytes : List ℕ)
+        → (holds : Holds (held_in judge.old) bytes) → (result.kind ≢ 0) ↔ IsTrue (tag_behind holds place.number) }
+    ensures granule_tag { place.kind ≡ 2 → (bytes : List ℕ) → (holds : Holds (held_in judge.old) bytes)
+        → (result.kind ≢ 0) ↔ IsTrue (tag_behind holds (granule_key (place.number / 16))) }
     ensures no_place { (place.kind ≢ 1) × (place.kind ≢ 2) → IsPassed None result }
     ensures no_register { (place.kind ≡ 1) × ((place.number ≡ 0) ⊎ (31 < place.number)) → IsPassed None result }
     ensures no_judge { held_in judge.old ≡ None → IsPassed None result }

@@ -7,7 +7,8 @@ ghost use Rattle.std.specs.Prelude.{◌≡◌, ◌⊎◌, [], ◌∷◌, ◌++�
 ghost use Rattle.cap_log.specs.Lines.{spelling};
 ghost use Rattle.cap_log.specs.declared.lines.Line.TheVariants as line;
 ghost use Rattle.cap_judge.specs.Readings.{IsUnmade};
-ghost use Rattle.cap_halves.specs.PassedSteps as steps;
+ghost use Rattle.cap_log.specs.declared.kinds.Step.TheVariants as steps;
+ghost use Rattle.cap_halves.specs.PassedSteps.{authorized_passed, data_passed, lc_passed, numbered_passed, plain_passed, sc_passed};
 ghost use Rattle.capcheck_judge.specs.{Handles.{HandsOver, held_in}, Takings.TakesLine};
 
 use crate::handle::Handle;
@@ -32,7 +33,7 @@ pub extern "C" fn capcheck_judge_move(
     source: u64,
     recorded: Capability,
 ) -> u8
-    ensures step { HandsOver (line.Step (steps.move_passed target source recorded)) (held_in judge.old) (held_in judge.new) result }
+    ensures step { HandsOver (line.Step (steps.Move (plain_passed target source recorded))) (held_in judge.old) (held_in judge.new) result }
 {
     hand_over::<Move>(alloc, judge, (target, source, from_c(recorded)))
 }
@@ -46,7 +47,7 @@ pub extern "C" fn capcheck_judge_cleartag(
     source: u64,
     recorded: Capability,
 ) -> u8
-    ensures step { HandsOver (line.Step (steps.cleartag_passed target source recorded)) (held_in judge.old) (held_in judge.new) result }
+    ensures step { HandsOver (line.Step (steps.ClearTag (plain_passed target source recorded))) (held_in judge.old) (held_in judge.new) result }
 {
     hand_over::<ClearTag>(alloc, judge, (target, source, from_c(recorded)))
 }
@@ -61,7 +62,7 @@ pub extern "C" fn capcheck_judge_setbounds(
     length: u64,
     recorded: Capability,
 ) -> u8
-    ensures step { HandsOver (line.Step (steps.setbounds_passed target source length recorded)) (held_in judge.old) (held_in judge.new) result }
+    ensures step { HandsOver (line.Step (steps.SetBounds (numbered_passed target source length recorded))) (held_in judge.old) (held_in judge.new) result }
 {
     hand_over::<SetBounds>(alloc, judge, (target, source, length, from_c(recorded)))
 }
@@ -76,7 +77,7 @@ pub extern "C" fn capcheck_judge_setboundsexact(
     length: u64,
     recorded: Capability,
 ) -> u8
-    ensures step { HandsOver (line.Step (steps.setboundsexact_passed target source length recorded)) (held_in judge.old) (held_in judge.new) result }
+    ensures step { HandsOver (line.Step (steps.SetBoundsExact (numbered_passed target source length recorded))) (held_in judge.old) (held_in judge.new) result }
 {
     hand_over::<SetBoundsExact>(alloc, judge, (target, source, length, from_c(recorded)))
 }
@@ -91,7 +92,7 @@ pub extern "C" fn capcheck_judge_setaddr(
     address: u64,
     recorded: Capability,
 ) -> u8
-    ensures step { HandsOver (line.Step (steps.setaddr_passed target source address recorded)) (held_in judge.old) (held_in judge.new) result }
+    ensures step { HandsOver (line.Step (steps.SetAddr (numbered_passed target source address recorded))) (held_in judge.old) (held_in judge.new) result }
 {
     hand_over::<SetAddr>(alloc, judge, (target, source, address, from_c(recorded)))
 }
@@ -106,7 +107,7 @@ pub extern "C" fn capcheck_judge_andperm(
     mask: u64,
     recorded: Capability,
 ) -> u8
-    ensures step { HandsOver (line.Step (steps.andperm_passed target source mask recorded)) (held_in judge.old) (held_in judge.new) result }
+    ensures step { HandsOver (line.Step (steps.AndPerm (numbered_passed target source mask recorded))) (held_in judge.old) (held_in judge.new) result }
 {
     hand_over::<AndPerm>(alloc, judge, (target, source, mask, from_c(recorded)))
 }
@@ -121,7 +122,7 @@ pub extern "C" fn capcheck_judge_seal(
     authority: u64,
     recorded: Capability,
 ) -> u8
-    ensures step { HandsOver (line.Step (steps.seal_passed target source authority recorded)) (held_in judge.old) (held_in judge.new) result }
+    ensures step { HandsOver (line.Step (steps.Seal (authorized_passed target source authority recorded))) (held_in judge.old) (held_in judge.new) result }
 {
     hand_over::<Seal>(alloc, judge, (target, source, authority, from_c(recorded)))
 }
@@ -136,7 +137,7 @@ pub extern "C" fn capcheck_judge_unseal(
     authority: u64,
     recorded: Capability,
 ) -> u8
-    ensures step { HandsOver (line.Step (steps.unseal_passed target source authority recorded)) (held_in judge.old) (held_in judge.new) result }
+    ensures step { HandsOver (line.Step (steps.Unseal (authorized_passed target source authority recorded))) (held_in judge.old) (held_in judge.new) result }
 {
     hand_over::<Unseal>(alloc, judge, (target, source, authority, from_c(recorded)))
 }
@@ -151,7 +152,7 @@ pub extern "C" fn capcheck_judge_lc(
     offset: i64,
     recorded: Capability,
 ) -> u8
-    ensures step { HandsOver (line.Step (steps.lc_passed target authority offset recorded)) (held_in judge.old) (held_in judge.new) result }
+    ensures step { HandsOver (line.Step (steps.LoadCap (lc_passed target authority offset recorded))) (held_in judge.old) (held_in judge.new) result }
 {
     hand_over::<LoadCap>(alloc, judge, (target, authority, offset, from_c(recorded)))
 }
@@ -165,7 +166,7 @@ pub extern "C" fn capcheck_judge_sc(
     authority: u64,
     offset: i64,
 ) -> u8
-    ensures step { HandsOver (line.Step (steps.sc_passed source authority offset)) (held_in judge.old) (held_in judge.new) result }
+    ensures step { HandsOver (line.Step (steps.StoreCap (sc_passed source authority offset))) (held_in judge.old) (held_in judge.new) result }
 {
     hand_over::<StoreCap>(alloc, judge, (source, authority, offset))
 }
@@ -180,7 +181,7 @@ pub extern "C" fn capcheck_judge_load(
     size: u64,
     value: u64,
 ) -> u8
-    ensures step { HandsOver (line.Step (steps.load_passed authority offset size value)) (held_in judge.old) (held_in judge.new) result }
+    ensures step { HandsOver (line.Step (steps.Load (data_passed authority offset size value))) (held_in judge.old) (held_in judge.new) result }
 {
     hand_over::<Load>(alloc, judge, (authority, offset, size, value))
 }
@@ -195,7 +196,7 @@ pub extern "C" fn capcheck_judge_store(
     size: u64,
     value: u64,
 ) -> u8
-    ensures step { HandsOver (line.Step (steps.store_passed authority offset size value)) (held_in judge.old) (held_in judge.new) result }
+    ensures step { HandsOver (line.Step (steps.Store (data_passed authority offset size value))) (held_in judge.old) (held_in judge.new) result }
 {
     hand_over::<Store>(alloc, judge, (authority, offset, size, value))
 }

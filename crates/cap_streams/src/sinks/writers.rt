@@ -21,11 +21,12 @@ pub struct WriteSink<'a, W: Write> {
 impl<'a, W: Write> WriteSink<'a, W> {
     ghost use Rattle.cap_streams.specs.{Streams.CountsFault, Wrapped.{has_flushed, name_of_writer, writer_of}};
 
-    /// What is pushed goes to the writer. There were no faults.
+    /// What is pushed goes to the writer. There were no faults, and nothing was flushed.
     pub fn new(writer: &'a mut W) -> WriteSink<'a, W>
         ensures same_reference { name_of_writer result ≡ writer.entry.ghost_name }
         ensures writer { writer_of result ≡ writer.old }
         ensures faults { ⟦<WriteSink<'a, W> as Sink>⟧.faults result ≡ 0 }
+        ensures unflushed { has_flushed result ≡ false }
     {
         WriteSink {
             writer,

@@ -1,5 +1,6 @@
-use Rattle.std.proofs.Common.{◌+◌, ◌∙◌, List, ap, arith, drop, subst, sym, take, drop-drop, drop-set-lt, length-set}
-use Rattle.std.proofs.{Common.set, lemmas.List.take_more_set}
+use Rattle.std.proofs.Common.{◌+◌, ◌∙◌, ◌≤◌, List, ap, arith, drop, subst, sym, take, drop-drop, drop-set-lt, length-set}
+use Rattle.std.proofs.{Common.set, lemmas.List.{take_more_set, Elements.All-push}}
+use Rattle.std.specs.List.{All}
 use Rattle.cap_log.specs.{Lines.{IsInRange, spelling}, Parts.BeginsWithNone}
 use Rattle.capcheck_c.specs.{declared.values.LineRead.LineRead, LinesRead.ReadsLines}
 use Rattle.capcheck_c.proofs.ReadLemmas.{none_read, reads_more, rest_of}
@@ -23,6 +24,8 @@ loop-count-preserved c =
       read = subst (ReadsLines c.args.bytes.now (take (count + 1) (set lines count read))) (sym c.split_at.ensures.back)
           (subst (λ (l : List LineRead). ReadsLines c.args.bytes.now l (drop read.length c.loop-count.rest.now))
           (sym (take_more_set lines count read below)) more);
+      tags = subst (All (λ (line : LineRead). line.cap.tag ≤ 1)) (sym (take_more_set lines count read below))
+          (All-push (λ (line : LineRead). line.cap.tag ≤ 1) (take count lines) read before.tags c.capcheck_read_line-line.ensures.tag);
       after = after ∙ sym (drop-drop 1 count lines) ∙ ap (drop 1) before.after ∙ drop-drop 1 count c.args.lines.now;
     }
 

@@ -9,7 +9,7 @@ pub returns : goal.returns
 returns g c =
     let old = c.args.machine.now in
     let new = c.perform_by.new.machine in
-    let bytes = head_spelling g.I.Operands.head ++ 32 ∷ c.args.operands.now in
+    let bytes = head_spelling g.I.Operands.HEAD ++ 32 ∷ c.args.operands.now in
     let read = c.in_ok-instruction in
     let step = g.I.Operands.step read.instruction in
     let none = nil_from_length read.rest.now (search rules) in

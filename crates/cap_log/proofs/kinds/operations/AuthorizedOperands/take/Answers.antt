@@ -1,0 +1,6 @@
+use Rattle.std.proofs.Common.{not, eqb}
+use Rattle.cap_log.proofs.Shapes.{authorized_behind}
+use Rattle.cap_log.proofs.kinds.operations.AuthorizedOperands.take.Goals as goal
+
+pub take_parts-requires : goal.take_parts-requires
+take_parts-requires g c = rw c.HEAD.ensures (authorized_behind (not (eqb g.row.IS_UNSEALING 0)))
