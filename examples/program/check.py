@@ -182,14 +182,18 @@ def inputs(room):
         room.wants(f"{words}, a closed input", room.run(words, closed=[0]), fault)
     os.close(folder)
     for words in room.inputs:
-        room.wants(f"{words}, a folder by its name", room.run([*words, "."]), fault)
+        # capdiag names the folder.
+        told = fault if room.program == "capcheck" else (3, b"", room.fault("cannot open '.': is a directory"))
+        room.wants(f"{words}, a folder by its name", room.run([*words, "."]), told)
 
 
 def unopened(room):
     """A file that is there and may not be read, and one that can't be opened for another reason."""
     os.chmod(room.put("locked", YES), 0)
     room.put("log", YES)
-    reasons = [("gone", "no such file"), ("log/log", "the system refuses it"), ("locked", "permission denied")]
+    os.symlink("round", f"{room.folder}/round")
+    reasons = [("gone", "no such file"), ("log/log", "a part of the path is a file"), (".", "is a directory"),
+               ("round", "a circle of symbolic links"), ("locked", "permission denied")]
     if subprocess.run(["cat", f"{room.folder}/locked"], preexec_fn=obey_modes, capture_output=True).returncode == 0:
         print(f"left out: {room.program} on a file that may not be read, since here every file may be", file=sys.stderr)
         reasons.pop()

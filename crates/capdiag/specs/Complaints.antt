@@ -1,11 +1,12 @@
--- What the program says of words that spell no order, and of a file that cannot be opened. All of it is this profile's
+-- What the program says of words that spell no order, of a file that cannot be opened, and where it waits for a terminal. All of it is this profile's
 -- own.
 use Rattle.std.specs.Prelude.{◌≡◌, ◌⊎◌, ℕ, Bool, true, false, IsTrue, List, [], ◌∷◌, ◌++◌, take, codes}
 use Rattle.cap_texts.specs.ShownBytes.{shown}
 use Rattle.cap_program.specs.Words.{is_operand}
 use Rattle.capdiag.specs.declared.complaints.Complaint.{Complaint}
 use Rattle.capdiag.specs.declared.complaints.Complaint.TheVariants.{NoCommand, Command, Option, AfterFile, Together}
-use Rattle.capdiag.specs.declared.complaints.Unopened.{Unopened, TheVariants.{Missing, Denied, Other}}
+use Rattle.capdiag.specs.declared.complaints.Unopened.{Unopened}
+use Rattle.capdiag.specs.declared.complaints.Unopened.TheVariants.{Missing, Denied, Directory, Through, Long, Circle, Other}
 
 -- the options of heap, or of why
 abbrev pub IsKnown : Bool → List ℕ → Type 0
@@ -70,8 +71,16 @@ IsWordsLine words line =
 abbrev pub reason_text : Unopened → List ℕ
 reason_text Missing = codes "no such file"
 reason_text Denied = codes "permission denied"
+reason_text Directory = codes "is a directory"
+reason_text Through = codes "a part of the path is a file"
+reason_text Long = codes "the name is too long"
+reason_text Circle = codes "a circle of symbolic links"
 reason_text Other = codes "the system refuses it"
 
 -- the line that says that a file cannot be opened
 unfoldable pub unopened_line : List ℕ → Unopened → List ℕ
 unopened_line path reason = codes "capdiag: cannot open " ++ quoted path ++ codes ": " ++ reason_text reason ++ codes "\n"
+
+-- the line that says that a log is read from the terminal
+abbrev pub waiting_line : List ℕ
+waiting_line = codes "capdiag: reading a log from the terminal; Ctrl-D ends it\n"

@@ -1,10 +1,10 @@
-//! What the program says of words that spell no order, and of a file that cannot be opened.
+//! What the program says of words that spell no order, of a file that cannot be opened, and where it waits for a terminal.
 
 ghost use Rattle.std.specs.Prelude.{◌≡◌, ℕ, List, ◌+◌, ◌≤◌, ◌↔◌, IsTrue, length, map, take};
 ghost use Rattle.cap_streams.specs.Written.{Writes};
 ghost use Rattle.cap_program.specs.Doings.{IsPushed};
 ghost use Rattle.capdiag.specs.Complaints.{IsComplaint, IsKnown, IsOperandComplaint, IsWordsLine, complaint_line};
-ghost use Rattle.capdiag.specs.Complaints.{front_text, quoted, reason_text, subject, unopened_line};
+ghost use Rattle.capdiag.specs.Complaints.{front_text, quoted, reason_text, subject, unopened_line, waiting_line};
 
 use cap_log::buffers::put;
 use cap_log::{Sink, push_all};
@@ -33,6 +33,14 @@ pub enum Unopened {
     Missing,
     /// The user may not read it.
     Denied,
+    /// It is a directory.
+    Directory,
+    /// A part of its path is a file.
+    Through,
+    /// Its name or a part of its path is too long.
+    Long,
+    /// Its symbolic links lead round in a circle.
+    Circle,
     /// Any other reason.
     Other,
 }
@@ -94,6 +102,16 @@ fn put_unopened(path: &str, reason: Unopened, buffer: &mut [u8; 512]) -> usize
     let at = put(buffer, at, b": ");
     let at = put(buffer, at, reason_text(reason));
     put(buffer, at, b"\n")
+}
+
+/// Pushes the line that says that a log is read from the terminal. Where the sink fails it took a beginning of the line.
+pub fn tell_waiting<F: Sink>(faults: &mut F)
+    ensures told { IsPushed F.took F.faults faults.old faults.new waiting_line }
+{
+    let _pushed = push_all(
+        faults,
+        b"capdiag: reading a log from the terminal; Ctrl-D ends it\n",
+    );
 }
 
 // Writes the first 64 bytes of a word in quotes.
@@ -189,6 +207,10 @@ fn reason_text(reason: Unopened) -> &'static [u8]
     match reason {
         Unopened::Missing => b"no such file",
         Unopened::Denied => b"permission denied",
+        Unopened::Directory => b"is a directory",
+        Unopened::Through => b"a part of the path is a file",
+        Unopened::Long => b"the name is too long",
+        Unopened::Circle => b"a circle of symbolic links",
         Unopened::Other => b"the system refuses it",
     }
 }

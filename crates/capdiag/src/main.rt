@@ -12,7 +12,7 @@ mod runs;
 mod tests;
 mod words;
 
-pub use crate::complaints::{Unopened, tell_unopened, tell_words};
+pub use crate::complaints::{Unopened, tell_unopened, tell_waiting, tell_words};
 pub use crate::runs::run;
 pub use crate::words::{Order, read_words};
 use cap_log::WriteSink;
@@ -20,7 +20,7 @@ pub use cap_program::carry_out;
 use cap_program::{Fault, collect_words, exit_status, tell};
 use std::alloc::AllocError;
 use std::fs::File;
-use std::io::ErrorKind;
+use std::io::{ErrorKind, IsTerminal};
 use std::process::ExitCode;
 
 fn main(rt: HostRuntime) -> ExitCode {
@@ -51,15 +51,41 @@ fn answer(rt: &HostRuntime) -> Result<u8, AllocError> {
     };
     let (out, errors) = (&mut rt.stdout(), &mut rt.stderr());
     Ok(match file_of(order) {
-        Some(path) => match File::open(rt, path) {
+        Some(path) => match open(rt, path) {
             Ok(file) => run(rt.alloc(), Some(order), Some(file), out, errors),
-            Err(error) => {
-                tell_unopened(path, reason_of(error.kind()), &mut WriteSink::new(errors));
+            Err(reason) => {
+                tell_unopened(path, reason, &mut WriteSink::new(errors));
                 Fault::Read.status()
             }
         },
-        None => run(rt.alloc(), Some(order), Some(rt.stdin()), out, errors),
+        None => {
+            let input = rt.stdin();
+            if reads_log(order) && input.is_terminal() {
+                tell_waiting(&mut WriteSink::new(errors));
+            }
+            run(rt.alloc(), Some(order), Some(input), out, errors)
+        }
     })
+}
+
+// Opens a file that is no directory.
+fn open(rt: &HostRuntime, path: &str) -> Result<File, Unopened> {
+    let file = match File::open(rt, path) {
+        Ok(file) => file,
+        Err(error) => return Err(reason_of(error.kind())),
+    };
+    match file.metadata() {
+        Ok(found) if found.is_dir() => Err(Unopened::Directory),
+        _ => Ok(file),
+    }
+}
+
+// Whether an order judges a log.
+fn reads_log(order: Order) -> bool {
+    match order {
+        Order::Why { .. } | Order::Heap { .. } => true,
+        Order::Help | Order::Version => false,
+    }
 }
 
 // The file that an order names.
@@ -75,6 +101,9 @@ fn reason_of(kind: ErrorKind) -> Unopened {
     match kind {
         ErrorKind::NotFound => Unopened::Missing,
         ErrorKind::PermissionDenied => Unopened::Denied,
+        ErrorKind::NotADirectory => Unopened::Through,
+        ErrorKind::InvalidFilename => Unopened::Long,
+        ErrorKind::FilesystemLoop => Unopened::Circle,
         _ => Unopened::Other,
     }
 }
