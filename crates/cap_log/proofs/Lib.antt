@@ -1,14 +1,14 @@
-mod Cuts
+pub mod Cuts
 mod Decimals
 pub mod DecidedLines
 pub mod ElementLemmas
 mod FewLemmas
 mod OffsetLemmas
-mod OperandLemmas
-mod PartLemmas
+pub mod OperandLemmas
+pub mod PartLemmas
 mod RegisterLemmas
-mod Searches
-mod Shapes
+pub mod Searches
+pub mod Shapes
 mod SizedLemmas
 pub mod SpellingLemmas
 mod TakeLemmas

@@ -29,11 +29,12 @@ mod writers;
 pub use crate::kinds::{Head, Step, take_operands};
 pub use crate::lines::{Line, Mode, Place};
 pub use crate::operands::Operands;
-pub use crate::parts::Part;
-pub use crate::parts::fronts::are_four;
+pub use crate::parts::decimals::take_decimal;
+pub use crate::parts::fronts::{are_four, strip_word};
 pub use crate::parts::offsets::Offset;
 pub use crate::parts::registers::{Register, Target};
 pub use crate::parts::sized::{Datum, Size};
+pub use crate::parts::{Part, Single};
 pub use crate::readers::{read_line, spellings_are_distinct, take_line};
 pub use crate::writers::{write_line, write_place, write_step};
 pub use cap_streams::{

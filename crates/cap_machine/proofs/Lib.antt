@@ -3,6 +3,7 @@ pub mod StepLemmas
 pub mod AuthorityLemmas
 pub mod AccessLemmas
 mod GranuleLemmas
+pub mod LabelLemmas
 mod StateLemmas
 mod CodeLemmas
 mod RootLemmas

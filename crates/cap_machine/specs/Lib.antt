@@ -10,3 +10,4 @@ pub mod RunAccounts
 pub mod Escapes
 pub mod Origins
 pub mod Shown
+pub mod Labels

@@ -1,13 +1,13 @@
 //! The machine: registers and tagged memory, with counts of its roots and steps. What it holds, how roots are
 //! declared and steps are made, and its accesses to memory.
 
-ghost use Rattle.std.specs.Prelude.{◌≡◌, ◌↔◌, ◌<◌, ◌≤◌, ◌+◌, ◌/◌, ◌%◌, ◌^◌, not, is_some, MatchResult, OnOk, OnErr};
+ghost use Rattle.std.specs.Prelude.{◌≡◌, ◌↔◌, ◌<◌, ◌≤◌, ◌+◌, ◌-◌, ◌/◌, ◌%◌, ◌^◌, not, is_some, MatchResult, OnOk, OnErr};
 ghost use Rattle.std.specs.Prelude.{IfSome, IfOk, IsTrue, None, Err, true, false};
 ghost use Rattle.std.specs.FinMap as map;
 ghost use Rattle.cap_word.specs.Memory.{low_bytes, memory_of};
 ghost use Rattle.cap_bounds.specs.Bounds.{IsSound};
 ghost use Rattle.cap_ops.specs.{Checks.first_of, Sizes.size_fits};
-ghost use Rattle.cap_log.specs.Lines.{IsPlace, IsStepInRange};
+ghost use Rattle.cap_log.specs.Lines.{IsPlace, IsStepInRange, IsTarget};
 ghost use Rattle.tagmem.specs.Granules.{AreStored, HasRoom, IsCodeFor, IsNextPut, bytes_at, with_bytes};
 ghost use Rattle.tagmem.specs.Granules.{with_cap};
 ghost use Rattle.cap_machine.specs.Accounts.{granule_of, is_new, no_account, passes_granule_limit, root_checks};
@@ -17,7 +17,7 @@ ghost use Rattle.cap_machine.specs.{Escapes.{ClearsBeyond, Escapes}, Helds.{Answ
 ghost use Rattle.cap_machine.specs.Helds.{TakesRoot, account_of, code_in, state_of};
 ghost use Rattle.cap_machine.specs.{Parents.{IsSoundCap, StaysWithinParents}, Places.{IsCoded, place_at}};
 ghost use Rattle.cap_machine.specs.{Shown.{IsShown, shown_of}, States.{granule_key, key_of, untagged_null, value_at}};
-ghost use Rattle.cap_machine.specs.Steps.{address_through, row_of};
+ghost use Rattle.cap_machine.specs.{Labels.{filled, labelled, placed_with, with_label, with_labelled_root}, Steps.{address_through, row_of}};
 
 use crate::ends::StepEnd;
 use crate::instructions::{make, show};
@@ -342,6 +342,91 @@ impl<M: TaggedStore> Machine<M> {
         ensures in_range { IsShown result }
     {
         show(step, self)
+    }
+
+    /// The label of what a place holds: its code, 0 exactly where it has no tag. A code is a label that descent
+    /// carries on: a step gives a tagged result its parent's. `declare` labels a root with the key of its place.
+    #[inline(always)]
+    pub fn label(&self, place: Place) -> u64
+        requires { IsPlace place }
+        ensures label { result ≡ code_in self.now (key_of place) }
+        ensures coded { let cap = state_of self.now (key_of place) in IsCoded cap.tag result }
+    {
+        self.kept();
+        self.code(place)
+    }
+
+    /// Puts a capability with a label into a register, 1 to 31, and counts nothing.
+    #[inline(always)]
+    pub fn put_labelled(&mut self, target: u8, cap: Cap, label: u64)
+        requires target { IsTarget target }
+        requires sound { IsSoundCap cap }
+        requires coded { IsCoded cap.tag label }
+        ensures held { self.new ≡ with_label self.old target cap label }
+        ensures account { account_of self.new ≡ labelled (account_of self.old) target cap label }
+    {
+        overwrite(&mut self.registers[target as usize], cap);
+        self.codes[target as usize] = label;
+    }
+
+    /// Puts a capability with a label into a granule and counts a step, or refuses it as `LimitPassed`. `NoMemory` comes
+    /// only at a granule named for the first time. After an error nothing has changed.
+    pub fn fill(&mut self, granule: u64, cap: Cap, label: u64) -> Result<(), StepEnd>
+        requires in_memory { granule < 2 ^ 60 }
+        requires sound { IsSoundCap cap }
+        requires coded { IsCoded cap.tag label }
+        ensures outcome { AnswersPut self.old granule (with_cap_put self.old granule cap label) result self.new }
+        ensures account { OnOk result (account_of self.new ≡ filled (account_of self.old) granule cap label) }
+    {
+        self.put_counted(granule, cap, label)
+    }
+
+    /// Counts a step that changes nothing here.
+    #[inline(always)]
+    pub fn count_step(&mut self)
+        requires { self.old.steps < 2 ^ 32 - 1 }
+        ensures held { self.new ≡ record self.old { steps = self.old.steps + 1 } }
+    {
+        self.steps += 1;
+    }
+
+    /// Puts a root at its place as `declare` does, but with a label of the caller's.
+    pub fn declare_labelled(&mut self, place: Place, word: Word, label: u64) -> Result<(), StepEnd>
+        requires in_range { IsPlace place }
+        requires coded { IsCoded true label }
+        ensures outcome { MatchResult result
+            (λ _. (first_of (root_checks (account_of self.old) place word) ≡ None)
+            × (account_of self.new ≡ with_labelled_root (account_of self.old) place word label))
+            (λ end. EndsRoot self.old place word end self.new) }
+    {
+        if let Some(refusal) = self.root_fault(place, word) {
+            return Err(StepEnd::Refused(refusal));
+        }
+        self.place_labelled(place, word, label)?;
+        let roots = &mut self.roots;
+        *roots += 1;
+        Ok(())
+    }
+
+    // Puts a root with a label into a place, and counts nothing. A refused put changes nothing.
+    fn place_labelled(&mut self, place: Place, word: Word, label: u64) -> Result<(), NoMemory>
+        requires in_range { IsPlace place }
+        requires coded { IsCoded true label }
+        requires room { passes_granule_limit (account_of self.old) (granule_of place) ≡ false }
+        requires sound { IsSound word.0 }
+        ensures ok { OnOk result (self.new ≡ placed_with self.old place word label) }
+        ensures err { OnErr result (self.new ≡ self.old) }
+        ensures only_new { OnErr result (IsTrue (is_new (account_of self.old) (granule_of place))) }
+    {
+        let root = Cap { tag: true, word };
+        match place {
+            Place::Register(number) => {
+                overwrite(&mut self.registers[number as usize], root);
+                self.codes[number as usize] = label;
+                Ok(())
+            }
+            Place::Granule(granule) => put_capability(&mut self.memory, granule, root, label),
+        }
     }
 
     // Ends a step that writes a register, from what its operation or access gave: refuses it, or writes what

@@ -1,6 +1,7 @@
 pub mod Accesses
 pub mod Authority
 pub mod Checks
+pub mod DerivedWords
 pub mod Operations
 pub mod Permissions
 pub mod Refusals

@@ -8,6 +8,7 @@ mod accesses;
 mod addresses;
 mod bits;
 mod clear_mode;
+mod derived_words;
 mod faults;
 mod kinds;
 mod narrowing;
@@ -27,6 +28,7 @@ pub use crate::bits::{
 pub use crate::clear_mode::{
     and_perm_clear, seal_clear, set_addr_clear, set_bounds_clear, unseal_clear,
 };
+pub use crate::derived_words::{DeriveFault, InvokeFault, SENTRY_TYPE, derive_fault, invoke_fault};
 pub use crate::faults::OpFault;
 pub use crate::kinds::Kind;
 pub use crate::narrowing::{set_bounds, set_bounds_soundly};

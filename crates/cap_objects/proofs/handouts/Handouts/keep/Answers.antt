@@ -1,0 +1,25 @@
+use Rattle.std.specs.BTreeMap as tree
+use Rattle.std.proofs.Common.{nat_cmp, arith, rules}
+use Rattle.cap_objects.specs.{HandoutsIn.objects_of, SlotsIn.present_in}
+use Rattle.cap_objects.proofs.KeptLemmas.{kept-added, of_ok, unnumbered}
+use Rattle.cap_objects.proofs.handouts.Handouts.keep.Goals as goal
+
+pub insert_keys-requires : goal.insert_keys-requires
+insert_keys-requires c =
+    let s = c.args.self.now in
+    record {
+      new_number = unnumbered s.keeps s.count (objects_of s) (tree.get nat_cmp s.numbers) (tree.get nat_cmp s.bases) s.kept c.args.object.number
+          (omega (arith, c.requires.next.0));
+    }
+
+pub invariant_of-self-2 : goal.invariant_of-self-2
+invariant_of-self-2 c =
+    let s = c.args.self.now in
+    let e = c.insert_keys.ensures in
+    record {
+      kept = kept-added s.keeps s.count (objects_of s) (tree.get nat_cmp s.numbers) (tree.get nat_cmp s.bases) s.kept c.in-Ok.slot
+          (present_in c.insert.new.self) c.args.object (tree.get nat_cmp c.insert_keys.new.numbers) (tree.get nat_cmp c.insert_keys.new.bases)
+          c.in-Ok.ensures.free c.in-Ok.ensures.ok c.requires.next.0 c.requires.next.1 c.requires.long c.requires.room
+          (of_ok c.insert_keys.result (search rules) e.ok) (of_ok c.insert_keys.result (search rules) e.ok_base)
+          (of_ok c.insert_keys.result (search rules) e.ok_short);
+    }

@@ -1,0 +1,6 @@
+-- What `Handouts` are seen as (this profile's own).
+use Rattle.cap_objects.specs.{declared.handouts.Handouts.Handouts, Extents.Objects, SlotsIn.present_in}
+
+-- the present objects by their slots
+abbrev pub objects_of : Handouts → Objects
+objects_of handouts = present_in handouts.slots

@@ -1,0 +1,6 @@
+-- What `Slots` are seen as (this profile's own).
+use Rattle.cap_objects.specs.{declared.slots.Slots.Slots, Extents.Objects, Indexes.object_at}
+
+-- the present objects by their slots
+abbrev pub present_in : Slots → Objects
+present_in slots = object_at slots.objects.items

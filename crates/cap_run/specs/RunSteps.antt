@@ -1,0 +1,115 @@
+-- What the steps of runs do (this profile's own).
+use Rattle.std.specs.Prelude.{◌≡◌, ℕ, ◌+◌, Bool, ◌==◌, nat_le, if◌then◌else◌, Option, Some, None, option_map}
+use Rattle.cap_word.specs.declared.word.{Cap.Cap, Word.Word}
+use Rattle.cap_ops.specs.declared.derived_words.DeriveFault.{DeriveFault, TheVariants.{SourceUntagged, UnsoundResult, BeyondSource, SealChanged}}
+use Rattle.cap_ops.specs.declared.derived_words.InvokeFault.{InvokeFault, TheVariants.{AuthorityUntagged, NotInvokable, WrongResult}}
+use Rattle.cap_ops.specs.declared.refusal.Refusal as usual
+use Rattle.cap_ops.specs.{Checks.first_of, DerivedWords.{derive_checks, invoke_checks}}
+use Rattle.cap_machine.specs.{Accounts.most_steps, Helds.Held, Labels.untagged, States.{put, tagged}}
+use Rattle.cap_objects.specs.{Counts.at_key, Handed.IsRecounted}
+use Rattle.cap_run.specs.declared.{ends.{RunEnd.{RunEnd, TheVariants.Refused}, RunRefusal.RunRefusal}, places.RunRegister.{RunRegister, TheVariants.{General, Special}}}
+use Rattle.cap_run.specs.declared.ends.RunRefusal.TheVariants as refusals
+use Rattle.cap_run.specs.{Owned.owner_for, Run.{Run, first_special, register_key}}
+
+-- the refusal that a failed check of a derivation is
+abbrev pub derive_refusal : DeriveFault → RunRefusal
+derive_refusal SourceUntagged = refusals.Usual usual.TheVariants.SourceUntagged
+derive_refusal UnsoundResult = refusals.UnsoundResult
+derive_refusal BeyondSource = refusals.BeyondSource
+derive_refusal SealChanged = refusals.SealChanged
+
+-- that of a failed check of an invocation
+abbrev pub invoke_refusal : InvokeFault → RunRefusal
+invoke_refusal AuthorityUntagged = refusals.Usual usual.TheVariants.AuthorityUntagged
+invoke_refusal NotInvokable = refusals.NotInvokable
+invoke_refusal WrongResult = refusals.Usual usual.TheVariants.WrongResult
+
+-- whether a register is PCC: there alone a sentry opens
+abbrev pub is_pcc : RunRegister → Bool
+is_pcc register = register_key register == first_special
+
+-- why a register can't get what is derived from a source: no check where it has no tag
+abbrev pub derived_refusal : RunRegister → Cap → Cap → Option RunRefusal
+derived_refusal target source result =
+    if result.tag then option_map derive_refusal (first_of (derive_checks source result.word.0 (is_pcc target))) else None
+
+-- why a pair can't be invoked
+abbrev pub invoked_refusal : Cap → Cap → Word → Word → Option RunRefusal
+invoked_refusal code data_cap code_word data_word =
+    option_map invoke_refusal (first_of (invoke_checks code data_cap code_word.0 data_word.0))
+
+-- the first of two refusals, the later of which may never come
+abbrev pub or_later : Option RunRefusal → Option RunRefusal → Option RunRefusal
+or_later None later = later
+or_later (Some refusal) later = Some refusal
+
+-- the refusal of one step more
+abbrev pub step_limit : Run → Option RunRefusal
+step_limit run = if nat_le most_steps run.steps then Some (refusals.Usual usual.TheVariants.LimitPassed) else None
+
+-- after a step that named no granule and handed out nothing
+pub record IsStepped (old new : Run) : Type 0 where
+  pub count : new.count ≡ old.count
+  pub rules : new.rules ≡ old.rules
+  pub roots : new.roots ≡ old.roots
+  pub steps : new.steps ≡ old.steps + 1
+  pub is_named : new.is_named ≡ old.is_named
+  pub granules : new.granules ≡ old.granules
+
+-- a step wrote a capability to a place, which then has an owner; objects that so come to be neither live nor held are gone
+pub record Writes (old : Run) (key : ℕ) (cap : Cap) (owner : Option ℕ) (new : Run) : Type 0 where
+  pub state : new.state ≡ put old.state key cap
+  pub owners : (other : ℕ) → new.owners other ≡ at_key old.owners key owner other
+  pub objects : IsRecounted old.objects new.objects
+  pub rest : IsStepped old new
+
+-- a step wrote to two places
+pub record WritesBoth (old : Run) (first : ℕ) (one : Cap) (one_owner : Option ℕ) (second : ℕ) (two : Cap) (two_owner : Option ℕ)
+    (new : Run) : Type 0 where
+  pub state : new.state ≡ put (put old.state first one) second two
+  pub owners : (other : ℕ) → new.owners other ≡ at_key (at_key old.owners first one_owner) second two_owner other
+  pub objects : IsRecounted old.objects new.objects
+  pub rest : IsStepped old new
+
+-- deriving: what is written has the owner of its source
+abbrev pub Derived : Run → RunRegister → RunRegister → Cap → Run → Type 0
+Derived old target source result new =
+    Writes old (register_key target) result (owner_for result (old.owners (register_key source))) new
+
+-- registers or special registers alone changed
+abbrev pub IsUnstepped : Held → Held → Type 0
+IsUnstepped old new =
+    (new.rules ≡ old.rules) × (new.memory ≡ old.memory) × (new.roots ≡ old.roots) × (new.steps ≡ old.steps)
+
+-- a step is refused as this, its first check that fails
+abbrev pub IsRefusedAs : Option RunRefusal → RunEnd → Type 0
+IsRefusedAs refusal end = option_map Refused refusal ≡ Some end
+
+-- why `derive` is refused
+abbrev pub derive_end : Run → RunRegister → RunRegister → Cap → Option RunRefusal
+derive_end old target source recorded = or_later (derived_refusal target (old.state (register_key source)) recorded) (step_limit old)
+
+-- exchanging: both sources are read before, and the checks of the first come first
+abbrev pub exchange_end : Run → ℕ → ℕ → ℕ → Cap → Cap → Option RunRefusal
+exchange_end old target source number recorded special_recorded =
+    or_later (derived_refusal (General target) (old.state (register_key (Special number))) recorded)
+    (or_later (derived_refusal (Special number) (old.state source) special_recorded) (step_limit old))
+
+abbrev pub Exchanged : Run → ℕ → ℕ → ℕ → Cap → Cap → Run → Type 0
+Exchanged old target source number recorded special_recorded new =
+    WritesBoth old target recorded (owner_for recorded (old.owners (register_key (Special number))))
+    (register_key (Special number)) special_recorded (owner_for special_recorded (old.owners source)) new
+
+-- invoking a pair
+abbrev pub invoke_end : Run → ℕ → ℕ → Word → Word → Option RunRefusal
+invoke_end old code data_register code_word data_word =
+    or_later (invoked_refusal (old.state code) (old.state data_register) code_word data_word) (step_limit old)
+
+abbrev pub Invoked : Run → ℕ → ℕ → Word → Word → Run → Type 0
+Invoked old code data_register code_word data_word new =
+    WritesBoth old (register_key (Special 0)) (tagged code_word) (owner_for (tagged code_word) (old.owners code))
+    31 (tagged data_word) (owner_for (tagged data_word) (old.owners data_register)) new
+
+-- dropping: the tag of a place goes, its word stays
+abbrev pub Dropped : Run → ℕ → Run → Type 0
+Dropped old key new = Writes old key (untagged (old.state key)) None new

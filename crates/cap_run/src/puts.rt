@@ -1,0 +1,140 @@
+//! Writing registers of a run, with their labels.
+
+ghost use Rattle.std.specs.Prelude.{◌≡◌, ◌≢◌, ◌<◌, ◌-◌, ◌+◌, ◌^◌, ℕ, IsTrue, true};
+ghost use Rattle.cap_ops.specs.Authority.{StaysWithin};
+ghost use Rattle.cap_machine.specs.{Helds.code_in, Parents.IsSoundCap, Places.{IsCoded, place_at}, States.put};
+ghost use Rattle.cap_objects.specs.Counts.{at_key};
+ghost use Rattle.cap_run.specs.{Owned.{is_empty, object_by, owner_for}, Run.{IsSource, IsTargetOf, register_key}};
+ghost use Rattle.cap_run.specs.{RunOf.{run_of, run_owners, run_state}, RunSteps.{IsUnstepped, Writes, WritesBoth}};
+
+use crate::places::RunRegister;
+use crate::run_machine::{RunMachine, slot_by};
+use crate::specials::Specials;
+use cap_bounds::bounds;
+use cap_machine::Machine;
+use cap_objects::{recount, recount_both};
+use cap_word::{Cap, Word};
+use tagmem::TaggedStore;
+
+// Puts a capability with a label into a register.
+pub(crate) fn put_at<M: TaggedStore>(
+    machine: &mut Machine<M>,
+    specials: &mut Specials,
+    target: RunRegister,
+    cap: Cap,
+    label: u64,
+)
+    requires target { IsTargetOf target }
+    requires sound { IsSoundCap cap }
+    requires coded { IsCoded cap.tag label }
+    ensures state { run_state machine.new specials.new ≡ put (run_state machine.old specials.old) (register_key target) cap }
+    ensures owners { (other : ℕ) → run_owners machine.new specials.new other
+        ≡ at_key (run_owners machine.old specials.old) (register_key target) (object_by (place_at label)) other }
+    ensures rest { IsUnstepped machine.old machine.new }
+{
+    match target {
+        RunRegister::General(number) => machine.put_labelled(number, cap, label),
+        RunRegister::Special(number) => specials.put(number, cap, label),
+    }
+}
+
+// Whether the bounds of a word hold no address.
+#[inline(always)]
+fn is_empty(word: Word) -> bool
+    ensures { result ≡ is_empty word.0 }
+{
+    let bounds = bounds(word);
+    u128::from(bounds.base) >= bounds.top
+}
+
+// The label of what is written, where its parent place has this one: what has no tag has none, and empty bounds have
+// no owner.
+#[inline(always)]
+pub(crate) fn label_for(cap: Cap, label: u64) -> u64
+    requires { IsTrue cap.tag → IsCoded true label }
+    ensures coded { IsCoded cap.tag result }
+    ensures owner { object_by (place_at result) ≡ owner_for cap (object_by (place_at label)) }
+{
+    if !cap.tag {
+        0
+    } else if is_empty(cap.word) {
+        1
+    } else {
+        label
+    }
+}
+
+impl<M: TaggedStore> RunMachine<M> {
+    // Writes to a register what stays within another one, or has no tag, and counts a step.
+    pub(crate) fn write(&mut self, target: RunRegister, source: RunRegister, cap: Cap)
+        requires target { IsTargetOf target }
+        requires source { IsSource source }
+        requires sound { IsSoundCap cap }
+        requires source_sound { IsSoundCap (run_state self.old.machine self.old.specials (register_key source)) }
+        requires within { IsTrue cap.tag → StaysWithin cap (run_state self.old.machine self.old.specials (register_key source)) }
+        requires few { self.old.machine.steps < 2 ^ 32 - 1 }
+        ensures writes { Writes (run_of self.old.machine self.old.specials self.old.objects) (register_key target) cap
+            (owner_for cap (run_owners self.old.machine self.old.specials (register_key source)))
+            (run_of self.new.machine self.new.specials self.new.objects) }
+    {
+        let label = label_for(cap, self.label(source));
+        let from = self.owner(target);
+        recount(&mut self.objects, from, slot_by(label));
+        put_at(&mut self.machine, &mut self.specials, target, cap, label);
+        self.machine.count_step();
+    }
+}
+
+impl<M: TaggedStore> RunMachine<M> {
+    // Writes to two registers what stays within two others, both as they were before, and counts a step.
+    pub(crate) fn write_both(
+        &mut self,
+        first: RunRegister,
+        first_source: RunRegister,
+        first_cap: Cap,
+        second: RunRegister,
+        second_source: RunRegister,
+        second_cap: Cap,
+    )
+        requires targets { IsTargetOf first × IsTargetOf second × (register_key first ≢ register_key second) }
+        requires sources { IsSource first_source × IsSource second_source }
+        requires sound { IsSoundCap first_cap × IsSoundCap second_cap }
+        requires source_sound { IsSoundCap (run_state self.old.machine self.old.specials (register_key first_source))
+            × IsSoundCap (run_state self.old.machine self.old.specials (register_key second_source)) }
+        requires first_within { IsTrue first_cap.tag → StaysWithin first_cap (run_state self.old.machine self.old.specials (register_key first_source)) }
+        requires second_within { IsTrue second_cap.tag → StaysWithin second_cap (run_state self.old.machine self.old.specials (register_key second_source)) }
+        requires few { self.old.machine.steps < 2 ^ 32 - 1 }
+        ensures writes { let owners = run_owners self.old.machine self.old.specials in
+            WritesBoth (run_of self.old.machine self.old.specials self.old.objects)
+            (register_key first) first_cap (owner_for first_cap (owners (register_key first_source)))
+            (register_key second) second_cap (owner_for second_cap (owners (register_key second_source)))
+            (run_of self.new.machine self.new.specials self.new.objects) }
+    {
+        let first_label = label_for(first_cap, self.label(first_source));
+        let second_label = label_for(second_cap, self.label(second_source));
+        let first_from = self.owner(first);
+        let second_from = self.owner(second);
+        recount_both(
+            &mut self.objects,
+            first_from,
+            slot_by(first_label),
+            second_from,
+            slot_by(second_label),
+        );
+        put_at(
+            &mut self.machine,
+            &mut self.specials,
+            first,
+            first_cap,
+            first_label,
+        );
+        put_at(
+            &mut self.machine,
+            &mut self.specials,
+            second,
+            second_cap,
+            second_label,
+        );
+        self.machine.count_step();
+    }
+}

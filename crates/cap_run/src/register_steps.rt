@@ -1,0 +1,219 @@
+//! Steps of runs on registers: deriving, exchanging, invoking, dropping.
+
+ghost use Rattle.std.specs.Prelude.{◌≡◌, ◌≤◌, ◌<◌, ◌-◌, ◌^◌, None, IsTrue, true, MatchResult, OnErr};
+ghost use Rattle.cap_ops.specs.Authority.{StaysWithin};
+ghost use Rattle.cap_log.specs.Lines.{IsTarget};
+ghost use Rattle.cap_run.specs.declared.places.RunRegister.TheVariants.{General, Special};
+ghost use Rattle.cap_run.specs.{Run.{IsSource, IsTargetOf, register_key}, RunOf.run_of};
+ghost use Rattle.cap_run.specs.RunSteps.{Derived, Dropped, Exchanged, Invoked, IsRefusedAs, derive_end, derived_refusal, exchange_end};
+ghost use Rattle.cap_run.specs.RunSteps.{invoke_end, invoked_refusal, step_limit};
+
+use crate::ends::{RunEnd, RunRefusal};
+use crate::places::RunRegister;
+use crate::run_machine::RunMachine;
+use cap_machine::{MOST_STEPS, Refusal};
+use cap_ops::{DeriveFault, InvokeFault, derive_fault, invoke_fault};
+use cap_word::{Cap, Word};
+use tagmem::TaggedStore;
+
+// Why a register can't get what is derived from a source.
+fn derived_refusal(target: RunRegister, source: Cap, recorded: Cap) -> Option<RunRefusal>
+    requires { IsTargetOf target }
+    ensures value { result ≡ derived_refusal target source recorded }
+    ensures within { result ≡ None → IsTrue recorded.tag → StaysWithin recorded source }
+{
+    if !recorded.tag {
+        return None;
+    }
+    let opens = matches!(target, RunRegister::Special(0));
+    match derive_fault(source, recorded.word, opens) {
+        None => None,
+        Some(fault) => Some(match fault {
+            DeriveFault::SourceUntagged => RunRefusal::Usual(Refusal::SourceUntagged),
+            DeriveFault::UnsoundResult => RunRefusal::UnsoundResult,
+            DeriveFault::BeyondSource => RunRefusal::BeyondSource,
+            DeriveFault::SealChanged => RunRefusal::SealChanged,
+        }),
+    }
+}
+
+// Why a pair can't be invoked.
+fn invoked_refusal(
+    code_cap: Cap,
+    data_cap: Cap,
+    code_word: Word,
+    data_word: Word,
+) -> Option<RunRefusal>
+    ensures value { result ≡ invoked_refusal code_cap data_cap code_word data_word }
+    ensures code_within { result ≡ None → StaysWithin (record { tag = true; word = code_word }) code_cap }
+    ensures data_within { result ≡ None → StaysWithin (record { tag = true; word = data_word }) data_cap }
+{
+    match invoke_fault(code_cap, data_cap, code_word, data_word) {
+        None => None,
+        Some(fault) => Some(match fault {
+            InvokeFault::AuthorityUntagged => RunRefusal::Usual(Refusal::AuthorityUntagged),
+            InvokeFault::NotInvokable => RunRefusal::NotInvokable,
+            InvokeFault::WrongResult => RunRefusal::Usual(Refusal::WrongResult),
+        }),
+    }
+}
+
+impl<M: TaggedStore> RunMachine<M> {
+    // Whether one step more passes the limit.
+    #[inline(always)]
+    pub(crate) fn step_limit(&self) -> Option<RunRefusal>
+        ensures value { result ≡ step_limit (run_of self.now.machine self.now.specials self.now.objects) }
+        ensures few { result ≡ None → self.now.machine.steps < 2 ^ 32 - 1 }
+    {
+        if self.machine.steps() >= MOST_STEPS {
+            Some(RunRefusal::Usual(Refusal::LimitPassed))
+        } else {
+            None
+        }
+    }
+
+    /// A register gets what is derived from another one, with its owner, or without a tag from any. It is refused for the
+    /// first of these that holds of a tagged result: its source has no tag (`SourceUntagged`); its word isn't sound
+    /// (`UnsoundResult`); its bounds leave the source's, or it has a permission more (`BeyondSource`); its seal isn't
+    /// kept (`SealChanged`). And of any: there are 4,294,967,295 steps (`LimitPassed`). Then nothing has changed.
+    pub fn derive(
+        &mut self,
+        target: RunRegister,
+        source: RunRegister,
+        recorded: Cap,
+    ) -> Result<(), RunEnd>
+        requires target { IsTargetOf target }
+        requires source { IsSource source }
+        ensures outcome { let old = run_of self.old.machine self.old.specials self.old.objects in MatchResult result
+            (λ _. (derive_end old target source recorded ≡ None) × Derived old target source recorded
+            (run_of self.new.machine self.new.specials self.new.objects))
+            (IsRefusedAs (derive_end old target source recorded)) }
+        ensures err { OnErr result (run_of self.new.machine self.new.specials self.new.objects
+            ≡ run_of self.old.machine self.old.specials self.old.objects) }
+    {
+        if let Some(refusal) = derived_refusal(target, self.register(source), recorded) {
+            return Err(RunEnd::Refused(refusal));
+        }
+        if let Some(refusal) = self.step_limit() {
+            return Err(RunEnd::Refused(refusal));
+        }
+        self.write(target, source, recorded);
+        Ok(())
+    }
+
+    /// c`target` gets what is derived from scr`number`, and scr`number` what is derived from c`source`, both as they were
+    /// before: a jump and link, or CSpecialRW. The checks of the first come first.
+    pub fn exchange(
+        &mut self,
+        target: u8,
+        source: u8,
+        number: u8,
+        recorded: Cap,
+        special_recorded: Cap,
+    ) -> Result<(), RunEnd>
+        requires target { IsTarget target }
+        requires source { source ≤ 31 }
+        requires number { number ≤ 31 }
+        ensures outcome { let old = run_of self.old.machine self.old.specials self.old.objects in MatchResult result
+            (λ _. (exchange_end old target source number recorded special_recorded ≡ None)
+            × Exchanged old target source number recorded special_recorded (run_of self.new.machine self.new.specials self.new.objects))
+            (IsRefusedAs (exchange_end old target source number recorded special_recorded)) }
+        ensures err { OnErr result (run_of self.new.machine self.new.specials self.new.objects
+            ≡ run_of self.old.machine self.old.specials self.old.objects) }
+    {
+        let general = RunRegister::General(target);
+        let special = RunRegister::Special(number);
+        let general_source = RunRegister::General(source);
+        if let Some(refusal) = derived_refusal(general, self.register(special), recorded) {
+            return Err(RunEnd::Refused(refusal));
+        }
+        if let Some(refusal) = derived_refusal(
+            special,
+            self.register(general_source),
+            special_recorded,
+        ) {
+            return Err(RunEnd::Refused(refusal));
+        }
+        if let Some(refusal) = self.step_limit() {
+            return Err(RunEnd::Refused(refusal));
+        }
+        self.write_both(
+            general,
+            special,
+            recorded,
+            special,
+            general_source,
+            special_recorded,
+        );
+        Ok(())
+    }
+
+    /// PCC gets the code, and c31 the data, of a sealed pair, both without their seals (CInvoke).
+    pub fn invoke(
+        &mut self,
+        code: u8,
+        data_register: u8,
+        code_word: Word,
+        data_word: Word,
+    ) -> Result<(), RunEnd>
+        requires code { code ≤ 31 }
+        requires data_register { data_register ≤ 31 }
+        ensures outcome { let old = run_of self.old.machine self.old.specials self.old.objects in MatchResult result
+            (λ _. (invoke_end old code data_register code_word data_word ≡ None)
+            × Invoked old code data_register code_word data_word (run_of self.new.machine self.new.specials self.new.objects))
+            (IsRefusedAs (invoke_end old code data_register code_word data_word)) }
+        ensures err { OnErr result (run_of self.new.machine self.new.specials self.new.objects
+            ≡ run_of self.old.machine self.old.specials self.old.objects) }
+    {
+        let code = RunRegister::General(code);
+        let operand = RunRegister::General(data_register);
+        if let Some(refusal) = invoked_refusal(
+            self.register(code),
+            self.register(operand),
+            code_word,
+            data_word,
+        ) {
+            return Err(RunEnd::Refused(refusal));
+        }
+        if let Some(refusal) = self.step_limit() {
+            return Err(RunEnd::Refused(refusal));
+        }
+        let code_cap = Cap {
+            tag: true,
+            word: code_word,
+        };
+        let data_cap = Cap {
+            tag: true,
+            word: data_word,
+        };
+        self.write_both(
+            RunRegister::Special(0),
+            code,
+            code_cap,
+            RunRegister::General(31),
+            operand,
+            data_cap,
+        );
+        Ok(())
+    }
+
+    /// The tag of a register goes, and its word stays: a revoker's work.
+    pub fn drop_register(&mut self, register: RunRegister) -> Result<(), RunEnd>
+        requires { IsTargetOf register }
+        ensures outcome { let old = run_of self.old.machine self.old.specials self.old.objects in MatchResult result
+            (λ _. (step_limit old ≡ None) × Dropped old (register_key register) (run_of self.new.machine self.new.specials self.new.objects))
+            (IsRefusedAs (step_limit old)) }
+        ensures err { OnErr result (run_of self.new.machine self.new.specials self.new.objects
+            ≡ run_of self.old.machine self.old.specials self.old.objects) }
+    {
+        if let Some(refusal) = self.step_limit() {
+            return Err(RunEnd::Refused(refusal));
+        }
+        let cap = Cap {
+            tag: false,
+            word: self.register(register).word,
+        };
+        self.write(register, register, cap);
+        Ok(())
+    }
+}

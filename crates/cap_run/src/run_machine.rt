@@ -1,0 +1,99 @@
+//! A machine of runs: what it holds.
+
+ghost use Rattle.std.specs.Prelude.{◌≡◌, ◌≤◌, ◌<◌, ◌^◌, ℕ, None, IfSome};
+ghost use Rattle.std.specs.FinMap as map;
+ghost use Rattle.cap_machine.specs.{Accounts.no_account, Helds.account_of, Parents.IsSoundCap, Places.{IsCoded, place_at}};
+ghost use Rattle.cap_machine.specs.States.{untagged_null};
+ghost use Rattle.cap_objects.specs.{Counts.CountsAre, Handed.held_of, HandoutsIn.objects_of};
+ghost use Rattle.cap_run.specs.{Owned.{AreWithin, object_by}, Run.{IsSource, IsTargetOf, register_key}, RunOf.{run_owners, run_state}};
+
+use crate::places::RunRegister;
+use crate::specials::Specials;
+use cap_log::Place;
+use cap_machine::{Machine, Rules};
+use cap_objects::Handouts;
+use cap_word::Cap;
+use std::alloc::Global;
+use tagmem::TaggedStore;
+
+/// A machine, special registers beside it, and the objects that own what its places hold.
+#[derive(Drop)]
+pub struct RunMachine<M: TaggedStore> {
+    pub(crate) machine: Machine<M>,
+    pub(crate) specials: Specials,
+    pub(crate) objects: Handouts,
+    ghost counted: { CountsAre (run_owners machine specials) (λ slot. held_of (objects_of objects slot)) },
+    ghost within: { AreWithin (run_state machine specials) (run_owners machine specials) (objects_of objects) },
+    ghost few: { objects.count ≤ machine.steps },
+}
+
+impl<M: TaggedStore> RunMachine<M> {
+    /// A machine that holds NULL without a tag everywhere, over an empty store, and no objects. `keeps` says whether new
+    /// objects are compared with freed ones that are held.
+    pub fn new(alloc: Global, memory: M, rules: Rules, keeps: bool) -> RunMachine<M>
+        requires { map.len (M.contents memory) ≡ 0 }
+        ensures account { account_of result.machine ≡ no_account rules }
+        ensures state { (key : ℕ) → run_state result.machine result.specials key ≡ untagged_null }
+        ensures owners { (key : ℕ) → run_owners result.machine result.specials key ≡ None }
+        ensures objects { (slot : ℕ) → objects_of result.objects slot ≡ None }
+        ensures count { result.objects.count ≡ 0 }
+        ensures keeps { result.objects.keeps ≡ keeps }
+    {
+        RunMachine {
+            machine: Machine::with_rules(memory, rules),
+            specials: Specials::new(),
+            objects: Handouts::new(alloc, keeps),
+        }
+    }
+
+    /// What a register holds.
+    #[inline(always)]
+    pub fn register(&self, register: RunRegister) -> Cap
+        requires { IsSource register }
+        ensures value { result ≡ run_state self.now.machine self.now.specials (register_key register) }
+        ensures sound { IsSoundCap result }
+    {
+        match register {
+            RunRegister::General(number) => self.machine.register(number),
+            RunRegister::Special(number) => self.specials.cap(number),
+        }
+    }
+
+    // The label of what a register holds: c0 has none.
+    #[inline(always)]
+    pub(crate) fn label(&self, register: RunRegister) -> u64
+        requires { IsSource register }
+        ensures owner { object_by (place_at result) ≡ run_owners self.now.machine self.now.specials (register_key register) }
+        ensures coded { let cap = run_state self.now.machine self.now.specials (register_key register) in IsCoded cap.tag result }
+    {
+        match register {
+            RunRegister::General(0) => {
+                self.machine.kept();
+                0
+            }
+            RunRegister::General(number) => self.machine.label(Place::Register(number)),
+            RunRegister::Special(number) => self.specials.label(number),
+        }
+    }
+
+    /// The slot of the object that owns a register, if there is one.
+    #[inline(always)]
+    pub fn owner(&self, register: RunRegister) -> Option<usize>
+        requires { IsSource register }
+        ensures owner { result ≡ run_owners self.now.machine self.now.specials (register_key register) }
+    {
+        slot_by(self.label(register))
+    }
+}
+
+// The slot of the object that a label stands for.
+#[inline(always)]
+pub(crate) fn slot_by(label: u64) -> Option<usize>
+    ensures value { result ≡ object_by (place_at label) }
+{
+    if label >= 32 {
+        Some((label - 32) as usize)
+    } else {
+        None
+    }
+}

@@ -1,0 +1,4 @@
+mod Operands
+mod PartLemmas
+mod Rows
+mod Spellings

@@ -1,0 +1,5 @@
+use Rattle.cap_run_log.proofs.PartLemmas.{no_freed}
+use Rattle.cap_run_log.proofs.parts.FreedPart.take.Goals as goal
+
+pub returns-in_default-take-clause-none : goal.returns-in_default-take-clause-none
+returns-in_default-take-clause-none c = no_freed c.args.end c.args.bytes.now c.in_default.ensures.none c.in_default-take.ensures.none

@@ -1,0 +1,5 @@
+use Rattle.cap_run_log.proofs.PartLemmas.{no_handed}
+use Rattle.cap_run_log.proofs.parts.HandedPart.take.Goals as goal
+
+pub returns-in_default-take-clause-none : goal.returns-in_default-take-clause-none
+returns-in_default-take-clause-none c = no_handed c.args.end c.args.bytes.now c.in_default.ensures.none c.in_default-take.ensures.none

@@ -1,0 +1,4 @@
+pub mod RunLines
+pub mod RunHeads
+pub mod RunParts
+pub mod Spaces

@@ -1,0 +1,16 @@
+//! The lines of a run log: their grammar, and how they are read and written. Nothing here allocates.
+//!
+//! A run log has the steps of `cap_log`, word for word, and seven kinds of line more. [`take_run_line`] takes a line with its
+//! line feed from the front of some bytes, and [`write_run_line`] writes a line's one spelling.
+#![tactic(auto)]
+
+mod heads;
+mod lines;
+mod parts;
+mod readers;
+mod writers;
+
+pub use crate::heads::RunHead;
+pub use crate::lines::{RunLine, RunPlace, RunRegister, RunStep};
+pub use crate::readers::{read_run_line, run_spellings_are_distinct, take_run_line};
+pub use crate::writers::write_run_line;

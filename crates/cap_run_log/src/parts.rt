@@ -1,0 +1,331 @@
+//! The parts of lines that only run logs have.
+
+ghost use Rattle.std.specs.Prelude.{◌≡◌, ◌+◌, ◌≤◌, ◌<◌, decimal, codes, length};
+ghost use Rattle.cap_log.specs.Lines.{IsRegister, register_spelling, tag_spelling};
+ghost use Rattle.cap_streams.specs.Written.{Writes};
+ghost use Rattle.cap_run_log.specs.RunLines.{IsGranule, IsObjectNumber, IsRunPlace, IsRunRegister, granule_spelling};
+ghost use Rattle.cap_run_log.specs.RunLines.{run_place_spelling, run_register_spelling, special_spelling};
+ghost use Rattle.cap_run_log.specs.RunParts.{IsFreed, IsHanded, freed_spelling, handed_spelling};
+ghost use Rattle.cap_run_log.specs.Spaces.{equals-spaceless, granule-spaceless, place-spaceless, register_at-spaceless};
+ghost use Rattle.cap_run_log.specs.Spaces.{special-spaceless, tag-spaceless};
+
+use crate::lines::{RunPlace, RunRegister};
+use cap_log::buffers::{put, put_decimal};
+use cap_log::{Part, Register, Single, Target, strip_word, take_decimal};
+
+/// A special register, 0 to 31.
+#[derive(Clone, Copy)]
+pub struct Special(pub u8);
+
+impl Part for Special {
+    ghost fits = { λ special. IsRegister special.0 };
+
+    ghost spelled = { λ special. special_spelling special.0 };
+
+    fn take(bytes: &[u8], end: u8) -> Option<(Special, &[u8])> {
+        let digits = bytes.strip_prefix(b"scr")?;
+        let (number, rest) = take_decimal::<2, 0, 32>(digits, end)?;
+        Some((Special(number as u8), rest))
+    }
+
+    fn write(&self, buffer: &mut [u8], at: usize) -> usize {
+        let digits = put(buffer, at, b"scr");
+        put_decimal(buffer, digits, u64::from(self.0))
+    }
+}
+
+impl Single for Special {
+    ghost spaceless = { λ special fits. special-spaceless special.0 fits };
+}
+
+/// A register that is read: any general-purpose or special one.
+#[derive(Clone, Copy)]
+pub struct Source(pub RunRegister);
+
+impl Part for Source {
+    ghost fits = { λ register. IsRunRegister 0 register.0 };
+
+    ghost spelled = { λ register. run_register_spelling register.0 };
+
+    fn take(bytes: &[u8], end: u8) -> Option<(Source, &[u8])> {
+        if let Some((special, rest)) = Special::take(bytes, end) {
+            return Some((Source(RunRegister::Special(special.0)), rest));
+        }
+        let Some((general, rest)) = Register::take(bytes, end) else {
+            return None;
+        };
+        Some((Source(RunRegister::General(general.number())), rest))
+    }
+
+    fn write(&self, buffer: &mut [u8], at: usize) -> usize {
+        write_run_register(buffer, at, self.0)
+    }
+}
+
+impl Single for Source {
+    ghost spaceless = { λ register fits. register_at-spaceless 0 register.0 fits };
+}
+
+/// A register that is written: any but c0.
+#[derive(Clone, Copy)]
+pub struct Written(pub RunRegister);
+
+impl Part for Written {
+    ghost fits = { λ register. IsRunRegister 1 register.0 };
+
+    ghost spelled = { λ register. run_register_spelling register.0 };
+
+    fn take(bytes: &[u8], end: u8) -> Option<(Written, &[u8])> {
+        if let Some((special, rest)) = Special::take(bytes, end) {
+            return Some((Written(RunRegister::Special(special.0)), rest));
+        }
+        let Some((general, rest)) = Target::take(bytes, end) else {
+            return None;
+        };
+        Some((Written(RunRegister::General(general.number())), rest))
+    }
+
+    fn write(&self, buffer: &mut [u8], at: usize) -> usize {
+        write_run_register(buffer, at, self.0)
+    }
+}
+
+impl Single for Written {
+    ghost spaceless = { λ register fits. register_at-spaceless 1 register.0 fits };
+}
+
+/// A granule, by the address of its first byte.
+#[derive(Clone, Copy)]
+pub struct Granule(pub u64);
+
+impl Part for Granule {
+    ghost fits = { λ granule. IsGranule granule.0 };
+
+    ghost spelled = { λ granule. granule_spelling granule.0 };
+
+    fn take(bytes: &[u8], end: u8) -> Option<(Granule, &[u8])> {
+        let digits = bytes.strip_prefix(b"@")?;
+        let (address, rest) = u64::take(digits, end)?;
+        if address % 16 == 0 {
+            Some((Granule(address / 16), rest))
+        } else {
+            None
+        }
+    }
+
+    fn write(&self, buffer: &mut [u8], at: usize) -> usize {
+        let digits = put(buffer, at, b"@");
+        (16 * self.0).write(buffer, digits)
+    }
+}
+
+impl Single for Granule {
+    ghost spaceless = { λ granule fits. granule-spaceless granule.0 };
+}
+
+impl Part for RunPlace {
+    ghost fits = { IsRunPlace };
+
+    ghost spelled = { run_place_spelling };
+
+    fn take(bytes: &[u8], end: u8) -> Option<(RunPlace, &[u8])> {
+        if let Some((granule, rest)) = Granule::take(bytes, end) {
+            return Some((RunPlace::Granule(granule.0), rest));
+        }
+        if let Some((special, rest)) = Special::take(bytes, end) {
+            return Some((RunPlace::Special(special.0), rest));
+        }
+        let Some((target, rest)) = Target::take(bytes, end) else {
+            return None;
+        };
+        Some((RunPlace::General(target.number()), rest))
+    }
+
+    fn write(&self, buffer: &mut [u8], at: usize) -> usize {
+        match *self {
+            RunPlace::General(number) => write_register(buffer, at, number),
+            RunPlace::Special(number) => Special(number).write(buffer, at),
+            RunPlace::Granule(number) => Granule(number).write(buffer, at),
+        }
+    }
+}
+
+impl Single for RunPlace {
+    ghost spaceless = { place-spaceless };
+}
+
+/// The sign before what a step records.
+#[derive(Clone, Copy)]
+pub struct Equals;
+
+impl Part for Equals {
+    ghost fits = { λ sign. Unit {0} };
+
+    ghost spelled = { λ sign. codes "=" };
+
+    fn take(bytes: &[u8], end: u8) -> Option<(Equals, &[u8])> {
+        let rest = strip_word(bytes, b"=", end)?;
+        Some((Equals, rest))
+    }
+
+    fn write(&self, buffer: &mut [u8], at: usize) -> usize {
+        put(buffer, at, b"=")
+    }
+}
+
+impl Single for Equals {
+    ghost spaceless = { λ sign fits. equals-spaceless };
+}
+
+/// The version of a run log.
+#[derive(Clone, Copy)]
+pub struct One;
+
+impl Part for One {
+    ghost fits = { λ version. Unit {0} };
+
+    ghost spelled = { λ version. codes "1" };
+
+    fn take(bytes: &[u8], end: u8) -> Option<(One, &[u8])> {
+        let rest = strip_word(bytes, b"1", end)?;
+        Some((One, rest))
+    }
+
+    fn write(&self, buffer: &mut [u8], at: usize) -> usize {
+        put(buffer, at, b"1")
+    }
+}
+
+/// The tag of what a step records.
+#[derive(Clone, Copy)]
+pub struct Tag(pub bool);
+
+impl Part for Tag {
+    ghost fits = { λ tag. Unit {0} };
+
+    ghost spelled = { λ tag. tag_spelling tag.0 };
+
+    fn take(bytes: &[u8], end: u8) -> Option<(Tag, &[u8])> {
+        if let Some(rest) = strip_word(bytes, b"1", end) {
+            return Some((Tag(true), rest));
+        }
+        let rest = strip_word(bytes, b"0", end)?;
+        Some((Tag(false), rest))
+    }
+
+    fn write(&self, buffer: &mut [u8], at: usize) -> usize {
+        put(buffer, at, if self.0 { b"1" } else { b"0" })
+    }
+}
+
+impl Single for Tag {
+    ghost spaceless = { λ tag fits. tag-spaceless tag.0 };
+}
+
+/// The number of an object, from 1.
+#[derive(Clone, Copy)]
+pub struct ObjectNumber(pub u32);
+
+impl Part for ObjectNumber {
+    ghost fits = { λ number. IsObjectNumber number.0 };
+
+    ghost spelled = { λ number. decimal number.0 };
+
+    fn take(bytes: &[u8], end: u8) -> Option<(ObjectNumber, &[u8])> {
+        let (number, rest) = take_decimal::<10, 1, 0x1_0000_0000>(bytes, end)?;
+        Some((ObjectNumber(number), rest))
+    }
+
+    fn write(&self, buffer: &mut [u8], at: usize) -> usize {
+        put_decimal(buffer, at, u64::from(self.0))
+    }
+}
+
+/// What follows `object`: a register, or a register and an object's number.
+#[derive(Clone, Copy)]
+pub enum Handed {
+    /// A register.
+    Alone(u8),
+    /// A register and the number of an object.
+    Numbered(u8, u32),
+}
+
+impl Part for Handed {
+    ghost fits = { IsHanded };
+
+    ghost spelled = { handed_spelling };
+
+    fn take(bytes: &[u8], end: u8) -> Option<(Handed, &[u8])> {
+        if let Some((target, rest)) = Target::take(bytes, end) {
+            return Some((Handed::Alone(target.number()), rest));
+        }
+        let Some((pair, rest)) = <(Target, ObjectNumber)>::take(bytes, end) else {
+            return None;
+        };
+        Some((Handed::Numbered(pair.0.number(), pair.1.0), rest))
+    }
+
+    fn write(&self, buffer: &mut [u8], at: usize) -> usize {
+        match *self {
+            Handed::Alone(register) => write_register(buffer, at, register),
+            Handed::Numbered(register, number) => {
+                let space = write_register(buffer, at, register);
+                let next = put(buffer, space, b" ");
+                put_decimal(buffer, next, u64::from(number))
+            }
+        }
+    }
+}
+
+/// What follows `free`: a register, or an object's number.
+#[derive(Clone, Copy)]
+pub enum Freed {
+    /// A register.
+    Owner(u8),
+    /// The number of an object.
+    Number(u32),
+}
+
+impl Part for Freed {
+    ghost fits = { IsFreed };
+
+    ghost spelled = { freed_spelling };
+
+    fn take(bytes: &[u8], end: u8) -> Option<(Freed, &[u8])> {
+        if let Some((target, rest)) = Target::take(bytes, end) {
+            return Some((Freed::Owner(target.number()), rest));
+        }
+        let Some((number, rest)) = ObjectNumber::take(bytes, end) else {
+            return None;
+        };
+        Some((Freed::Number(number.0), rest))
+    }
+
+    fn write(&self, buffer: &mut [u8], at: usize) -> usize {
+        match *self {
+            Freed::Owner(register) => write_register(buffer, at, register),
+            Freed::Number(number) => put_decimal(buffer, at, u64::from(number)),
+        }
+    }
+}
+
+// Writes the name of a register.
+fn write_run_register(buffer: &mut [u8], at: usize, register: RunRegister) -> usize
+    requires fits { IsRunRegister 0 register }
+    requires room { at + length (run_register_spelling register) ≤ length buffer.old }
+    ensures { Writes at (run_register_spelling register) buffer.old buffer.new result }
+{
+    match register {
+        RunRegister::General(number) => write_register(buffer, at, number),
+        RunRegister::Special(number) => Special(number).write(buffer, at),
+    }
+}
+
+// Writes the name of a general-purpose register.
+fn write_register(buffer: &mut [u8], at: usize, number: u8) -> usize
+    requires { at + length (register_spelling number) ≤ length buffer.old }
+    ensures { Writes at (register_spelling number) buffer.old buffer.new result }
+{
+    let digits = put(buffer, at, b"c");
+    put_decimal(buffer, digits, u64::from(number))
+}

@@ -1,0 +1,108 @@
+//! Writing a line of a run log.
+
+#![tactic(auto, unfolding(crate::specs::RunLines::run_spelling))]
+
+ghost use Rattle.std.specs.Prelude.{◌≡◌, ◌≤◌, ◌∷◌, ◌++◌, length};
+ghost use Rattle.cap_streams.specs.Written.{Writes};
+ghost use Rattle.cap_run_log.specs.{RunHeads.run_head_spelling, RunLines.{IsRunLineAt, IsRunLineInRange, IsRunStepInRange, run_spelling}};
+ghost use Rattle.cap_run_log.specs.declared.lines.RunLine.TheVariants as lines;
+
+use crate::heads::RunHead;
+use crate::lines::{RunLine, RunRegister, RunStep};
+use crate::parts::{Equals, Freed, Granule, Handed, One, Source, Special, Tag, Written};
+use cap_log::buffers::put;
+use cap_log::{Line, Part, write_line};
+
+/// Writes a line of a run log and its line feed at the front of the buffer, and returns how many bytes they are. The line's
+/// numbers have to be in their ranges. The rest of the buffer stays as it was.
+pub fn write_run_line(line: &RunLine, buffer: &mut [u8; 96]) -> usize
+    requires { IsRunLineInRange line.now }
+    ensures line { IsRunLineAt line.now buffer.old buffer.new result }
+{
+    match *line {
+        RunLine::Mode(mode) => write_line(&Line::Mode(mode), buffer),
+        RunLine::Step(step) => write_line(&Line::Step(step), buffer),
+        RunLine::End(steps) => write_line(&Line::End(steps), buffer),
+        RunLine::Version => end_line(line, RunHead::Version, One, buffer),
+        RunLine::Root(place, word) => end_line(line, RunHead::Root, (place, word), buffer),
+        RunLine::Run(step) => write_run_step(line, step, buffer),
+    }
+}
+
+// Writes a line by its head and the parts after it, with a line feed.
+fn end_line<P: Part>(line: &RunLine, head: RunHead, parts: P, buffer: &mut [u8; 96]) -> usize
+    requires in_range { IsRunLineInRange line.now }
+    requires fits { P.fits parts }
+    requires spelling { run_spelling line.now ≡ run_head_spelling head ++ 32 ∷ P.spelled parts }
+    ensures { IsRunLineAt line.now buffer.old buffer.new result }
+{
+    let end = (head, parts).write(buffer, 0);
+    put(buffer, end, b"\n")
+}
+
+// Writes a step that only runs have.
+fn write_run_step(line: &RunLine, step: RunStep, buffer: &mut [u8; 96]) -> usize
+    requires same { line.now ≡ lines.Run step }
+    requires in_range { IsRunStepInRange step }
+    ensures { IsRunLineAt line.now buffer.old buffer.new result }
+{
+    match step {
+        RunStep::Drop(place) => end_line(line, RunHead::Drop, place, buffer),
+        RunStep::Fill(granule, word) => {
+            end_line(line, RunHead::Fill, (Granule(granule), word), buffer)
+        }
+        RunStep::Object(register) => {
+            end_line(line, RunHead::Object, Handed::Alone(register), buffer)
+        }
+        RunStep::Widen(register, number) => {
+            end_line(
+                line,
+                RunHead::Object,
+                Handed::Numbered(register, number),
+                buffer,
+            )
+        }
+        RunStep::FreeOwner(register) => {
+            end_line(line, RunHead::Free, Freed::Owner(register), buffer)
+        }
+        RunStep::FreeNumber(number) => {
+            end_line(line, RunHead::Free, Freed::Number(number), buffer)
+        }
+        RunStep::Derive(target, source, recorded) => end_line(
+            line,
+            RunHead::Derive,
+            (Written(target), (Source(source), recorded)),
+            buffer,
+        ),
+        RunStep::Exchange {
+            target,
+            source,
+            special,
+            result: recorded,
+            special_result,
+        } => {
+            let results = (
+                Tag(recorded.tag),
+                (
+                    recorded.word,
+                    (Tag(special_result.tag), special_result.word),
+                ),
+            );
+            let special = (Special(special), (Equals, results));
+            let source = Source(RunRegister::General(source));
+            let target = Written(RunRegister::General(target));
+            end_line(line, RunHead::Exchange, (target, (source, special)), buffer)
+        }
+        RunStep::Invoke {
+            code,
+            datum,
+            code_word,
+            datum_word,
+        } => {
+            let words = (Equals, (code_word, datum_word));
+            let datum = Source(RunRegister::General(datum));
+            let code = Source(RunRegister::General(code));
+            end_line(line, RunHead::Invoke, (code, (datum, words)), buffer)
+        }
+    }
+}
