@@ -4,8 +4,8 @@
     python3 bench/mutants.py              makes each mutant, asks the corpus, and compares what it finds with two tables
     python3 bench/mutants.py --write      writes conformance/CLAUSES.tsv too; with names, the rows of these definitions
     python3 bench/mutants.py NAME..       only the mutants of these definitions, and which file sees each
-    python3 bench/mutants.py --limits NAME..   asks the logs of conformance/limits.py too that have less than 10 MB
-    python3 bench/mutants.py --limits --great NAME..   asks the others too; a log takes a minute or more
+    python3 bench/mutants.py --limits NAME..   asks the logs of conformance/limits.py alone, made for limits of 16 roots
+                                               and 256 and 512 granules, which these mutants then have
 
 A mutant has one comparison, operator, constant, condition or operand otherwise: `<` for `<=`, 4097 for 4096, one operand of
 `and` left out, two neighbours of a call or of a list of checks exchanged. A file of the corpus sees it if the answer is
@@ -30,7 +30,7 @@ COMPARED = {ast.Lt: ast.LtE, ast.LtE: ast.Lt, ast.Gt: ast.GtE, ast.GtE: ast.Gt, 
             ast.In: ast.NotIn, ast.NotIn: ast.In, ast.Is: ast.IsNot, ast.IsNot: ast.Is}
 OPERATED = {ast.Add: ast.Sub, ast.Sub: ast.Add, ast.Mult: ast.FloorDiv, ast.FloorDiv: ast.Mult, ast.Mod: ast.FloorDiv, ast.Pow: ast.Mult,
             ast.BitAnd: ast.BitOr, ast.BitXor: ast.BitOr}
-SECONDS = 3
+SECONDS = 10
 
 
 def changed(node):
@@ -127,9 +127,9 @@ def mutants(tree):
 class Files:
     """The files of the corpus, each as questions that these definitions are asked, with the definitions that it reaches."""
 
-    def __init__(self, space, with_limits, with_great):
+    def __init__(self, space, with_limits):
         self.asked, self.count = [], collections.Counter()
-        for name, answer, origins in transcription.index():
+        for name, answer, origins in transcription.index() if not with_limits else []:
             if name.startswith(("accepted/", "rejected/")):
                 with open(f"conformance/{name}", "rb") as it:
                     self.asked.append((name, is_same_log, (it.read(), [answer, *(f"origin {it.replace('=', ' ')}" for it in origins)]), SECONDS))
@@ -139,15 +139,11 @@ class Files:
         if with_limits:
             sys.path.insert(0, "conformance")
             import limits
-            answers = {name: answer for name, answer, _ in transcription.index()}
-            logs = sorted(((f"limits/{name}.log", text.encode()) for name, text in limits.logs() if with_great or len(text) < 10**7), key=lambda it: len(it[1]))
-            self.asked += [(name, is_same_verdict, (text, answers[name]), 3600) for name, text in logs]
-        # Which definitions a file reaches. Logs of limits are long, and reach all.
+            for name, text in limits.logs(16, 256, 512):
+                wanted = space["verdict_line"](space["verdict_of"](text.encode())[0])
+                self.asked.append((f"limits/{name}.log", is_same_verdict, (text.encode(), wanted), SECONDS))
         self.reached = [set() for _ in self.asked]
         for at, (name, same, given, _) in enumerate(self.asked):
-            if name.startswith("limits/"):
-                self.reached[at] = set(space)
-                continue
             sys.setprofile(lambda frame, event, arg: self.reached[at].add(frame.f_code.co_name) if event == "call" else None)
             try:
                 is_same = same(space, *given)
@@ -161,13 +157,13 @@ class Files:
         reaching = [at for at in range(len(self.asked)) if definition is None or definition in self.reached[at]]
         for at in sorted(reaching, key=lambda it: -self.count[it]):
             name, same, given, seconds = self.asked[at]
-            signal.setitimer(signal.ITIMER_REAL, seconds)
+            signal.setitimer(signal.ITIMER_VIRTUAL, seconds)
             try:
                 is_same = same(space, *given)
             except Exception:  # noqa: BLE001
                 is_same = False
             finally:
-                signal.setitimer(signal.ITIMER_REAL, 0)
+                signal.setitimer(signal.ITIMER_VIRTUAL, 0)
             if not is_same:
                 self.count[at] += 1
                 return name
@@ -256,7 +252,9 @@ def is_same_line(space, line):
 
 
 def is_same_verdict(space, data, wanted):
-    return space["verdict_line"](space["verdict_of"](data)[0]) == wanted
+    """Whether definitions give the verdict of a long log, and take it."""
+    verdict, beginning, _ = space["verdict_of"](data)
+    return space["verdict_line"](verdict) == wanted and space["IsVerdict"](data, verdict, beginning) and is_refused_longer(space, data, beginning)
 
 
 def namespace(tree):
@@ -267,6 +265,17 @@ def namespace(tree):
         function = getattr(transcription, name)
         space[name] = types.FunctionType(function.__code__, space, name)
     return space
+
+
+def lowered(tree):
+    """The definitions with lower limits on roots and on granules."""
+    lower = {4096: 16, 65536: 256, 1048576: 512}
+    for top in tree.body:
+        if isinstance(top, ast.FunctionDef) and top.name == "most_granules" or isinstance(top, ast.Assign) and top.targets[0].id == "most_roots":
+            for node in ast.walk(top):
+                if isinstance(node, ast.Constant):
+                    node.value = lower.get(node.value, node.value)
+    return tree
 
 
 def listed():
@@ -297,11 +306,13 @@ def table(found):
 
 
 def main(words):
-    signal.signal(signal.SIGALRM, late)
+    signal.signal(signal.SIGVTALRM, late)
     with open(PATH, encoding="utf-8") as it:
         tree = ast.parse(it.read())
     names = {it for it in words if not it.startswith("-")}
-    files = Files(namespace(tree), "--limits" in words, "--great" in words)
+    if "--limits" in words:
+        tree = lowered(tree)
+    files = Files(namespace(tree), "--limits" in words)
     alive, found, known = [], collections.defaultdict(list), listed()
     for name, key, top, made in mutants(tree):
         if names and name not in names:
