@@ -10,7 +10,7 @@ use Rattle.cap_machine.specs.{Parents.IsSoundCap, States.{State, put}}
 use Rattle.cap_objects.specs.Counts.{CountsAre, Moves, Owners, at_key, count_below, is_owner, most_places, one_for, owned_by}
 use Rattle.cap_objects.specs.{declared.objects.Object.Object, Extents.{Objects, is_present}, Handed.{IsRecounted, held_of, with_held}, Indexes.kept}
 use Rattle.cap_objects.proofs.{BelowLemmas.{CountsAre-move, below-put, below-same}, KeyLemmas.choice_under}
-use Rattle.cap_run.specs.declared.places.RunRegister.{RunRegister, TheVariants.{General, Special}}
+use Rattle.cap_run_log.specs.declared.lines.RunRegister.{RunRegister, TheVariants.{General, Special}}
 use Rattle.std.specs.FinMap as map
 use Rattle.std.proofs.Common.{is_some}
 use Rattle.tagmem.specs.Granules.{Granules}

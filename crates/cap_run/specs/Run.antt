@@ -3,7 +3,7 @@ use Rattle.std.specs.Prelude.{ℕ, ◌+◌, ◌-◌, ◌^◌, ◌≤◌, Bool, n
 use Rattle.cap_log.specs.{Lines.IsTarget}
 use Rattle.cap_machine.specs.{declared.rules.Rules.Rules, States.{State}}
 use Rattle.cap_objects.specs.{Counts.Owners, Extents.Objects}
-use Rattle.cap_run.specs.declared.places.RunRegister.{RunRegister, TheVariants.{General, Special}}
+use Rattle.cap_run_log.specs.declared.lines.RunRegister.{RunRegister, TheVariants.{General, Special}}
 
 -- the key of scr0; that of a general-purpose register is its number, and that of a granule its number plus 32
 abbrev pub first_special : ℕ

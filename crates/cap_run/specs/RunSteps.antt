@@ -7,7 +7,8 @@ use Rattle.cap_ops.specs.declared.refusal.Refusal as usual
 use Rattle.cap_ops.specs.{Checks.first_of, DerivedWords.{derive_checks, invoke_checks}}
 use Rattle.cap_machine.specs.{Accounts.most_steps, Helds.Held, Labels.untagged, States.{put, tagged}}
 use Rattle.cap_objects.specs.{Counts.at_key, Handed.IsRecounted}
-use Rattle.cap_run.specs.declared.{ends.{RunEnd.{RunEnd, TheVariants.Refused}, RunRefusal.RunRefusal}, places.RunRegister.{RunRegister, TheVariants.{General, Special}}}
+use Rattle.cap_run_log.specs.declared.lines.RunRegister.{RunRegister, TheVariants.{General, Special}}
+use Rattle.cap_run.specs.declared.ends.{RunEnd.{RunEnd, TheVariants.Refused}, RunRefusal.RunRefusal}
 use Rattle.cap_run.specs.declared.ends.RunRefusal.TheVariants as refusals
 use Rattle.cap_run.specs.{Owned.owner_for, Run.{Run, first_special, register_key}}
 

@@ -10,7 +10,6 @@
 mod ends;
 mod granule_steps;
 mod object_steps;
-mod places;
 mod puts;
 mod register_steps;
 mod run_machine;
@@ -18,6 +17,5 @@ mod specials;
 mod usual_steps;
 
 pub use crate::ends::{RunEnd, RunRefusal};
-pub use crate::places::{RunPlace, RunRegister};
 pub use crate::run_machine::RunMachine;
 pub use crate::specials::Specials;

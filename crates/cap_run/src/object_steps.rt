@@ -12,13 +12,13 @@ ghost use Rattle.cap_run.specs.{ObjectSteps.{AgainEnds, ExtentEnds, FreeEnds, Fr
 ghost use Rattle.cap_run.specs.{RunOf.{run_of, run_owners, run_state}, RunSteps.{IsUnstepped, step_limit}};
 
 use crate::ends::{RunEnd, RunRefusal};
-use crate::places::RunRegister;
 use crate::puts::put_at;
 use crate::run_machine::RunMachine;
 use cap_bounds::bounds;
 use cap_machine::Refusal;
 use cap_objects::{HandOutFault, NumberFault};
 use cap_ops::sealed;
+use cap_run_log::RunRegister;
 use cap_word::Cap;
 use tagmem::TaggedStore;
 

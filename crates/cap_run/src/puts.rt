@@ -7,12 +7,12 @@ ghost use Rattle.cap_objects.specs.Counts.{at_key};
 ghost use Rattle.cap_run.specs.{Owned.{is_empty, object_by, owner_for}, Run.{IsSource, IsTargetOf, register_key}};
 ghost use Rattle.cap_run.specs.{RunOf.{run_of, run_owners, run_state}, RunSteps.{IsUnstepped, Writes, WritesBoth}};
 
-use crate::places::RunRegister;
 use crate::run_machine::{RunMachine, slot_by};
 use crate::specials::Specials;
 use cap_bounds::bounds;
 use cap_machine::Machine;
 use cap_objects::{recount, recount_both};
+use cap_run_log::RunRegister;
 use cap_word::{Cap, Word};
 use tagmem::TaggedStore;
 

@@ -3,16 +3,16 @@
 ghost use Rattle.std.specs.Prelude.{◌≡◌, ◌≤◌, ◌<◌, ◌-◌, ◌^◌, None, IsTrue, true, MatchResult, OnErr};
 ghost use Rattle.cap_ops.specs.Authority.{StaysWithin};
 ghost use Rattle.cap_log.specs.Lines.{IsTarget};
-ghost use Rattle.cap_run.specs.declared.places.RunRegister.TheVariants.{General, Special};
+ghost use Rattle.cap_run_log.specs.declared.lines.RunRegister.TheVariants.{General, Special};
 ghost use Rattle.cap_run.specs.{Run.{IsSource, IsTargetOf, register_key}, RunOf.run_of};
 ghost use Rattle.cap_run.specs.RunSteps.{Derived, Dropped, Exchanged, Invoked, IsRefusedAs, derive_end, derived_refusal, exchange_end};
 ghost use Rattle.cap_run.specs.RunSteps.{invoke_end, invoked_refusal, step_limit};
 
 use crate::ends::{RunEnd, RunRefusal};
-use crate::places::RunRegister;
 use crate::run_machine::RunMachine;
 use cap_machine::{MOST_STEPS, Refusal};
 use cap_ops::{DeriveFault, InvokeFault, derive_fault, invoke_fault};
+use cap_run_log::RunRegister;
 use cap_word::{Cap, Word};
 use tagmem::TaggedStore;
 

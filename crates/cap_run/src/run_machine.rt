@@ -7,11 +7,11 @@ ghost use Rattle.cap_machine.specs.States.{untagged_null};
 ghost use Rattle.cap_objects.specs.{Counts.CountsAre, Handed.held_of, HandoutsIn.objects_of};
 ghost use Rattle.cap_run.specs.{Owned.{AreWithin, object_by}, Run.{IsSource, IsTargetOf, register_key}, RunOf.{run_of, run_owners, run_state}, Safety.IsSafe};
 
-use crate::places::RunRegister;
 use crate::specials::Specials;
 use cap_log::Place;
 use cap_machine::{Machine, Rules};
 use cap_objects::Handouts;
+use cap_run_log::RunRegister;
 use cap_word::Cap;
 use std::alloc::Global;
 use tagmem::TaggedStore;

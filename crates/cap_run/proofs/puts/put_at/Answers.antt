@@ -1,7 +1,8 @@
 use Rattle.std.proofs.{Common.{◌==◌, ◌<◌, ◌∙◌, ℕ, Option, ap, sym, subst, arith}, Math.Path.fun_ext}
 use Rattle.cap_machine.specs.{Accounts.Account, Helds.{account_of, state_of}, Places.place_at, States.put}
 use Rattle.cap_run.specs.{Owned.object_by, Run.{IsTargetOf, first_special, register_key, with_specials}}
-use Rattle.cap_run.specs.{Specials.{cap_in, label_in}, declared.places.RunRegister.{RunRegister}}
+use Rattle.cap_run.specs.Specials.{cap_in, label_in}
+use Rattle.cap_run_log.specs.declared.lines.RunRegister.{RunRegister}
 use Rattle.cap_run.proofs.PlaceLemmas.{choice_under, with-main, with-special}
 use Rattle.cap_run.proofs.puts.put_at.Goals as goal
 

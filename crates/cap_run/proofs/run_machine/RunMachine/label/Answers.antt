@@ -1,7 +1,7 @@
 use Rattle.std.proofs.Common.{◌≡◌, ℕ, ap, sym, ◌∙◌}
 use Rattle.cap_machine.specs.{Helds.{code_in, state_of}, Places.{place_at}}
 use Rattle.cap_run.specs.{Owned.object_by, Run.register_key, RunOf.{run_owners, run_state}}
-use Rattle.cap_run.specs.declared.places.RunRegister.{RunRegister, TheVariants.General}
+use Rattle.cap_run_log.specs.declared.lines.RunRegister.{RunRegister, TheVariants.General}
 use Rattle.cap_run.proofs.PlaceLemmas.{coded_null, label_null}
 use Rattle.cap_run.proofs.run_machine.RunMachine.label.Goals as goal
 
