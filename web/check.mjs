@@ -1,5 +1,5 @@
 // node check.mjs MODULE JUDGE FILES..: what the module answers to each line of vector files, by the page's calls, and
-// what the judge's module answers to each log: what docs/FORMAT.md says, and byte for byte what CAPDIAG prints, where
+// what the judge's module answers to each log: what examples/README.md says, and byte for byte what CAPDIAG prints, where
 // that program is there. Then what pasting.js reads in each row of the table of dumps.
 import { spawnSync } from "node:child_process";
 import fs from "node:fs";
@@ -44,7 +44,7 @@ const agree = (line, said, wanted, calls) => {
 
 const judge = new WebAssembly.Module(fs.readFileSync(judging));
 const diagnosis = process.env.CAPDIAG ?? "crates/capdiag/out/capdiag";
-const verdicts = Object.fromEntries([...fs.readFileSync(new URL("../docs/FORMAT.md", here), "utf8")
+const verdicts = Object.fromEntries([...fs.readFileSync(new URL("../examples/README.md", here), "utf8")
     .matchAll(/^\| `(\w+\.log)` \| .* \| `(.*)` \|$/gm)].map(([, name, verdict]) => [name, verdict]));
 
 for (const name of files.filter((it) => it.endsWith(".log"))) {
