@@ -50,8 +50,8 @@ within-new cap number step base top capable base_is top_is some =
 -- how handing out ends
 pub extent-ended : (old : Run) (keeps : Bool) (left_out : Option ℕ) (base top : ℕ) (fault : HandOutFault) → step_limit old ≡ None
     → RefusesExtent keeps left_out old.objects base top fault → ExtentEnds old keeps left_out base top (ended fault)
-extent-ended old keeps left_out base top (Overlaps slot) few is = is
-extent-ended old keeps left_out base top (StillHeld slot) few is = is
+extent-ended old keeps left_out base top (Overlaps slot) few is = (slot, is)
+extent-ended old keeps left_out base top (StillHeld slot) few is = (slot, is)
 extent-ended old keeps left_out base top NoMemory few is = (is, few)
 
 both_true : (a b : Bool) → a ≡ true → b ≡ false → (a && not b) ≡ true

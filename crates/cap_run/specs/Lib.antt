@@ -8,3 +8,7 @@ pub mod ObjectSteps
 pub mod Safety
 pub mod GranuleSteps
 pub mod UsualSteps
+pub mod RunChanges
+pub mod RunChecks
+pub mod Numbers
+pub mod Descents

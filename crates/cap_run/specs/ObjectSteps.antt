@@ -18,15 +18,15 @@ is_capability cap = cap.tag && not (is_sealed cap.word.0)
 
 -- how a step ends where an interval can't be an extent
 abbrev pub ended : HandOutFault → RunEnd
-ended (hand.Overlaps slot) = Refused (Overlaps slot)
-ended (hand.StillHeld slot) = Refused (StillHeld slot)
+ended (hand.Overlaps slot) = Refused Overlaps
+ended (hand.StillHeld slot) = Refused StillHeld
 ended hand.NoMemory = NoMemory
 
 -- why an interval becomes no extent: it meets that of a live object, or else of a freed one that is held; or there are
 -- too many steps; or there was no memory
 abbrev pub ExtentEnds : Run → Bool → Option ℕ → ℕ → ℕ → RunEnd → Type 0
-ExtentEnds old keeps left_out base top (Refused (Overlaps slot)) = RefusesExtent keeps left_out old.objects base top (hand.Overlaps slot)
-ExtentEnds old keeps left_out base top (Refused (StillHeld slot)) = RefusesExtent keeps left_out old.objects base top (hand.StillHeld slot)
+ExtentEnds old keeps left_out base top (Refused Overlaps) = (slot : ℕ) × RefusesExtent keeps left_out old.objects base top (hand.Overlaps slot)
+ExtentEnds old keeps left_out base top (Refused StillHeld) = (slot : ℕ) × RefusesExtent keeps left_out old.objects base top (hand.StillHeld slot)
 ExtentEnds old keeps left_out base top (Refused (Usual refusal)) =
     HasRoom keeps left_out old.objects base top × (step_limit old ≡ Some (Usual refusal))
 ExtentEnds old keeps left_out base top NoMemory = HasRoom keeps left_out old.objects base top × (step_limit old ≡ None)

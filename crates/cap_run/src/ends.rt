@@ -7,8 +7,8 @@ use cap_machine::Refusal;
 pub enum RunRefusal {
     /// For a reason that a log of version 2 has too.
     Usual(Refusal),
-    /// 28: the extent shares an address with that of a live object, in this slot.
-    Overlaps(usize),
+    /// 28: the extent shares an address with that of a live object.
+    Overlaps,
     /// 30: the word isn't sound.
     UnsoundResult,
     /// 31: the word's bounds leave the source's, or it has a permission that the source lacks.
@@ -21,8 +21,8 @@ pub enum RunRefusal {
     NoCapability,
     /// 35: the register has an owner.
     HasOwner,
-    /// 36: the extent shares an address with that of a freed object, in this slot, that is held.
-    StillHeld(usize),
+    /// 36: the extent shares an address with that of a freed object that a place holds.
+    StillHeld,
     /// 37: the register has no owner.
     NoOwner,
     /// 38: the object was freed.

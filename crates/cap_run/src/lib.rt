@@ -7,6 +7,7 @@
 //! ([`RunMachine::kept`]).
 #![tactic(auto)]
 
+mod asks;
 mod ends;
 mod granule_steps;
 mod object_steps;
@@ -16,6 +17,7 @@ mod run_machine;
 mod specials;
 mod usual_steps;
 
+pub use crate::asks::Asks;
 pub use crate::ends::{RunEnd, RunRefusal};
 pub use crate::run_machine::RunMachine;
 pub use crate::specials::Specials;

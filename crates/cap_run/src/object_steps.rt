@@ -27,8 +27,8 @@ fn ended(fault: HandOutFault) -> RunEnd
     ensures { result ≡ ended fault }
 {
     match fault {
-        HandOutFault::Overlaps(slot) => RunEnd::Refused(RunRefusal::Overlaps(slot)),
-        HandOutFault::StillHeld(slot) => RunEnd::Refused(RunRefusal::StillHeld(slot)),
+        HandOutFault::Overlaps(_) => RunEnd::Refused(RunRefusal::Overlaps),
+        HandOutFault::StillHeld(_) => RunEnd::Refused(RunRefusal::StillHeld),
         HandOutFault::NoMemory => RunEnd::NoMemory,
     }
 }
