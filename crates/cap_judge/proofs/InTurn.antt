@@ -11,8 +11,8 @@ use Rattle.cap_ops.proofs.TestLemmas.{none_hold}
 use Rattle.cap_log.specs.declared.lines.Line.{Line, TheVariants.{Root, Step, End, Version, Mode}}
 use Rattle.cap_log.specs.{declared.lines.{Mode.TheVariants.{Strict, Clear}, Place.Place}, Lines.IsInRange}
 use Rattle.cap_log.specs.declared.kinds.Step as steps_module
-use Rattle.cap_machine.specs.declared.rules.Rules.{Rules, TheVariants.{One, TwoStrict, TwoClear}}
-use Rattle.cap_machine.specs.Accounts.{Account, no_account, with_step, root_checks, most_roots, most_granules}
+use Rattle.cap_machine.specs.declared.{limits.Limits.Limits, rules.Rules.{Rules, TheVariants.{One, TwoStrict, TwoClear}}}
+use Rattle.cap_machine.specs.Accounts.{Account, limits_of, no_account, with_step, root_checks, most_roots, most_granules}
 use Rattle.cap_machine.specs.{Accounts.{most_steps, with_root}, Runs.IsRun}
 use Rattle.cap_machine.specs.{States.{DeclaredRoot, State, start, key_of, tagged}, Steps.Leads}
 use Rattle.cap_machine.proofs.AccountLemmas.{account_after-grows, first_of-none, after_roots, with_root-grows}
@@ -45,7 +45,7 @@ still_free account root roots own free key held =
 -- What is accepted is read
 
 -- sound roots at distinct places are read, where their account keeps to the limits
-roots_read : (rules_are : Rules) (account : Account) (roots : List DeclaredRoot) → account.rules ≡ rules_are → account.steps ≡ 0
+roots_read : (rules_are : Rules) (account : Account) (roots : List DeclaredRoot) → account.limits ≡ limits_of rules_are → account.steps ≡ 0
     → IsDistinct nat_eq (keys roots) → AreFree account.state roots → AllByRecursion
     (λ (root : DeclaredRoot). IsTrue (is_sound root.word.0)) roots
     → account.roots + length roots ≤ most_roots → (after_roots account roots).granules ≤ most_granules rules_are
@@ -57,33 +57,34 @@ roots_read rules_are account (root ∷ roots) same none distinct free sound few_
     let after = with_root account root.place root.word in
     let one = with_root-grows account root.place root.word in
     let rest = after_roots-grows after roots in
-    let most = ap most_granules same in
+    let most = ap (λ (l : Limits). l.granules) same in
+    let roots_limit = ap (λ (l : Limits). l.roots) same in
     let untagged = false_from_ne_true _ (λ held. eqb-false (key_of root.place) _ (free (key_of root.place) held).0 refl) in
     let unrefused = root_free account root.place root.word untagged sound.0 (omega arith) (omega arith) in (
       by_checks account line refl ∙ first_of-none (line_checks account line) (le-ltb 0 account.steps (omega arith), unrefused),
-      roots_read rules_are after roots (one.rules_stay ∙ same) (omega arith) distinct.1 (still_free account root roots distinct.0 free)
+      roots_read rules_are after roots (one.limits_stay ∙ same) (omega arith) distinct.1 (still_free account root roots distinct.0 free)
           sound.1 (omega arith) few_granules,
     )
 
 -- and so are steps that have a run from its state
-steps_read : (rules_are : Rules) (account : Account) (steps : List steps_module.Step) (states : List State) → account.rules ≡ rules_are
+steps_read : (rules_are : Rules) (account : Account) (steps : List steps_module.Step) (states : List State) → account.rules ≡ rules_are → account.limits ≡ limits_of rules_are
     → IsRun rules_are account.state steps states → account.steps + length steps ≤ most_steps
     → (after_steps account steps).granules ≤ most_granules rules_are
     → Reads (body account) (map Step steps) (body (after_steps account steps))
-steps_read rules_are account [] states same run few_steps few_granules = refl
-steps_read rules_are account (step ∷ steps) [] same run few_steps few_granules = absurd run
-steps_read rules_are account (step ∷ steps) (next ∷ states) same run few_steps few_granules =
+steps_read rules_are account [] states same within run few_steps few_granules = refl
+steps_read rules_are account (step ∷ steps) [] same within run few_steps few_granules = absurd run
+steps_read rules_are account (step ∷ steps) (next ∷ states) same within run few_steps few_granules =
     let after = with_step account step in
     let one = with_step-grows account step in
     let rest = after_steps-grows after steps in
-    let most = ap most_granules same in
+    let most = ap (λ (l : Limits). l.granules) within in
     let leads = subst (λ (r : Rules). Leads r account.state step next) (sym same) run.0 in
     let later = subst (λ (state : State). IsRun rules_are state steps states) leads.after run.1 in (
       by_checks account (Step step) refl ∙ step_free account step next leads (omega arith) (omega arith),
-      steps_read rules_are after steps states (one.rules_stay ∙ same) later (omega arith) few_granules,
+      steps_read rules_are after steps states (one.rules_stay ∙ same) (one.limits_stay ∙ within) later (omega arith) few_granules,
     )
 
-header_read : (rules_are : Rules) → Reads unread (header_lines rules_are) (body (no_account rules_are))
+header_read : (rules_are : Rules) → Reads unread (header_lines rules_are) (body (no_account rules_are (limits_of rules_are)))
 header_read One = (refl, refl)
 header_read TwoStrict = (refl, (refl, refl))
 header_read TwoClear = (refl, (refl, refl))
@@ -91,7 +92,7 @@ header_read TwoClear = (refl, (refl, refl))
 body_read : (rules_are : Rules) (roots : List DeclaredRoot) (steps : List steps_module.Step) → RunsBy rules_are roots steps
     → Reads unread (body_lines rules_are roots steps) (body (account_after rules_are roots steps))
 body_read rules_are roots steps runs =
-    let first = no_account rules_are in
+    let first = no_account rules_are (limits_of rules_are) in
     let rooted = after_roots first roots in
     let last = account_after rules_are roots steps in
     let started = sym (roots_start rules_are roots runs.distinct) in
@@ -103,7 +104,7 @@ body_read rules_are roots steps runs =
     let few_granules = runs.few_granules in
     let free = λ (key : ℕ) (held : IsTrue (start [] key).tag). absurd (false≢true held) in
     let roots_are = roots_read rules_are first roots refl refl runs.distinct free runs.sound (omega arith) (omega arith) in
-    let steps_are = steps_read rules_are rooted steps runs.run.0 by_roots.rules_stay run (omega arith) few_granules in
+    let steps_are = steps_read rules_are rooted steps runs.run.0 by_roots.rules_stay by_roots.limits_stay run (omega arith) few_granules in
     Reads-append unread (body first) (body last) (header_lines rules_are) _ (header_read rules_are)
     (Reads-append (body first) (body rooted) (body last) _ (map Step steps) roots_are steps_are)
 
@@ -178,7 +179,7 @@ longer (Body rules_are roots []) (Root place word) runs range allowed =
     record {
       accepted = root_runs rules_are roots root runs range.0 range.1 (first_of-none (root_checks account place word) checks.1);
       lines_are = roots_push rules_are roots root;
-      stage_is = ap body (after_roots-push (no_account rules_are) roots root);
+      stage_is = ap body (after_roots-push (no_account rules_are (limits_of rules_are)) roots root);
     }
 longer (Body rules_are roots (step ∷ steps)) (Root place word) runs range allowed =
     let account = account_after rules_are roots (step ∷ steps) in
@@ -187,7 +188,7 @@ longer (Body rules_are roots steps) (Step step) runs range allowed = record {
   accepted = step_runs rules_are roots steps step runs range
       (sym (by_checks (account_after rules_are roots steps) (Step step) refl) ∙ allowed);
   lines_are = steps_push rules_are roots steps step;
-  stage_is = ap body (after_steps-push (after_roots (no_account rules_are) roots) steps step);
+  stage_is = ap body (after_steps-push (after_roots (no_account rules_are (limits_of rules_are)) roots) steps step);
 }
 longer (Body rules_are roots steps) (End count) runs range allowed =
     let all = end_counts rules_are roots steps count (sym (by_checks (account_after rules_are roots steps) (End count) refl) ∙ allowed) in

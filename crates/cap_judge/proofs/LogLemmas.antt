@@ -12,8 +12,8 @@ use Rattle.cap_log.specs.declared.lines.{Line.TheVariants.{Root, Step, End}, Pla
 use Rattle.cap_log.specs.Lines.{IsInRange, IsStepInRange, IsPlace}
 use Rattle.cap_log.specs.declared.kinds.Step as steps_module
 use Rattle.cap_log.proofs.ElementLemmas.{AllByRecursion-append}
-use Rattle.cap_machine.specs.declared.rules.Rules.{Rules, TheVariants.{One, TwoStrict, TwoClear}}
-use Rattle.cap_machine.specs.Accounts.{Account, with_root, with_step, no_account, most_roots, most_granules, most_steps}
+use Rattle.cap_machine.specs.declared.{limits.Limits.Limits, rules.Rules.{Rules, TheVariants.{One, TwoStrict, TwoClear}}}
+use Rattle.cap_machine.specs.Accounts.{Account, limits_of, with_root, with_step, no_account, most_roots, most_granules, most_steps}
 use Rattle.cap_machine.specs.Accounts.{granule_of, named_by, row_in, passes_granule_limit, naming, root_checks}
 use Rattle.cap_machine.specs.{Accounts.step_checks, Runs.{IsRun, last_of}}
 use Rattle.cap_machine.specs.{States.{State, DeclaredRoot, key_of, tagged, is_taken, start}, Steps.Leads}
@@ -89,11 +89,11 @@ few_named true granules most within few = few
 few_named false granules most within few = let below = leb-false most granules within in omega arith
 
 naming_few : (account : Account) (granule : Option ℕ) → passes_granule_limit account granule ≡ false
-    → account.granules ≤ most_granules account.rules
-    → (naming account granule).granules ≤ most_granules account.rules
+    → account.granules ≤ account.limits.granules
+    → (naming account granule).granules ≤ account.limits.granules
 naming_few account None within few = few
 naming_few account (Some granule) within few =
-    few_named (account.is_named granule) account.granules (most_granules account.rules) within few
+    few_named (account.is_named granule) account.granules account.limits.granules within few
 
 -- no test of a step's row holds where none of its tests does, and neither does one of the last two
 rest_free : (account : Account) (step : steps_module.Step) → first_of (step_checks account step) ≡ None
@@ -117,10 +117,10 @@ step_runs rules_are roots steps step runs range free =
     let rest = rest_free account step free in
     let few : account.steps < most_steps = leb-false most_steps account.steps rest.2 in
     let counted = grown.steps_are in
-    let few_old = subst (λ (r : Rules). account.granules ≤ most_granules r) (sym grown.rules_stay) runs.few_granules in
-    let few_new = subst (λ (r : Rules). next.granules ≤ most_granules r) grown.rules_stay
+    let few_old = subst (λ (l : Limits). account.granules ≤ l.granules) (sym grown.limits_stay) runs.few_granules in
+    let few_new = subst (λ (l : Limits). next.granules ≤ l.granules) grown.limits_stay
     (naming_few account (named_by (row_in account step)) rest.3 few_old) in
-    let after = after_steps-push (after_roots (no_account rules_are) roots) steps step in
+    let after = after_steps-push (after_roots (no_account rules_are (limits_of rules_are)) roots) steps step in
     let leads : Leads account.rules account.state step next.state = record { allowed = rest.0; recorded = rest.1; after = refl } in
     let led = subst (λ (s : State). Leads rules_are s step next.state) (sym (last_state rules_are roots steps runs))
     (subst (λ (r : Rules). Leads r account.state step next.state) grown.rules_stay leads) in
@@ -137,7 +137,7 @@ step_runs rules_are roots steps step runs range free =
 
 -- the tests of a root that none refuses
 root_free : (account : Account) (place : Place) (word : Word) → first_of (root_checks account place word) ≡ None
-    → ((account.state (key_of place)).tag ≡ false) × IsTrue (is_sound word.0) × (nat_le most_roots account.roots ≡ false)
+    → ((account.state (key_of place)).tag ≡ false) × IsTrue (is_sound word.0) × (nat_le account.limits.roots account.roots ≡ false)
     × (passes_granule_limit account (granule_of place) ≡ false)
 root_free account place word free =
     let none = none_hold (root_checks account place word) free in
@@ -155,12 +155,13 @@ root_runs rules_are roots root runs place_range word_range free =
     let clear = root_free account root.place root.word free in
     let untaken = sym (tag-start roots root.place) ∙ ap (λ (s : State). (s (key_of root.place)).tag) began ∙ clear.0 in
     let unlike = list_any-map (λ (r : DeclaredRoot). key_of r.place) (λ y. nat_eq y (key_of root.place)) roots ∙ untaken in
-    let few : account.roots < most_roots = leb-false most_roots account.roots clear.2 in
+    let roots_limit : account.limits.roots ≡ most_roots = ap (λ (l : Limits). l.roots) grown.limits_stay in
+    let few : account.roots < account.limits.roots = leb-false account.limits.roots account.roots clear.2 in
     let counted = grown.roots_are in
-    let few_old = subst (λ (r : Rules). account.granules ≤ most_granules r) (sym grown.rules_stay) runs.few_granules in
-    let few_new = subst (λ (r : Rules). (with_root account root.place root.word).granules ≤ most_granules r) grown.rules_stay
+    let few_old = subst (λ (l : Limits). account.granules ≤ l.granules) (sym grown.limits_stay) runs.few_granules in
+    let few_new = subst (λ (l : Limits). (with_root account root.place root.word).granules ≤ l.granules) grown.limits_stay
     (naming_few account (granule_of root.place) clear.3 few_old) in
-    let after = after_roots-push (no_account rules_are) roots root in
+    let after = after_roots-push (no_account rules_are (limits_of rules_are)) roots root in
     record {
       grammar = subst (AllByRecursion IsInRange) (sym (roots_push rules_are roots root))
           (AllByRecursion-append IsInRange (body_lines rules_are roots []) (Root root.place root.word ∷ []) runs.grammar
@@ -168,7 +169,7 @@ root_runs rules_are roots root runs place_range word_range free =
       distinct = subst (IsDistinct nat_eq) (sym (map-append (λ (r : DeclaredRoot). key_of r.place) roots (root ∷ [])))
           (IsDistinct-push (map (λ (r : DeclaredRoot). key_of r.place) roots) (key_of root.place) runs.distinct unlike);
       sound = AllByRecursion-append (λ (r : DeclaredRoot). IsTrue (is_sound r.word.0)) roots (root ∷ []) runs.sound (clear.1, tt);
-      few_roots = omega (arith, length_push roots root, few, counted);
+      few_roots = omega (arith, length_push roots root, few, counted, roots_limit);
       few_granules = subst (λ (a : Account). a.granules ≤ most_granules rules_are) (sym after) few_new;
       few_steps = lit≤ tt;
       run = ([], tt);

@@ -3,7 +3,7 @@ use Rattle.std.specs.Prelude.{◌≡◌, ◌≢◌, ℕ, ◌+◌, Bool, true, fa
 use Rattle.cap_streams.specs.declared.judge_faults.JudgeFault.{JudgeFault, TheVariants.{Pull, NoMemory}}
 use Rattle.cap_streams.specs.Front.{IsCut, FrontIs}
 use Rattle.cap_log.specs.declared.kinds.Step.{Step}
-use Rattle.cap_machine.specs.{declared.rules.Rules.{Rules, TheVariants.One}, Accounts.{Account, no_account}}
+use Rattle.cap_machine.specs.{declared.rules.Rules.{Rules, TheVariants.One}, Accounts.{Account, limits_of, no_account}}
 use Rattle.cap_machine.specs.{Helds.{Held, account_of}, States.DeclaredRoot}
 use Rattle.cap_judge.specs.{declared.verdict.Verdict.{Verdict, TheVariants.{Yes, No}}, Logs.{Beginning, Empty, NoMode}}
 use Rattle.cap_judge.specs.Logs.{Body, Whole, lines_of, text_of, account_after, IsAccepted, IsLogOf, IsFirstFault}
@@ -22,8 +22,8 @@ pub record IsBehind (bytes : List ℕ) (beginning : Beginning) (rest : List ℕ)
 
 -- the account after a beginning; before the header is read it is an empty one
 abbrev pub account_before : Beginning → Account
-account_before Empty = no_account One
-account_before NoMode = no_account One
+account_before Empty = no_account One (limits_of One)
+account_before NoMode = no_account One (limits_of One)
 account_before (Body rules roots steps) = account_after rules roots steps
 account_before (Whole rules roots steps) = account_after rules roots steps
 

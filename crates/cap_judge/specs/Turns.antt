@@ -6,7 +6,7 @@ use Rattle.cap_log.specs.declared.lines.Line.{Line, TheVariants.{Version, Mode, 
 use Rattle.cap_log.specs.declared.lines.Mode.TheVariants.{Strict, Clear}
 use Rattle.cap_log.specs.declared.lines.Mode as modes_module
 use Rattle.cap_machine.specs.declared.rules.Rules.{Rules, TheVariants.{One, TwoStrict, TwoClear}}
-use Rattle.cap_machine.specs.Accounts.{Account, no_account, with_root, with_step}
+use Rattle.cap_machine.specs.Accounts.{Account, limits_of, no_account, with_root, with_step}
 use Rattle.cap_judge.specs.Logs.{has_form, line_checks}
 
 -- what the next line of a log has to be: the version line; the mode line; a root, a step or the end line; none, after
@@ -25,7 +25,7 @@ pub record Stage : Type 0 where
 
 -- nothing is read
 abbrev pub unread : Stage
-unread = record { account = no_account One; due = First }
+unread = record { account = no_account One (limits_of One); due = First }
 
 -- why a line is refused there, or bytes that no line spells
 abbrev pub refusal_at : Account → Due → Option Line → Option Refusal
@@ -48,7 +48,7 @@ rules_of Clear = TwoClear
 
 -- what a line leads to
 abbrev pub account_with : Account → Line → Account
-account_with account (Mode mode) = record account { rules = rules_of mode }
+account_with account (Mode mode) = record account { rules = rules_of mode; limits = limits_of (rules_of mode) }
 account_with account (Root place word) = with_root account place word
 account_with account (Step step) = with_step account step
 account_with account line = account

@@ -486,7 +486,9 @@ impl<M: TaggedStore> Judge<M> {
             },
             NextLine::Mode => match *line {
                 Line::Mode(mode) => {
-                    self.machine.follow(rules_of(mode));
+                    let rules = rules_of(mode);
+                    self.machine.follow(rules);
+                    self.machine.limit(rules.limits());
                     self.stage = NextLine::Body;
                     Ok(())
                 }

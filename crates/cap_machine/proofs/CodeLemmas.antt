@@ -91,11 +91,11 @@ origins-put codes key code = fun_ext (λ other. choice_under place_at (key == ot
 pub account-register : (old : Held) (target : ℕ) (cap : Cap) (code : ℕ) (origins : Origins) → length old.registers ≡ 32
     → length old.codes ≡ 32 → target ≤ 31 → put (origins_by (code_in old)) target (place_at code) ≡ origins
     → account_of (record old { registers = set old.registers target cap; codes = set old.codes target code })
-    ≡ account_with old.rules (put (state_of old) target cap) origins old.roots old.steps (named_in old.memory) (map.len old.memory)
+    ≡ account_with old.rules old.limits (put (state_of old) target cap) origins old.roots old.steps (named_in old.memory) (map.len old.memory)
 account-register old target cap code origins sized coded_so low is =
-    ap (λ (s : State). account_with old.rules s (origins_by (codes_of (set old.codes target code) old.memory)) old.roots old.steps
+    ap (λ (s : State). account_with old.rules old.limits s (origins_by (codes_of (set old.codes target code) old.memory)) old.roots old.steps
     (named_in old.memory) (map.len old.memory)) (state-register old.registers old.memory target cap sized low)
-    ∙ ap (λ (o : Origins). account_with old.rules (put (state_of old) target cap) o old.roots old.steps (named_in old.memory)
+    ∙ ap (λ (o : Origins). account_with old.rules old.limits (put (state_of old) target cap) o old.roots old.steps (named_in old.memory)
     (map.len old.memory))
     (ap origins_by (codes-register old.codes old.memory target code coded_so low) ∙ origins-put (code_in old) target code ∙ is)
 
@@ -103,18 +103,18 @@ account-register old target cap code origins sized coded_so low is =
 pub account-granule : (old : Held) (granule : ℕ) (entry : Entry) (cap : Cap) (origins : Origins) → cap_of entry ≡ cap
     → put (origins_by (code_in old)) (granule_key granule) (place_at entry.2) ≡ origins
     → account_of (record old { memory = map.insert old.memory granule entry })
-    ≡ account_with old.rules (put (state_of old) (granule_key granule) cap) origins old.roots old.steps
+    ≡ account_with old.rules old.limits (put (state_of old) (granule_key granule) cap) origins old.roots old.steps
     (also_named granule (named_in old.memory)) (if named_in old.memory granule then map.len old.memory else map.len old.memory + 1)
 account-granule old granule entry cap origins holds is =
     let after = map.insert old.memory granule entry in
     let state = put (state_of old) (granule_key granule) cap in
-    ap (λ (s : State). account_with old.rules s (origins_by (codes_of old.codes after)) old.roots old.steps (named_in after) (map.len after))
+    ap (λ (s : State). account_with old.rules old.limits s (origins_by (codes_of old.codes after)) old.roots old.steps (named_in after) (map.len after))
     (state-granule old.registers old.memory granule entry ∙ ap (put (state_of old) (granule_key granule)) holds)
-    ∙ ap (λ (o : Origins). account_with old.rules state o old.roots old.steps (named_in after) (map.len after))
+    ∙ ap (λ (o : Origins). account_with old.rules old.limits state o old.roots old.steps (named_in after) (map.len after))
     (ap origins_by (codes-granule old.codes old.memory granule entry) ∙ origins-put (code_in old) (granule_key granule) entry.2 ∙ is)
-    ∙ ap (λ (named : ℕ → Bool). account_with old.rules state origins old.roots old.steps named (map.len after))
+    ∙ ap (λ (named : ℕ → Bool). account_with old.rules old.limits state origins old.roots old.steps named (map.len after))
     (named-put old.memory granule entry)
-    ∙ ap (account_with old.rules state origins old.roots old.steps (also_named granule (named_in old.memory)))
+    ∙ ap (account_with old.rules old.limits state origins old.roots old.steps (also_named granule (named_in old.memory)))
     (len-put old.memory granule entry)
 
 -- where a result is tagged, the place that it comes from has this code

@@ -4,7 +4,7 @@ use Rattle.std.proofs.Common.{◌≡◌, ℕ, zero, suc, ◌==◌, nat_eq, false
 use Rattle.std.proofs.Common.{Contains, refl, sym, ap, subst, ◌∙◌, arith, eq-eqb, ne_eqb, take_all, option_and_then}
 use Rattle.std.proofs.{Math.Path.fun_ext, lemmas.Bool.{cond-true, cond-false, eqb-false, Decides.eqb_tells}}
 use Rattle.cap_log.specs.{declared.kinds.Step.Step, Lines.IsStepInRange}
-use Rattle.cap_machine.specs.{declared.rules.Rules.Rules, Accounts.{Account, no_account, with_root, with_step}}
+use Rattle.cap_machine.specs.{declared.rules.Rules.Rules, Accounts.{Account, limits_of, no_account, with_root, with_step}}
 use Rattle.cap_machine.specs.{Origins.{Origins, origins_after, origins_along}, RunAccounts.OriginsAreRoots}
 use Rattle.cap_machine.specs.{RunAccounts.account_after, Runs.{AreSound, Descends, IsRun, last_of, state_at}}
 use Rattle.cap_machine.specs.States.{State, DeclaredRoot, key_of, start, untagged_null}
@@ -66,8 +66,8 @@ origin-root account (first ∷ roots) root distinct (suc i, below, same) =
 
 -- after roots at distinct places an account has the state that they make
 pub roots_start : (rules : Rules) (roots : List DeclaredRoot) → IsDistinct nat_eq (keys roots)
-    → (after_roots (no_account rules) roots).state ≡ start roots
-roots_start rules roots distinct = fun_ext (λ key. state-start (no_account rules) roots key distinct refl)
+    → (after_roots (no_account rules (limits_of rules)) roots).state ≡ start roots
+roots_start rules roots distinct = fun_ext (λ key. state-start (no_account rules (limits_of rules)) roots key distinct refl)
 
 -- the account after a run has its last state, and the origins along it
 pub after_run : (account : Account) (steps : List Step) (states : List State) → IsRun account.rules account.state steps states
@@ -90,10 +90,10 @@ after_run account (step ∷ steps) (next ∷ states) run =
 -- a run from roots is one of the account after them
 from_roots : (rules : Rules) (roots : List DeclaredRoot) (steps : List Step) (states : List State) → IsDistinct nat_eq (keys roots)
     → IsRun rules (start roots) steps states
-    → IsRun (after_roots (no_account rules) roots).rules (after_roots (no_account rules) roots).state steps states
+    → IsRun (after_roots (no_account rules (limits_of rules)) roots).rules (after_roots (no_account rules (limits_of rules)) roots).state steps states
 from_roots rules roots steps states distinct run =
-    let rooted = after_roots (no_account rules) roots in
-    let grown = after_roots-grows (no_account rules) roots in
+    let rooted = after_roots (no_account rules (limits_of rules)) roots in
+    let grown = after_roots-grows (no_account rules (limits_of rules)) roots in
     subst (λ (r : Rules). IsRun r rooted.state steps states) (sym grown.rules_stay)
     (subst (λ (s : State). IsRun rules s steps states) (sym (roots_start rules roots distinct)) run)
 
@@ -102,7 +102,7 @@ pub last_after : (rules : Rules) (roots : List DeclaredRoot) (steps : List Step)
     → IsRun rules (start roots) steps states → last_of (start roots) states ≡ (account_after rules roots steps).state
 last_after rules roots steps states distinct run =
     ap (λ (s : State). last_of s states) (sym (roots_start rules roots distinct))
-    ∙ sym (after_run (after_roots (no_account rules) roots) steps states (from_roots rules roots steps states distinct run)).0
+    ∙ sym (after_run (after_roots (no_account rules (limits_of rules)) roots) steps states (from_roots rules roots steps states distinct run)).0
 
 -- the last moment of a run
 last_moment : (rules : Rules) (state : State) (steps : List Step) (states : List State) → IsRun rules state steps states
@@ -118,7 +118,7 @@ pub origins_found : (rules : Rules) (roots : List DeclaredRoot) (steps : List St
     → AllByRecursion IsStepInRange steps → IsRun rules (start roots) steps states
     → OriginsAreRoots (account_after rules roots steps) roots steps states
 origins_found rules roots steps states sound distinct ranges run key held =
-    let rooted = after_roots (no_account rules) roots in
+    let rooted = after_roots (no_account rules (limits_of rules)) roots in
     let began = roots_start rules roots distinct in
     let after = after_run rooted steps states (from_roots rules roots steps states distinct run) in
     let last = last_moment rules (start roots) steps states run in
@@ -135,5 +135,5 @@ origins_found rules roots steps states sound distinct ranges run key held =
       ap (λ (o : Origins). o key) after.1
           ∙ ap (λ (s : State). origins_along rooted.origin s steps states key) began
           ∙ traced rooted.origin (start roots) steps states key (key_of root.0.place) back
-          ∙ origin-root (no_account rules) roots root.0 distinct descends.declared,
+          ∙ origin-root (no_account rules (limits_of rules)) roots root.0 distinct descends.declared,
     )

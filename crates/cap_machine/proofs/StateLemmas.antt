@@ -8,7 +8,7 @@ use Rattle.std.proofs.lemmas.{Bool.Decides.eqb_tells, List.{get_or-replicate, ge
 use Rattle.cap_word.specs.declared.word.Cap.{Cap}
 use Rattle.tagmem.specs.Granules.{Granules, Entry, entry_at, code_at}
 use Rattle.tagmem.proofs.Granules.{get-put, entry_at-empty, entry_at-put_same, entry_at-put_other}
-use Rattle.cap_machine.specs.{declared.rules.Rules.Rules, Accounts.{Account, no_account}, Helds.granule_cap}
+use Rattle.cap_machine.specs.{declared.{limits.Limits.Limits, rules.Rules.Rules}, Accounts.{Account, no_account}, Helds.granule_cap}
 use Rattle.cap_machine.specs.{Helds.account_of, Origins.Origins, Places.{at_places, places_of, codes_of, place_at}}
 use Rattle.cap_machine.specs.States.{State, start, untagged_null, put, granule_key}
 use Rattle.cap_machine.proofs.GranuleLemmas.{cap_of, granule_cap-absent}
@@ -138,28 +138,29 @@ named-put memory granule entry =
     ∙ ap (λ b. b || is_some (map.get memory other)) (eqb-turned other granule))
 
 -- an account of these
-abbrev pub account_with : Rules → State → Origins → ℕ → ℕ → (ℕ → Bool) → ℕ → Account
-account_with rules_are state origins roots steps named granules =
-    record { rules = rules_are; state = state; origin = origins; roots = roots; steps = steps; is_named = named; granules = granules }
+abbrev pub account_with : Rules → Limits → State → Origins → ℕ → ℕ → (ℕ → Bool) → ℕ → Account
+account_with rules_are limits_are state origins roots steps named granules =
+    record { rules = rules_are; limits = limits_are; state = state; origin = origins; roots = roots; steps = steps; is_named = named; granules = granules }
 
 -- the account of registers that all hold NULL, and an empty memory
-pub blank_account : (rules_are : Rules) (memory : Granules) (value : Cap) → memory ≡ map.empty → value ≡ untagged_null
+pub blank_account : (rules_are : Rules) (limits_are : Limits) (memory : Granules) (value : Cap) → memory ≡ map.empty → value ≡ untagged_null
     → account_of (record {
       rules = rules_are;
+      limits = limits_are;
       registers = replicate 32 value;
       codes = replicate 32 0;
       memory = memory;
       roots = 0;
       steps = 0;
-    }) ≡ no_account rules_are
-blank_account rules_are memory value empty null =
+    }) ≡ no_account rules_are limits_are
+blank_account rules_are limits_are memory value empty null =
     let origins = λ (k : ℕ). place_at (codes_of (replicate 32 0) memory k) in
     let unrooted : Origins = λ k. None in
-    ap (λ (state : State). account_with rules_are state origins 0 0 (named_in memory) (map.len memory))
+    ap (λ (state : State). account_with rules_are limits_are state origins 0 0 (named_in memory) (map.len memory))
     (fun_ext (λ key. blank_state memory value key empty null))
-    ∙ ap (λ (o : Origins). account_with rules_are (start []) o 0 0 (named_in memory) (map.len memory))
+    ∙ ap (λ (o : Origins). account_with rules_are limits_are (start []) o 0 0 (named_in memory) (map.len memory))
     (fun_ext (λ (key : ℕ). ap place_at (blank_code memory key empty)))
-    ∙ ap (λ (m : Granules). account_with rules_are (start []) unrooted 0 0 (named_in m) (map.len m)) empty
-    ∙ ap (λ (named : ℕ → Bool). let m : Granules = map.empty in account_with rules_are (start []) unrooted 0 0 named (map.len m))
+    ∙ ap (λ (m : Granules). account_with rules_are limits_are (start []) unrooted 0 0 (named_in m) (map.len m)) empty
+    ∙ ap (λ (named : ℕ → Bool). let m : Granules = map.empty in account_with rules_are limits_are (start []) unrooted 0 0 named (map.len m))
     (fun_ext (λ (g : ℕ). ap is_some (map.get-empty nat_cmp g)))
-    ∙ ap (account_with rules_are (start []) unrooted 0 0 (λ (g : ℕ). false)) (map.len-empty nat_cmp Entry)
+    ∙ ap (account_with rules_are limits_are (start []) unrooted 0 0 (λ (g : ℕ). false)) (map.len-empty nat_cmp Entry)

@@ -8,13 +8,14 @@ use Rattle.cap_ops.specs.declared.refusal.Refusal.{Refusal}
 use Rattle.cap_ops.specs.declared.refusal.Refusal.TheVariants.{PlaceTaken, UnsoundRoot, WrongResult, LimitPassed}
 use Rattle.cap_log.specs.declared.{kinds.Step.Step, lines.Place.Place}
 pub use Rattle.cap_machine.specs.Steps.{granule_of, named_by}
-use Rattle.cap_machine.specs.{declared.rules.Rules.{Rules, TheVariants.One}, Origins.origins_after, States.State}
+use Rattle.cap_machine.specs.{declared.{limits.Limits.Limits, rules.Rules.{Rules, TheVariants.One}}, Origins.origins_after, States.State}
 use Rattle.cap_machine.specs.{States.{key_of, put, start, tagged}, Steps.{Row, row_of, row_by, agrees, state_with}}
 
--- what checks see: the rules, the state, each place's root, the numbers of roots and steps, and which granules were
--- named and how many
+-- what checks see: the rules and the limits, the state, each place's root, the numbers of roots and steps, and which
+-- granules were named and how many
 pub record Account : Type 0 where
   pub rules : Rules
+  pub limits : Limits
   pub state : State
   pub origin : ℕ → Option Place
   pub roots : ℕ
@@ -23,18 +24,30 @@ pub record Account : Type 0 where
   pub granules : ℕ
 
 -- the account before any root
-abbrev pub no_account : Rules → Account
-no_account rules_are =
-    record { rules = rules_are; state = start []; origin = λ key. None; roots = 0; steps = 0; is_named = λ granule. false; granules = 0 }
+abbrev pub no_account : Rules → Limits → Account
+no_account rules_are limits_are = record {
+  rules = rules_are;
+  limits = limits_are;
+  state = start [];
+  origin = λ key. None;
+  roots = 0;
+  steps = 0;
+  is_named = λ granule. false;
+  granules = 0;
+}
 
--- the greatest number of roots
+-- the greatest number of roots of a log
 abbrev pub most_roots : ℕ
 most_roots = 4096
 
--- the greatest number of distinct granules that roots, sc and store name
+-- the greatest number of distinct granules that roots, sc and store of a log name
 abbrev pub most_granules : Rules → ℕ
 most_granules One = 65536
 most_granules rules = 1048576
+
+-- the limits of a log
+abbrev pub limits_of : Rules → Limits
+limits_of rules = record { roots = most_roots; granules = most_granules rules }
 
 -- the greatest number of steps
 abbrev pub most_steps : ℕ
@@ -50,7 +63,7 @@ is_new account named = option_map_or (λ granule. not (account.is_named granule)
 
 -- whether naming a granule passes the limit on granules
 abbrev pub passes_granule_limit : Account → Option ℕ → Bool
-passes_granule_limit account granule = is_new account granule && nat_le (most_granules account.rules) account.granules
+passes_granule_limit account granule = is_new account granule && nat_le account.limits.granules account.granules
 
 -- the account after a granule was named, or none
 abbrev pub naming : Account → Option ℕ → Account
@@ -81,7 +94,7 @@ abbrev pub root_checks : Account → Place → Word → List (Bool × Refusal)
 root_checks account place word =
     ((account.state (key_of place)).tag, PlaceTaken)
     ∷ (not (is_sound word.0), UnsoundRoot)
-    ∷ (nat_le most_roots account.roots || passes_granule_limit account (granule_of place), LimitPassed) ∷ []
+    ∷ (nat_le account.limits.roots account.roots || passes_granule_limit account (granule_of place), LimitPassed) ∷ []
 
 -- a step: its row's checks, then the recorded result, then the limits
 abbrev pub step_checks : Account → Step → List (Bool × Refusal)

@@ -9,16 +9,17 @@ use Rattle.cap_ops.specs.Operations.{clear_result}
 use Rattle.cap_log.specs.declared.{kinds.Step.Step, lines.Place.Place}
 use Rattle.tagmem.specs.Granules.{Granules}
 pub use Rattle.cap_machine.specs.Places.{granule_cap}
-use Rattle.cap_machine.specs.declared.{ends.StepEnd.{StepEnd, TheVariants.{Refused, NoMemory}}, rules.Rules.Rules}
+use Rattle.cap_machine.specs.declared.{ends.StepEnd.{StepEnd, TheVariants.{Refused, NoMemory}}, limits.Limits.Limits, rules.Rules.Rules}
 use Rattle.cap_machine.specs.declared.rules.Rules.TheVariants.{One, TwoStrict, TwoClear}
 use Rattle.cap_machine.specs.Accounts.{Account, granule_of, named_by, row_in, is_new, with_root, with_step, root_checks}
 use Rattle.cap_machine.specs.{Accounts.step_checks, Parents.IsSoundState, Places.{AreCoded, places_of, codes_of}}
 use Rattle.cap_machine.specs.{Places.place_at, States.{State, untagged_null}, Steps.Leads}
 
--- what a machine holds: its rules, its registers and the codes of their origins, the granules that were put, with such
+-- what a machine holds: its rules and limits, its registers and the codes of their origins, the granules that were put, with such
 -- codes, and its counts of roots and steps
 pub record Held : Type 0 where
   pub rules : Rules
+  pub limits : Limits
   pub registers : List Cap
   pub codes : List ℕ
   pub memory : Granules
@@ -49,6 +50,12 @@ rules_numbered-rules_number One = refl
 rules_numbered-rules_number TwoStrict = refl
 rules_numbered-rules_number TwoClear = refl
 
+-- limits are stored as the pair of their numbers
+abbrev pub limits_code : Coded Limits
+limits_code =
+    code_by (ℕ × ℕ) (coded× coded_ℕ coded_ℕ) (λ limits. (limits.roots, limits.granules))
+    (λ pair. record { roots = pair.0; granules = pair.1 }) (λ _. refl)
+
 -- granules are stored as the list of their entries, each as its tag, bytes and code
 abbrev pub granules_code : Coded Granules
 granules_code =
@@ -59,17 +66,18 @@ granules_code =
 -- what a machine holds is stored as the tuple of its fields
 abbrev pub held_code : Coded Held
 held_code =
-    code_by (Rules × (List Cap × (List ℕ × (Granules × (ℕ × ℕ)))))
+    code_by (Rules × (Limits × (List Cap × (List ℕ × (Granules × (ℕ × ℕ))))))
     (coded× (code_by ℕ coded_ℕ rules_number rules_numbered rules_numbered-rules_number)
-    (coded× (coded_list cap_code) (coded× (coded_list coded_ℕ) (coded× granules_code (coded× coded_ℕ coded_ℕ)))))
-    (λ held. (held.rules, (held.registers, (held.codes, (held.memory, (held.roots, held.steps))))))
+    (coded× limits_code (coded× (coded_list cap_code) (coded× (coded_list coded_ℕ) (coded× granules_code (coded× coded_ℕ coded_ℕ))))))
+    (λ held. (held.rules, (held.limits, (held.registers, (held.codes, (held.memory, (held.roots, held.steps)))))))
     (λ parts. record {
       rules = parts.0;
-      registers = parts.1.0;
-      codes = parts.1.1.0;
-      memory = parts.1.1.1.0;
-      roots = parts.1.1.1.1.0;
-      steps = parts.1.1.1.1.1;
+      limits = parts.1.0;
+      registers = parts.1.1.0;
+      codes = parts.1.1.1.0;
+      memory = parts.1.1.1.1.0;
+      roots = parts.1.1.1.1.1.0;
+      steps = parts.1.1.1.1.1.1;
     }) (λ _. refl)
 
 -- there are 32 registers, c0 is NULL without a tag, each tagged capability is sound, and the codes are those of the
@@ -92,6 +100,7 @@ code_in held = codes_of held.codes held.memory
 abbrev pub account_of : Held → Account
 account_of held = record {
   rules = held.rules;
+  limits = held.limits;
   state = state_of held;
   origin = λ key. place_at (code_in held key);
   roots = held.roots;

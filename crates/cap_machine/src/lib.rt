@@ -13,6 +13,7 @@
 mod ends;
 mod instructions;
 mod laws;
+mod limits;
 mod machine;
 mod rules;
 mod shown;
@@ -25,7 +26,8 @@ pub use crate::laws::{
     accesses_lie_inside, authority_never_grows, bounds_are_cleared_exactly, origins_are_roots,
     origins_follow_descent, runs_clear_exactly, runs_end_in_accounts, steps_stay_within,
 };
-pub use crate::machine::{MOST_ROOTS, MOST_STEPS, Machine};
-pub use crate::rules::Rules;
+pub use crate::limits::Limits;
+pub use crate::machine::{MOST_STEPS, Machine};
+pub use crate::rules::{MOST_ROOTS, Rules};
 pub use crate::shown::{Given, Reached, Request, Shown};
 pub use cap_ops::Refusal;

@@ -10,7 +10,7 @@ ghost use Rattle.cap_ops.specs.{Checks.first_of, Sizes.size_fits};
 ghost use Rattle.cap_log.specs.Lines.{IsPlace, IsStepInRange, IsTarget};
 ghost use Rattle.tagmem.specs.Granules.{AreStored, HasRoom, IsCodeFor, IsNextPut, bytes_at, with_bytes};
 ghost use Rattle.tagmem.specs.Granules.{with_cap};
-ghost use Rattle.cap_machine.specs.Accounts.{granule_of, is_new, no_account, passes_granule_limit, root_checks};
+ghost use Rattle.cap_machine.specs.Accounts.{granule_of, is_new, limits_of, no_account, passes_granule_limit, root_checks};
 ghost use Rattle.cap_machine.specs.Changes.{AnswersPut, Derives, IsAccess, IsParentsCode, Placed, WritesRegister};
 ghost use Rattle.cap_machine.specs.Changes.{address_in, is_past_limits, number_at, with_cap_put, with_value_put};
 ghost use Rattle.cap_machine.specs.{Escapes.{ClearsBeyond, Escapes}, Helds.{AnswersStep, EndsRoot, EndsStep, IsKept}};
@@ -21,6 +21,7 @@ ghost use Rattle.cap_machine.specs.{Labels.{filled, labelled, placed_with, with_
 
 use crate::ends::StepEnd;
 use crate::instructions::{make, show};
+use crate::limits::Limits;
 use crate::rules::Rules;
 use crate::shown::{Reached, Shown};
 use cap_bounds::sound;
@@ -29,9 +30,6 @@ use cap_ops::{Access, Kind, OpFault, RecentAuthority, Refusal, may_access_soundl
 use cap_word::{Cap, Word, from_memory, null, to_memory};
 use std::marker::Model;
 use tagmem::{NoMemory, TaggedStore};
-
-/// The greatest number of roots that a machine takes (this profile's own): past it comes `LimitPassed`.
-pub const MOST_ROOTS: u32 = 4096;
 
 /// The greatest number of steps that a machine makes (this profile's own): past it comes `LimitPassed`.
 pub const MOST_STEPS: u32 = u32::MAX;
@@ -43,6 +41,7 @@ pub const MOST_STEPS: u32 = u32::MAX;
 #[derive(Drop)]
 pub struct Machine<M: TaggedStore> {
     pub(crate) rules: Rules,
+    limits: Limits,
     registers: [Cap; 32],
     // The code of the origin of what each register holds; the store has those of granules.
     pub(crate) codes: [u64; 32],
@@ -61,6 +60,7 @@ impl<M: TaggedStore> Model for Machine<M> {
 
     ghost view = { λ machine. record {
       rules = machine.rules;
+      limits = machine.limits;
       registers = machine.registers;
       codes = machine.codes;
       memory = M.contents machine.memory;
@@ -75,7 +75,7 @@ impl<M: TaggedStore> Machine<M> {
     /// A machine by the rules of version 1, as `with_rules` makes it.
     pub fn new(memory: M) -> Machine<M>
         requires { map.len (M.contents memory) ≡ 0 }
-        ensures account { account_of result ≡ no_account Rules.One }
+        ensures account { account_of result ≡ no_account Rules.One (limits_of Rules.One) }
     {
         Machine::with_rules(memory, Rules::One)
     }
@@ -84,7 +84,15 @@ impl<M: TaggedStore> Machine<M> {
     /// It takes no memory.
     pub fn with_rules(memory: M, rules: Rules) -> Machine<M>
         requires { map.len (M.contents memory) ≡ 0 }
-        ensures account { account_of result ≡ no_account rules }
+        ensures account { account_of result ≡ no_account rules (limits_of rules) }
+    {
+        Machine::with_limits(memory, rules, rules.limits())
+    }
+
+    /// A machine as `with_rules` makes it, with limits of the caller's.
+    pub fn with_limits(memory: M, rules: Rules, limits: Limits) -> Machine<M>
+        requires { map.len (M.contents memory) ≡ 0 }
+        ensures account { account_of result ≡ no_account rules limits }
     {
         let nothing = Cap {
             tag: false,
@@ -92,6 +100,7 @@ impl<M: TaggedStore> Machine<M> {
         };
         Machine {
             rules,
+            limits,
             registers: [nothing; 32],
             codes: [0; 32],
             memory,
@@ -101,11 +110,18 @@ impl<M: TaggedStore> Machine<M> {
         }
     }
 
-    /// From now on it follows these rules. All else is as before.
+    /// From now on it follows these rules. All else is as before, its limits too.
     pub fn follow(&mut self, rules: Rules)
         ensures held { self.new ≡ record self.old { rules = rules } }
     {
         self.rules = rules;
+    }
+
+    /// From now on it keeps to these limits. All else is as before.
+    pub fn limit(&mut self, limits: Limits)
+        ensures held { self.new ≡ record self.old { limits = limits } }
+    {
+        self.limits = limits;
     }
 
     /// The rules that it follows.
@@ -122,7 +138,7 @@ impl<M: TaggedStore> Machine<M> {
         self.steps
     }
 
-    /// How many roots were declared, at most 4,096.
+    /// How many roots were declared, at most as many as the limits allow.
     pub fn roots(&self) -> u32
         ensures value { result ≡ self.now.roots }
     {
@@ -223,8 +239,8 @@ impl<M: TaggedStore> Machine<M> {
 
     /// Puts a root, tagged, at its place, and counts it; that place is its origin. It is refused for the
     /// first of these that holds: its place has a capability with a tag already (`PlaceTaken`), its word is
-    /// not sound (`UnsoundRoot`), there are 4,096 roots, or it names a granule beyond those that the rules
-    /// allow (`LimitPassed`). `NoMemory` comes only at a granule named for the first time. After an error
+    /// not sound (`UnsoundRoot`), there are as many roots as the limits allow, or it names a granule beyond
+    /// those that they allow (`LimitPassed`). `NoMemory` comes only at a granule named for the first time. After an error
     /// nothing has changed.
     pub fn declare(&mut self, place: Place, word: Word) -> Result<(), StepEnd>
         requires { IsPlace place }
@@ -249,7 +265,7 @@ impl<M: TaggedStore> Machine<M> {
             Some(Refusal::PlaceTaken)
         } else if !sound(word) {
             Some(Refusal::UnsoundRoot)
-        } else if self.roots >= MOST_ROOTS
+        } else if self.roots >= self.limits.roots
             || matches!(place, Place::Granule(granule) if self.granule_passes_limit(granule))
         {
             Some(Refusal::LimitPassed)
@@ -264,7 +280,7 @@ impl<M: TaggedStore> Machine<M> {
         requires { granule < 2 ^ 60 }
         ensures { result ≡ passes_granule_limit (account_of self.now) (Some granule) }
     {
-        self.memory.count() >= self.rules.most_granules() && self.is_unnamed(granule)
+        self.memory.count() >= self.limits.granules && self.is_unnamed(granule)
     }
 
     // Whether no root, `sc` or `store` has named a granule.

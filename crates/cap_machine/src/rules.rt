@@ -2,6 +2,11 @@
 
 ghost use Rattle.std.specs.Prelude.{◌≡◌};
 
+use crate::limits::Limits;
+
+/// The greatest number of roots of a log (this profile's own): past it comes `LimitPassed`.
+pub const MOST_ROOTS: u32 = 4096;
+
 /// Which version of the log a machine follows, and in which mode.
 #[derive(Debug, Clone, Copy, PartialEq, Eq)]
 pub enum Rules {
@@ -14,15 +19,19 @@ pub enum Rules {
 }
 
 impl Rules {
-    ghost use Rattle.cap_machine.specs.Accounts.{most_granules};
+    ghost use Rattle.cap_machine.specs.Accounts.{limits_of};
 
-    /// The greatest number of distinct granules that roots, `sc` and `store` name: past it comes `LimitPassed`.
-    pub fn most_granules(self) -> u32
-        ensures value { result ≡ most_granules self }
+    /// The limits of a log of the version: 4,096 roots, and 65,536 granules in version 1, 1,048,576 in version 2.
+    pub fn limits(self) -> Limits
+        ensures value { result ≡ limits_of self }
     {
-        match self {
+        let granules = match self {
             Rules::One => 65_536,
             Rules::TwoStrict | Rules::TwoClear => 1_048_576,
+        };
+        Limits {
+            roots: MOST_ROOTS,
+            granules,
         }
     }
 }

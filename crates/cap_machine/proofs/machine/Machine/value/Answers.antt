@@ -7,6 +7,7 @@ pub returns : goal.returns
 returns g c =
     let inside : Held = record {
       rules = c.self.inside.rules;
+      limits = c.self.inside.limits;
       registers = c.self.inside.registers;
       codes = c.self.inside.codes;
       memory = g.M.TaggedStore.contents c.self.inside.memory;

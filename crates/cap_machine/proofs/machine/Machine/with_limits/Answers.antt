@@ -3,12 +3,12 @@ use Rattle.std.proofs.Common.{ℕ, ap, false, refl}
 use Rattle.cap_word.specs.declared.word.Cap.{Cap}
 use Rattle.cap_machine.proofs.{CodeLemmas.coded_blank, SoundLemmas.IsSoundState-start}
 use Rattle.cap_machine.proofs.StateLemmas.{blank_account, blank_code, blank_state}
-use Rattle.cap_machine.proofs.machine.Machine.with_rules.Goals as goal
+use Rattle.cap_machine.proofs.machine.Machine.with_limits.Goals as goal
 
 pub returns : goal.returns
 returns g c = record {
   account =
-      blank_account c.args.rules (g.M.TaggedStore.contents c.args.memory) _ (map.empty_of_len _ c.requires)
+      blank_account c.args.rules c.args.limits (g.M.TaggedStore.contents c.args.memory) _ (map.empty_of_len _ c.requires)
       (ap (λ (n : ℕ). let cap : Cap = record { tag = false; word = record { 0 = n } } in cap) c.null.ensures.value);
 }
 
