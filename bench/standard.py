@@ -383,10 +383,10 @@ def index(page, text):
 
 
 MADE = {"contents": contents, "gaps": gaps, "files": files, "index": index}
-# Definitions of which no file can show anything: they speak of a source, of lacking memory or of all bytes, are types, or
-# need a log of 2^32 steps.
+# Definitions of which no file can show anything: they speak of a source, of lacking memory or of all bytes, are types or
+# pairs of others, or need a log of 2^32 steps.
 OTHERS = set("Judged IsAnswerOf IsVerdictOf NoVerdictOf BeginsLog IsBehind NamesEscapes CountsOnly next_count NoVerdictIn MayLackMemory NamesNoGranules "
-             "named_by_line most_steps State Account Beginning DeclaredRoot Row Recorded Access Datum".split())
+             "named_by_line most_steps limits_of State Account Beginning DeclaredRoot Row Recorded Access Datum".split())
 
 
 def core_of(text):

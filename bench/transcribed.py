@@ -404,7 +404,11 @@ class Account(types.SimpleNamespace):  # 8.4
     """What the checks of a line see. `named` are the granules that were named."""
 
 
-def no_account(rules): return Account(rules=rules, state=start([]), origin={}, roots=0, steps=0, named=set())  # 8.5
+def limits_of(rules): return types.SimpleNamespace(roots=most_roots, granules=most_granules(rules))  # 8.19
+
+
+def no_account(rules, limits):  # 8.5
+    return Account(rules=rules, limits=limits, state=start([]), origin={}, roots=0, steps=0, named=set())
 
 
 def granule_of(place): return place[1] if place[0] == "Granule" else None  # 8.11
@@ -427,7 +431,7 @@ def named_by_line(account, line):  # 3.14
     return granule_of(line[1].place) if line[0] == "Root" else None
 
 
-def passes_granule_limit(account, granule): return is_new(account, granule) and most_granules(account.rules) <= len(account.named)  # 8.13
+def passes_granule_limit(account, granule): return is_new(account, granule) and account.limits.granules <= len(account.named)  # 8.13
 
 
 def with_root(account, root):  # 8.7
@@ -455,12 +459,12 @@ def origins_after(origins, row):  # 8.14
 
 
 def account_after(rules, roots, steps):  # 8.6
-    return functools.reduce(with_step, steps, functools.reduce(with_root, roots, no_account(rules)))
+    return functools.reduce(with_step, steps, functools.reduce(with_root, roots, no_account(rules, limits_of(rules))))
 
 
 def root_checks(account, place, word):  # 8.15
     return [(account.state[key_of(place)].tag, "PlaceTaken"), (not is_sound(word), "UnsoundRoot"),
-            (most_roots <= account.roots or passes_granule_limit(account, granule_of(place)), "LimitPassed")]
+            (account.limits.roots <= account.roots or passes_granule_limit(account, granule_of(place)), "LimitPassed")]
 
 
 def step_checks(account, step):  # 8.16
@@ -665,7 +669,7 @@ def verdict_of(data):
         if name in ("Version", "Mode"):
             form = "NoMode" if part == 2 else "Body"
             body = [] if part == 2 else ["One" if part == 1 else f"Two{part}", [], []]
-            account = None if part == 2 else no_account(body[0])
+            account = None if part == 2 else no_account(body[0], limits_of(body[0]))
         elif name == "End":
             form = "Whole"
         else:
