@@ -13,7 +13,7 @@ pub use Rattle.cap_run_log.specs.Spaces.{run_head-spaceless}
 use Rattle.cap_run_log.specs.Spaces.{special-spaceless, tag-spaceless}
 use Rattle.cap_run_log.proofs.Operands.{freed-operand, granule-operand, handed-operand, register_at-operand, run_place-operand}
 use Rattle.cap_run_log.proofs.Operands.{special-operand, tag-operand}
-use Rattle.cap_log.proofs.{Cuts.same_cut, Shapes.{head-operand, head_of, operands_of, spelling-of, text}}
+use Rattle.cap_log.proofs.{Cuts.same_cut, Shapes.{head_of, operands_of, spelling-of, text}}
 use Rattle.cap_run_log.specs.declared.{heads.RunHead.RunHead, lines.{RunLine.RunLine, RunStep.RunStep}}
 use Rattle.cap_run_log.specs.declared.parts.{Equals.Equals, Freed.Freed, Granule.Granule, Handed.Handed, Source.Source}
 use Rattle.cap_run_log.specs.declared.parts.{One.One, Special.Special, Tag.Tag, Written.Written}
@@ -175,18 +175,14 @@ pub run_line_of : Line → RunLine
 run_line_of (Line.Mode mode) = RunLine.Mode mode
 run_line_of (Line.Step step) = RunLine.Step step
 run_line_of (Line.End steps) = RunLine.End steps
+run_line_of (Line.Version version) = RunLine.Plain version
 run_line_of line = RunLine.Version
 
 -- a line as its head and its operands, or as a line of the other logs
 pub data Kind (line : RunLine) : Type 0 where
   Own : (h : RunHead) (x : Value h) (same : made h x ≡ line) → Kind line
   Usual : (other : Line) (range : IsRunLineInRange line → IsInRange other) (same : run_spelling line ≡ spelling other)
-      (not_root : head_of other ≡ Head.Root → ⊥) (not_version : head_of other ≡ Head.Version → ⊥)
-      (back : run_line_of other ≡ line) → Kind line
-
-step_not_version : (step : Step) → head_of (Line.Step step) ≡ Head.Version → ⊥
-step_not_version (Step.Move step) e = cc
-step_not_version step e = cc
+      (not_root : head_of other ≡ Head.Root → ⊥) (back : run_line_of other ≡ line) → Kind line
 
 step_not_root : (step : Step) → head_of (Line.Step step) ≡ Head.Root → ⊥
 step_not_root (Step.Move step) e = cc
@@ -195,9 +191,10 @@ step_not_root step e = cc
 pub kind_of : (line : RunLine) → Kind line
 unfolding run_spelling spelling run_line_of
 kind_of RunLine.Version = Own RunHead.Version (record {}) refl
-kind_of (RunLine.Mode mode) = Usual (Line.Mode mode) (λ f. f) refl (λ e. cc) (λ e. cc) refl
+kind_of (RunLine.Plain version) = Usual (Line.Version version) (λ f. f) refl (λ e. cc) refl
+kind_of (RunLine.Mode mode) = Usual (Line.Mode mode) (λ f. f) refl (λ e. cc) refl
 kind_of (RunLine.Root place word) = Own RunHead.Root (place, word) refl
-kind_of (RunLine.Step step) = Usual (Line.Step step) (λ f. f) refl (step_not_root step) (step_not_version step) refl
+kind_of (RunLine.Step step) = Usual (Line.Step step) (λ f. f) refl (step_not_root step) refl
 kind_of (RunLine.Run (RunStep.Derive target source result)) =
     Own RunHead.Derive (record { 0 = target }, (record { 0 = source }, result)) refl
 kind_of (RunLine.Run (RunStep.Exchange target source special result special_result)) =
@@ -228,7 +225,7 @@ kind_of (RunLine.Run (RunStep.Object register)) = Own RunHead.Object (Handed.Alo
 kind_of (RunLine.Run (RunStep.Widen register number)) = Own RunHead.Object (Handed.Numbered register number) refl
 kind_of (RunLine.Run (RunStep.FreeOwner register)) = Own RunHead.Free (Freed.Owner register) refl
 kind_of (RunLine.Run (RunStep.FreeNumber number)) = Own RunHead.Free (Freed.Number number) refl
-kind_of (RunLine.End steps) = Usual (Line.End steps) (λ f. f) refl (λ e. cc) (λ e. cc) refl
+kind_of (RunLine.End steps) = Usual (Line.End steps) (λ f. f) refl (λ e. cc) refl
 
 -- the head that a word names
 run_named : List ℕ → RunHead
@@ -301,7 +298,7 @@ stands_after h = record { part_of = λ line behind range e. go line behind range
       let head : k ≡ h = one_head k h parts.0 in
       let fits = (is_made k x).fits (subst IsRunLineInRange (sym same) range) in
       subst (λ (m : RunHead). (y : Value m) × Fits m y × (behind ≡ run_text m y)) head (x, fits, sym parts.1)
-  go line behind range e (Usual other inside same not_root not_version back) =
+  go line behind range e (Usual other inside same not_root back) =
       let parts = same_cut 32 (head_spelling (head_of other)) (run_head_spelling h) (text (head_of other) (operands_of other)) behind
       (head-spaceless (head_of other)) (run_head-spaceless h) (sym (same ∙ spelling-of other) ∙ e) in
       absurd (not_its (head_of other) h not_root parts.0)
@@ -317,7 +314,7 @@ none_after h FitsIt spelled is bytes none line rest begins = go (kind_of line) w
       let found = is.part_of line (run_text k x) begins.0
       ((sym (ap run_spelling same) ∙ (is_made k x).spelling_is) ∙ ap (λ (bs : List ℕ). bs ++ 32 ∷ run_text k x) (sym parts.0)) in
       none found.0 rest (found.1, parts.1 ∙ ap (λ (bs : List ℕ). bs ++ 10 ∷ rest) found.2)
-  go (Usual other inside same not_root not_version back) =
+  go (Usual other inside same not_root back) =
       let parts = same_cut 32 (run_head_spelling h) (head_spelling (head_of other)) bytes
       (text (head_of other) (operands_of other) ++ 10 ∷ rest) (run_head-spaceless h) (head-spaceless (head_of other))
       (usual_cut other line (run_head_spelling h ++ 32 ∷ bytes) rest same begins.1) in
@@ -329,21 +326,7 @@ pub no_run_head : (bytes : List ℕ) → BeginsWithNone IsRunHead run_head_spell
 no_run_head bytes none usual line rest begins = go (kind_of line) where
   go : Kind line → ⊥
   go (Own k x same) = none k (run_text k x ++ 10 ∷ rest) (tt, own_cut k x line bytes rest same begins.1)
-  go (Usual other inside same not_root not_version back) = usual other rest (inside begins.0, begins.1 ∙ ap (λ (bs : List ℕ). bs ++ 10 ∷ rest) same)
-
--- nor do bytes that begin with the version line of another log
-pub no_version_line : (bytes rest : List ℕ) (line : Line) → head_of line ≡ Head.Version → BeginsWithNone IsRunHead run_head_spelling 32 bytes
-    → Begins IsInRange spelling 10 bytes line rest → BeginsWithNone IsRunLineInRange run_spelling 10 bytes
-no_version_line bytes rest line version none begins run more other = go (kind_of run) where
-  go : Kind run → ⊥
-  go (Own k x same) = none k (run_text k x ++ 10 ∷ more) (tt, own_cut k x run bytes more same other.1)
-  go (Usual usual inside same not_root not_version back) =
-      let here = begins.1 ∙ ap (λ (bs : List ℕ). bs ++ 10 ∷ rest) (spelling-of line)
-      ∙ append_assoc (head_spelling (head_of line)) (32 ∷ text (head_of line) (operands_of line)) (10 ∷ rest) in
-      let parts = same_cut 32 (head_spelling (head_of usual)) (head_spelling (head_of line))
-      (text (head_of usual) (operands_of usual) ++ 10 ∷ more) (text (head_of line) (operands_of line) ++ 10 ∷ rest)
-      (head-spaceless (head_of usual)) (head-spaceless (head_of line)) (sym (usual_cut usual run bytes more same other.1) ∙ here) in
-      not_version (head-operand.one (head_of usual) (head_of line) tt tt parts.0 ∙ version)
+  go (Usual other inside same not_root back) = usual other rest (inside begins.0, begins.1 ∙ ap (λ (bs : List ℕ). bs ++ 10 ∷ rest) same)
 
 -- bytes that begin with a root's word begin with the head of a root
 pub no_root_line : (bytes rest : List ℕ) (line : Line) → head_of line ≡ Head.Root → BeginsWithNone IsRunHead run_head_spelling 32 bytes

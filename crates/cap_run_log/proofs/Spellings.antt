@@ -48,7 +48,7 @@ run_spelling-plain line range = go (kind_of line) where
   go : Kind line → HasNoFeed (run_spelling line)
   go (Own h x same) = rw (own_spelling h x line same) (All-append (λ b. b ≢ 10) (run_head_spelling h) (32 ∷ run_text h x) (head-plain h)
       (All-cons (λ b. b ≢ 10) 32 (run_text h x) (omega arith) ((row h).operand.plain x (own_fits h x line same range))))
-  go (Usual other inside same not_root not_version back) = rw same (spelling-plain other (inside range))
+  go (Usual other inside same not_root back) = rw same (spelling-plain other (inside range))
 
 pub run_spelling-short : (line : RunLine) → IsRunLineInRange line → length (run_spelling line) ≤ 95
 run_spelling-short line range = go (kind_of line) where
@@ -59,7 +59,7 @@ run_spelling-short line range = go (kind_of line) where
       let second = (row h).operand.short x (own_fits h x line same range) in
       let most = row-short h in
       omega arith
-  go (Usual other inside same not_root not_version back) = rw same (spelling-short other (inside range))
+  go (Usual other inside same not_root back) = rw same (spelling-short other (inside range))
 
 -- lines with one spelling are one
 same_made : (h k : RunHead) → h ≡ k → (x : Value h) (y : Value k) → Fits h x → Fits k y → run_text h x ≡ run_text k y → made h x ≡ made k y
@@ -76,11 +76,11 @@ one_run_spelling bytes a b spells spells' = go (kind_of a) (kind_of b) where
       let parts = same_cut 32 (run_head_spelling h) (run_head_spelling k) (run_text h x) (run_text k y) (run_head-spaceless h)
       (run_head-spaceless k) (sym (own_spelling h x a is) ∙ both ∙ own_spelling k y b is') in
       sym is ∙ same_made h k (one_head h k parts.0) x y (own_fits h x a is spells.0) (own_fits k y b is' spells'.0) parts.1 ∙ is'
-  go (Own h x is) (Usual other inside same not_root not_version back) =
+  go (Own h x is) (Usual other inside same not_root back) =
       absurd (own_or_usual h x a other not_root (sym (own_spelling h x a is) ∙ both ∙ same))
-  go (Usual other inside same not_root not_version back) (Own k y is') =
+  go (Usual other inside same not_root back) (Own k y is') =
       absurd (own_or_usual k y b other not_root (sym (own_spelling k y b is') ∙ sym both ∙ same))
-  go (Usual one inside same not_root not_version back) (Usual other inside' same' not_root' not_version' back') =
+  go (Usual one inside same not_root back) (Usual other inside' same' not_root' back') =
       sym back ∙ ap run_line_of (one_spelling (spelling one) one other (inside spells.0, refl) (inside' spells'.0, sym same ∙ both ∙ same')) ∙ back'
 
 -- the room for the line feed behind a spelling
@@ -97,6 +97,11 @@ usual_at : (line : RunLine) (other : Line) → run_spelling line ≡ spelling ot
     → IsRunLineAt line old new count
 usual_at line other same count old new at =
     record { ends = rw same at.ends; fits = at.fits; written = rw same at.written; rest = at.rest }
+
+pub version_at : (version count : ℕ) (old new : List ℕ) → IsLineAt (Line.Version version) old new count
+    → IsRunLineAt (RunLine.Plain version) old new count
+unfolding run_spelling spelling
+version_at version = usual_at (RunLine.Plain version) (Line.Version version) refl
 
 pub mode_at : (mode : Mode) (count : ℕ) (old new : List ℕ) → IsLineAt (Line.Mode mode) old new count
     → IsRunLineAt (RunLine.Mode mode) old new count

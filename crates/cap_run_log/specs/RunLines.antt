@@ -4,7 +4,7 @@ use Rattle.std.specs.Prelude.{◌≡◌, ℕ, ◌+◌, ◌*◌, ◌^◌, ◌<◌
 use Rattle.std.specs.List.{join_with_byte}
 use Rattle.cap_word.specs.Digits.{hex_digits}
 use Rattle.cap_log.specs.Ranges.{IsRegisterFrom}
-use Rattle.cap_log.specs.Lines.{IsRegister, IsStepInRange, IsTarget, IsWord, mode_spelling, register_spelling, result_words, step_words, tag_spelling}
+use Rattle.cap_log.specs.Lines.{IsRegister, IsStepInRange, IsTarget, IsVersion, IsWord, mode_spelling, register_spelling, result_words, step_words, tag_spelling}
 use Rattle.cap_run_log.specs.declared.lines.{RunLine.RunLine, RunStep.RunStep, RunPlace.RunPlace, RunRegister.RunRegister}
 use Rattle.cap_run_log.specs.declared.lines.RunLine.TheVariants as lines
 use Rattle.cap_run_log.specs.declared.lines.RunStep.TheVariants as steps
@@ -79,6 +79,7 @@ IsRunStepInRange (steps.FreeNumber number) = IsObjectNumber number
 -- the words of a line
 abbrev pub run_line_words : RunLine → List (List ℕ)
 run_line_words lines.Version = codes "run" ∷ codes "1" ∷ []
+run_line_words (lines.Plain version) = codes "capcheck" ∷ decimal version ∷ []
 run_line_words (lines.Mode mode) = codes "mode" ∷ mode_spelling mode ∷ []
 run_line_words (lines.Root place word) = codes "root" ∷ run_place_spelling place ∷ hex_digits 32 word.0 ∷ []
 run_line_words (lines.Step step) = step_words step
@@ -92,6 +93,7 @@ run_spelling line = join_with_byte 32 (run_line_words line)
 -- the numbers of a line are in range
 abbrev pub IsRunLineInRange : RunLine → Type 0
 IsRunLineInRange lines.Version = Unit {0}
+IsRunLineInRange (lines.Plain version) = IsVersion version
 IsRunLineInRange (lines.Mode mode) = Unit {0}
 IsRunLineInRange (lines.Root place word) = IsRunPlace place × IsWord word.0
 IsRunLineInRange (lines.Step step) = IsStepInRange step

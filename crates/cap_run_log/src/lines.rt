@@ -72,6 +72,8 @@ pub enum RunStep {
 pub enum RunLine {
     /// `run 1`.
     Version,
+    /// `capcheck`: the version line of another log, of version 1 or 2.
+    Plain(u8),
     /// `mode`: the mode of the log.
     Mode(Mode),
     /// `root`: a place that holds this word, tagged, before the first step.

@@ -77,7 +77,8 @@ fn take_usual(bytes: &[u8]) -> Option<(RunLine, &[u8])>
         Line::Mode(mode) => Some((RunLine::Mode(mode), rest)),
         Line::Step(step) => Some((RunLine::Step(step), rest)),
         Line::End(steps) => Some((RunLine::End(steps), rest)),
-        Line::Version(_) | Line::Root(_, _) => None,
+        Line::Version(version) => Some((RunLine::Plain(version), rest)),
+        Line::Root(_, _) => None,
     }
 }
 

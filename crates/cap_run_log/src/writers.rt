@@ -20,6 +20,7 @@ pub fn write_run_line(line: &RunLine, buffer: &mut [u8; 96]) -> usize
     ensures line { IsRunLineAt line.now buffer.old buffer.new result }
 {
     match *line {
+        RunLine::Plain(version) => write_line(&Line::Version(version), buffer),
         RunLine::Mode(mode) => write_line(&Line::Mode(mode), buffer),
         RunLine::Step(step) => write_line(&Line::Step(step), buffer),
         RunLine::End(steps) => write_line(&Line::End(steps), buffer),
