@@ -1,8 +1,8 @@
 #!/usr/bin/env python3
 """The clauses of each public function and each method of a public trait, in crates/*/src.
 
-    python3 bench/clauses.py [CRATE..]      prints a line for each clause without a name, and nothing where all have one
-    python3 bench/clauses.py --since REV    prints each `ensures` of REV, and each definition that its docs/PROOFS.md
+    python3 tools/clauses.py [CRATE..]      prints a line for each clause without a name, and nothing where all have one
+    python3 tools/clauses.py --since REV    prints each `ensures` of REV, and each definition that its docs/PROOFS.md
                                             lists, whose text is another now or that is gone; each `requires` that is
                                             new; and the functions of REV that are gone
 

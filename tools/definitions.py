@@ -1,8 +1,8 @@
 #!/usr/bin/env python3
 """What a reader has to believe: the definitions of crates/*/specs that contracts of public functions reach.
 
-    python3 bench/definitions.py              what docs/PROOFS.md lists for each crate, compared with what is reached
-    python3 bench/definitions.py NAME..       how many definitions, lines, characters and words these names reach
+    python3 tools/definitions.py              what docs/PROOFS.md lists for each crate, compared with what is reached
+    python3 tools/definitions.py NAME..       how many definitions, lines, characters and words these names reach
 
 A definition reaches those that its text names, by the `use` lines of its file. Lines are counted without comments
 and without blank ones. A crate's section lists all definitions of a file that it names (`specs/Fields`), except those
