@@ -48,14 +48,10 @@ ELSEWHERE = {
     "sh install.sh ~/.local": "examples/emulator/installed.sh, into another folder",
     "sh test.sh": "by hand",
     "python3 -m pip install ./python": "python/check.sh, into another folder",
-    "sh release.sh": "by hand",
-    "sh python/check.sh": "the gate",
-    "sh rust/check.sh": "the gate",
     "bash .ci/run": "the gate",
-    "cd crates/capcheck_c && rt lib": "examples/emulator/check.sh",
+    "(cd crates/capcheck_c && rt lib)": "examples/emulator/check.sh",
     "sh judge/build.sh": "examples/emulator/check.sh",
     "cc -Iinclude program.c judge/out/libcapcheck_judge.a crates/capcheck_c/out/libcapcheck_c.a -o program": "examples/emulator/check.sh, with other programs",
-    "bash examples/emulator/check.sh": "the gate",
     "mkdir logs": "examples/objects/check.sh, for another program",
     "CAP_LOGS=logs LD_PRELOAD=$PWD/objects.so git log -p": "examples/objects/check.sh, for another program",
     "capdiag why logs/git.*.log": "examples/objects/check.sh, for another program",
@@ -110,7 +106,8 @@ TERMS = {
     r"beside": "next to, with, or at the same time as",
 }
 # What TERMS are looked for in, and figures, except those of bench/ itself. The wording of the theorems is fixed.
-OURS = [it for it in PAGES if it != "docs/STANDARD.md"] + ["docs/capcheck.1", "docs/capdiag.1"]
+MANUALS = ["docs/capcheck.1", "docs/capdiag.1"]
+OURS = [it for it in PAGES if it != "docs/STANDARD.md"] + MANUALS
 THEOREM = re.compile(r"(?m)^Where the judge answers yes.*$")
 # A figure of time, memory or cost. Each has to be in bench/README.md, or to round what is there.
 NUMBER = r"(?<![\w.^])\d+(?:[.,]\d+)*(?: to \d+(?:[.,]\d+)*)?"
@@ -136,7 +133,7 @@ BUILT = re.compile(r"install\.sh|libcapcheck_|pkg-config|\brt |^gdb |-m capcheck
 KIT = re.compile(r"install\.sh|\brt |judge/build\.sh")
 # Whether this Python can run the package of python/.
 HAS_PACKAGE = sys.version_info >= (3, 10)
-COMMAND = re.compile(r"(\$|cc|sh|bash|cd|rt|python3|capcheck|capdiag|make|cat|git) ")
+COMMAND = re.compile(r"\(?(\$|cc|sh|bash|cd|rt|python3|capcheck|capdiag|make|cat|git) ")
 
 # Pages whose commands need no repository: they run in the installation's share/capcheck.
 INSTALLED = ("docs/GDB.md", "docs/ALLOCATORS.md")
@@ -443,6 +440,10 @@ def main(words):
     read = [it for it in PAGES if it != "docs/STANDARD.md"] + glob.glob("docs/*.1") + glob.glob("include/*.h") + glob.glob("judge/*.c")
     for path in pages or sorted([*read, *glob.glob("crates/*/src/**/*.rt", recursive=True), *glob.glob("examples/*/*.c")]):
         wrong += phrases(path)
+    if not pages:
+        lines = {line for page in PAGES for _, _, block in blocks(open(page, encoding="utf-8").read()) for line in block}
+        wrong += [f"docs/check.py: no page has the command `{it}` of ELSEWHERE" for it in ELSEWHERE if it not in lines]
+        wrong += [it for path in MANUALS for it in terms(path, open(path, encoding="utf-8").read())]
     with tempfile.TemporaryDirectory() as work:
         tree = place(work, unproved, archive)
         for page in pages or PAGES:
