@@ -7,7 +7,8 @@
 A definition reaches those that its text names, by the `use` lines of its file. Lines are counted without comments
 and without blank ones. A crate's section lists all definitions of a file that it names (`specs/Fields`), except those
 of "(except `NAME`, ..)" after it, or only those of "(only `NAME`, ..)". The status is 1 where a section lacks a
-definition that is reached or excepts one, or where it names a definition or a file that the crate doesn't have."""
+definition that is reached or excepts one, where it names a definition or a file that the crate doesn't have, or where
+the page tells other numbers of definitions and lines than the command after them counts."""
 import glob
 import os
 import re
@@ -177,6 +178,11 @@ def compare():
         strange += sorted(it for it in NAME.findall(head) if it[0].isupper() and it not in defined and not re.search(rf"\b{it}\b", rust(crate)))
         bad += len(lacks) + len(strange)
         print(f"{crate}: {sum(module[0] == crate for module, _ in reached)} reached" + "".join(f"\n  not listed: {it}" for it in lacks) + "".join(f"\n  defined nowhere: {it}" for it in strange))
+    for number, lines, names in re.findall(r"(\d+) (?:definitions of|of them, of) (\d+) lines \(`python3 tools/definitions\.py ([^`]+)`\)", page):
+        found = size(names.split())
+        if found != (int(number), int(lines)):
+            bad += 1
+            print(f"{names}: {found[0]} definitions of {found[1]} lines, and not {number} of {lines}")
     return 1 if bad else 0
 
 
@@ -184,11 +190,19 @@ def rust(crate):
     return "\n".join(read(it) for it in glob.glob(f"crates/{crate}/src/**/*.rt", recursive=True))
 
 
+def reached_by(names):
+    """The definitions that some names reach."""
+    return closure([(module, name) for name in names for module, (own, _, _) in SPECS.items() if name in own])
+
+
+def size(names):
+    """How many definitions some names reach, and their lines."""
+    return len(reached_by(names)), sum(len(SPECS[module][0][name]) for module, name in reached_by(names))
+
+
 def count(names):
-    found = [(module, name) for name in names for module, (own, _, _) in SPECS.items() if name in own]
-    lines = [line for module, name in closure(found) for line in SPECS[module][0][name]]
-    text = "\n".join(lines)
-    print(f"{len(closure(found))} definitions, {len(lines)} lines, {len(text)} characters, {len(text.split())} words")
+    text = "\n".join(line for module, name in reached_by(names) for line in SPECS[module][0][name])
+    print(f"{size(names)[0]} definitions, {size(names)[1]} lines, {len(text)} characters, {len(text.split())} words")
     return 0
 
 
