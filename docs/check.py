@@ -20,8 +20,8 @@ archive (release.sh), as its reader has them, and what needs the kit is left out
 - Rows that give the verdict of an example or of a log are judged, and blocks that show a file of the tree are compared
   with it. `judge/heap.c` has to have as many lines as is said, and the manual pages and the changelog the header's version.
 - Each link has to lead to a file and a heading, and to a file that release.sh puts into the archive.
-- The words of TERMS are looked for in the pages and the manual pages, except those that standard.py makes, and each figure
-  in bench/README.md. The phrases of PHRASES are looked for in the pages, the manual pages, the headers, and the comments of
+- The words of TERMS are looked for in the pages, the manual pages and the headers, except what standard.py makes, and each
+  figure of the pages in bench/README.md. The phrases of PHRASES are looked for in the pages, the manual pages, the headers, and the comments of
   the crates and of the C examples. Text in code font isn't read.
 
 The status is 1 where anything differs."""
@@ -107,7 +107,8 @@ TERMS = {
 }
 # What TERMS are looked for in, and figures, except those of bench/ itself. The wording of the theorems is fixed.
 MANUALS = ["docs/capcheck.1", "docs/capdiag.1"]
-OURS = [it for it in PAGES if it != "docs/STANDARD.md"] + MANUALS
+HEADERS = ["include/capcheck.h", "include/capcheck_answer.h", "include/capcheck_freestanding.h", "include/capcheck_judge.h", "include/capcheck_names.h"]
+OURS = [it for it in PAGES if it != "docs/STANDARD.md"] + MANUALS + HEADERS
 THEOREM = re.compile(r"(?m)^Where the judge answers yes.*$")
 # A figure of time, memory or cost. Each has to be in bench/README.md, or to round what is there.
 NUMBER = r"(?<![\w.^])\d+(?:[.,]\d+)*(?: to \d+(?:[.,]\d+)*)?"
@@ -409,7 +410,7 @@ def terms(path, text):
     for phrase, better in TERMS.items():
         for m in re.finditer(r"\b(?:%s)\b" % phrase.replace(" ", r"\s+"), text):
             yield f"{path}:{text.count(chr(10), 0, m.start()) + 1}: '{' '.join(m[0].split())}': {better}"
-    for m in FIGURE.finditer(text) if not path.startswith("bench/") else []:
+    for m in FIGURE.finditer(text) if not path.startswith(("bench/", "include/")) else []:
         if not has(m[0]) and m[0] not in FIXED and not (m[0] in ROUNDED and all(it in bench for it in ROUNDED[m[0]])):
             yield f"{path}:{text.count(chr(10), 0, m.start()) + 1}: the figure '{m[0]}' isn't in bench/README.md"
 
@@ -443,7 +444,7 @@ def main(words):
     if not pages:
         lines = {line for page in PAGES for _, _, block in blocks(open(page, encoding="utf-8").read()) for line in block}
         wrong += [f"docs/check.py: no page has the command `{it}` of ELSEWHERE" for it in ELSEWHERE if it not in lines]
-        wrong += [it for path in MANUALS for it in terms(path, open(path, encoding="utf-8").read())]
+        wrong += [it for path in MANUALS + HEADERS for it in terms(path, open(path, encoding="utf-8").read())]
     with tempfile.TemporaryDirectory() as work:
         tree = place(work, unproved, archive)
         for page in pages or PAGES:
