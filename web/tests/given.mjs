@@ -96,7 +96,7 @@ export const vectors = fs.readdirSync(file("examples/vectors"))
 export function drawnWords() {
     const program = `
 import json, random, sys
-sys.path.insert(0, "bench")
+sys.path.insert(0, "conformance")
 from vectors import NULL, SPACE, bounds, fields, mantissa, window, word_of
 draw = random.Random(7)
 drawn = []
