@@ -1,8 +1,8 @@
 #!/usr/bin/env python3
-"""Prints what a run of the gate took of the processor, for each crate and each wrong body, beside the table of CONTRIBUTING.md.
+"""Prints what a run of the gate took of the processor, for each crate and each wrong body, and compares it with bench/units.md.
 
     python3 bench/cost.py [FILE]             prints what the last run of .ci/run took, the dearest crate first
-    python3 bench/cost.py --write [FILE]     writes it into the table of CONTRIBUTING.md
+    python3 bench/cost.py --write [FILE]     writes bench/units.md: the same, with the host, the date and the commit
     python3 bench/cost.py --watch [FILE]     measures, while the command that started it runs: see .ci/run
 
 The measured times are in FILE, or bench/out/cost.tsv. A unit is what the proof of `cap_word` takes in the same run, so that
@@ -12,12 +12,24 @@ import glob
 import os
 import re
 import signal
+import subprocess
 import sys
 import time
 
 TOP = os.path.dirname(os.path.dirname(os.path.abspath(__file__)))
-FILE, PAGE = f"{TOP}/bench/out/cost.tsv", f"{TOP}/CONTRIBUTING.md"
+FILE, PAGE = f"{TOP}/bench/out/cost.tsv", f"{TOP}/bench/units.md"
 UNIT = ("cap_word", "proof")
+TEXT = """# Processor time of proofs
+
+Made by `python3 bench/cost.py --write`, after a run of the gate, which measures the processor time that the prover takes. It is for maintainers who want to know which crate or which edit is worth making faster.
+
+Host: {host}. Date: {date}. Commit: {commit}.
+
+- A unit is the time that the proof of `cap_word` takes in the same run, here {unit:.1f} s, so units of two hosts can be compared. Other load raises them.
+- A crate is proved once for itself, once more with its tests if it has a `#[test]`, and once more as the base of its edits if it has two or more.
+- The column Building has a value for programs only: each is built by two compilers. In brackets is the number of edits.
+
+"""
 HEAD = "| Crate | Units | Proof | Building | Tests | Base of the edits | Edits |\n|---|---|---|---|---|---|---|\n"
 TICK, PAUSE = os.sysconf("SC_CLK_TCK"), 0.5
 
@@ -155,10 +167,16 @@ def rows(crates, edits, unit):
     return [*shown, f"| all | {total / unit:.1f} | | | | | |"]
 
 
-def table_in(page):
-    """Where the table's rows stand in CONTRIBUTING.md."""
-    begins = page.index(HEAD) + len(HEAD)
-    return begins, begins + len(re.match(r"(\|.*\n)*", page[begins:])[0])
+def host():
+    """The host's processors."""
+    names = re.findall(r"(?m)^model name\s*: (.*)$", read("/proc/cpuinfo"))
+    return f"{os.cpu_count()} processors, {names[0] if names else 'unknown'}"
+
+
+def commit():
+    """The commit of the tree, and whether the tree differs from it."""
+    git = lambda *words: subprocess.run(["git", "-C", TOP, *words], capture_output=True, text=True).stdout.strip()
+    return git("rev-parse", "--short=7", "HEAD") + (", changed" if git("status", "--porcelain", "-uno") else "")
 
 
 def main(words):
@@ -171,23 +189,21 @@ def main(words):
     if not unit:
         print("cost.py: no run was measured in which cap_word was proved, so there is no unit")
         return 2
-    page = read(PAGE)
-    begins, ends = table_in(page)
-    before = dict(re.findall(r"(?m)^\| `?(\w+)`? \| ([0-9.]+) ", page[begins:ends]))
+    before = dict(re.findall(r"(?m)^\| `?(\w+)`? \| ([0-9.]+) ", read(PAGE))) if os.path.isfile(PAGE) else {}
     made = rows(crates, edits, unit)
     print(f"A unit is {unit:.1f} s of one processor.\n\n{HEAD}" + "\n".join(made) + "\n")
     for row in made:
         crate, units = re.match(r"\| `?(\w+)`? \| ([0-9.]+) ", row).groups()
         was = float(before.get(crate, 0))
         if abs(float(units) - was) > max(0.5, was / 10):
-            print(f"{crate}: {units} units, and in CONTRIBUTING.md {was}")
+            print(f"{crate}: {units} units, and in bench/units.md {was}")
     dear = sorted(((seconds / unit, crate, edit) for crate, own in edits.items() for edit, seconds in own.items()), reverse=True)
     print("\nEach edit, the dearest first:")
     for units, crate, edit in dear:
         print(f"{units:5.2f} {crate}/{edit}")
     if is_written:
         with open(PAGE, "w", encoding="utf-8") as it:
-            it.write(page[:begins] + "".join(f"{row}\n" for row in made) + page[ends:])
+            it.write(TEXT.format(host=host(), date=time.strftime("%Y-%m-%d"), commit=commit(), unit=unit) + HEAD + "".join(f"{row}\n" for row in made))
     return 0
 
 

@@ -5,17 +5,26 @@
     python3 docs/check.py --archive FOLDER [PAGE..]
 
 A page's commands run as a reader's: HOME and PATH are set, with the installed programs in it, and of what concerns the
-libraries only what the page exports: a line `export NAME=VALUE` holds for the rest of the page. With `--unproved` it takes the programs that CAPCHECK and CAPDIAG name, and leaves out what needs a library for C. With `--archive` the pages, the files and the installed programs are those of an unpacked archive (release.sh), as its
-reader has them, and what needs the kit is left out. It wants the programs and the library for C built, or builds them. A block of a page that has lines beginning with
-`$ ` is a session: each such line is a command, lines that begin with `> ` go on with it, and the lines below it are
-all that it prints; a line `..` stands for any lines. A page's commands run one after another in a folder of their
-own, in which the tree's files stand by their names, or what is installed in share/capcheck for the pages of INSTALLED. Lines that begin with `(gdb) ` are commands of the GDB that the session starts;
-without a GDB they are left out, and a line says so. Blocks with `>>> ` are run by doctest. Other commands of the pages are those of ELSEWHERE, which says
-where each is run. Rows that give the verdict of an example or of a log are judged too, blocks that show a file of the
-tree are compared with it, each link has to lead to a file and a heading, and `judge/heap.c` has to have as many lines
-as is said. The manual pages and the changelog have to have the header's version. The words of TERMS are looked for in the users' pages, and each figure of theirs in bench/README.md. The phrases of PHRASES are looked for in the pages, the manual pages, the headers, and the comments of the
-crates and of the C examples; text in code font isn't read. A block of C that prints something is the program.c of the
-page's lines `cc program.c ..`, and is run as each of them links it. The status is 1 where anything differs."""
+libraries only what the page exports: a line `export NAME=VALUE` holds for the rest of the page. It wants the programs and
+the library for C built, or builds them. With `--unproved` it takes the programs that CAPCHECK and CAPDIAG name, and leaves
+out what needs a library for C. With `--archive` the pages, the files and the installed programs are those of an unpacked
+archive (release.sh), as its reader has them, and what needs the kit is left out.
+
+- A block of a page that has lines beginning with `$ ` is a session: each such line is a command, lines that begin with `> `
+  go on with it, and the lines below it are all that it prints; a line `..` stands for any lines. A page's commands run one
+  after another in a folder of their own, in which the tree's files stand by their names, or what is installed in
+  share/capcheck for the pages of INSTALLED. Lines that begin with `(gdb) ` are commands of the GDB that the session starts;
+  without a GDB they are left out, and a line says so. Blocks with `>>> ` are run by doctest. Other commands of the pages
+  are those of ELSEWHERE, which says where each is run. A block of C that prints something is the program.c of the page's
+  lines `cc program.c ..`, and is run as each of them links it.
+- Rows that give the verdict of an example or of a log are judged, and blocks that show a file of the tree are compared
+  with it. `judge/heap.c` has to have as many lines as is said, and the manual pages and the changelog the header's version.
+- Each link has to lead to a file and a heading, and to a file that release.sh puts into the archive.
+- The words of TERMS are looked for in the pages, the manual pages and the headers, except what standard.py makes, and each
+  figure of the pages in bench/README.md. The phrases of PHRASES are looked for in the pages, the manual pages, the headers, and the comments of
+  the crates and of the C examples. Text in code font isn't read.
+
+The status is 1 where anything differs."""
 import glob
 import os
 import re
@@ -32,21 +41,17 @@ sys.path.insert(0, f"{ROOT}/gdb")
 from sessions import PROMPT, agrees, is_installed, transcript  # noqa: E402
 
 PAGES = ["README.md", "CONTRIBUTING.md", "docs/FIRST_HOUR.md", "docs/FORMAT.md", "docs/WORDS.md", "docs/MACHINE.md", "docs/RECORDING.md"]
-PAGES += ["docs/PYTHON.md", "docs/GDB.md", "docs/ALLOCATORS.md", "docs/STANDARD.md", "docs/C.md", "docs/GLOSSARY.md", "docs/PROOFS.md", "docs/TESTING.md", "docs/DECISIONS.md", "docs/INTERNALS.md", "CHANGELOG.md", "examples/README.md", "examples/objects/README.md", "examples/qemu/README.md", "conformance/README.md", "web/README.md", "bench/README.md"]
+PAGES += ["docs/PYTHON.md", "docs/GDB.md", "docs/ALLOCATORS.md", "docs/STANDARD.md", "docs/C.md", "docs/GLOSSARY.md", "docs/PROOFS.md", "docs/TESTING.md", "docs/DECISIONS.md", "docs/INTERNALS.md", "CHANGELOG.md", "examples/README.md", "examples/objects/README.md", "examples/qemu/README.md", "conformance/README.md", "web/README.md", "web/PASTING.md", "bench/README.md", "bench/units.md"]
 
 # Commands that no session runs, and where they are run.
 ELSEWHERE = {
     "sh install.sh ~/.local": "examples/emulator/installed.sh, into another folder",
     "sh test.sh": "by hand",
     "python3 -m pip install ./python": "python/check.sh, into another folder",
-    "sh release.sh": "by hand",
-    "sh python/check.sh": "the gate",
-    "sh rust/check.sh": "the gate",
     "bash .ci/run": "the gate",
-    "cd crates/capcheck_c && rt lib": "examples/emulator/check.sh",
+    "(cd crates/capcheck_c && rt lib)": "examples/emulator/check.sh",
     "sh judge/build.sh": "examples/emulator/check.sh",
     "cc -Iinclude program.c judge/out/libcapcheck_judge.a crates/capcheck_c/out/libcapcheck_c.a -o program": "examples/emulator/check.sh, with other programs",
-    "bash examples/emulator/check.sh": "the gate",
     "mkdir logs": "examples/objects/check.sh, for another program",
     "CAP_LOGS=logs LD_PRELOAD=$PWD/objects.so git log -p": "examples/objects/check.sh, for another program",
     "capdiag why logs/git.*.log": "examples/objects/check.sh, for another program",
@@ -82,7 +87,7 @@ PHRASES = {
     r"let through": "permitted",
     r"room to room|(?:a|the) tree before": "CHANGELOG.md, for what was before",
 }
-# One name for each concept, on the pages that users read.
+# One name for each concept.
 TERMS = {
     r"first fault": "the faulty line",
     r"(?:hand|hands|handed|handing) (?:over|it to|them to|to a judge)": "pass",
@@ -95,12 +100,20 @@ TERMS = {
     r"shortest log": "a short log",
     r"current CHERI-RISC-V|later RISC-V extension": "CHERI ISA version 9, RVY",
     r"legal": "allowed",
+    r"[Mm]achines [A-D]|on machine [A-D]": "host A",
+    r"the bounds of the objects cost": "what exact bounds would cost",
+    r"from (?:0x)?[\d,]+ (?:bytes )?on": "from that number up",
     r"beside": "next to, with, or at the same time as",
 }
-# The pages that TERMS and figures are looked for in: those of users, without the ones that are made.
-OURS = [it for it in PAGES if it not in ("docs/STANDARD.md", "docs/PROOFS.md", "bench/README.md", "web/README.md", "conformance/README.md")]
+# What TERMS are looked for in, and figures, except those of bench/ itself. The wording of the theorems is fixed.
+MANUALS = ["docs/capcheck.1", "docs/capdiag.1"]
+HEADERS = ["include/capcheck.h", "include/capcheck_answer.h", "include/capcheck_freestanding.h", "include/capcheck_judge.h", "include/capcheck_names.h"]
+OURS = [it for it in PAGES if it != "docs/STANDARD.md"] + MANUALS + HEADERS
+THEOREM = re.compile(r"(?m)^Where the judge answers yes.*$")
 # A figure of time, memory or cost. Each has to be in bench/README.md, or to round what is there.
-FIGURE = re.compile(r"(?<![\w.^])\d+(?:[.,]\d+)*(?: to \d+(?:[.,]\d+)*)? (?:ns|ms|s|seconds?|minutes?|hours?|[MG]B|Ki?B|per cent|instructions|microseconds?)\b|\b(?:half|a quarter of) an? (?:hour|minute)\b")
+NUMBER = r"(?<![\w.^])\d+(?:[.,]\d+)*(?: to \d+(?:[.,]\d+)*)?"
+UNIT = r"(?:ns|ms|s|seconds?|minutes?|hours?|[MG]B|Ki?B|per cent|instructions|microseconds?|bytes for each (?:step|line|granule)|(?:million )?(?:lines|steps) (?:per|a) second)"
+FIGURE = re.compile(rf"{NUMBER} {UNIT}\b|\b(?:half|a quarter of) an? (?:hour|minute|second)\b|\bten minutes\b|\bfew hundredths of a second\b")
 ROUNDED = {
     "0.02 to 0.06 s": ["0.023 to 0.058 s"],
     "60 to 120 instructions": ["| 63 | 83 | 82 | 86 | 109 | 111 | 116 |"],
@@ -108,16 +121,20 @@ ROUNDED = {
     "30 to 40 ns": ["| each line by itself, its length known | 29 | 41 |"],
     "2,000 KB": ["`(ulimit -v 2000; ..)`"],
     "90 KB": ["90 KiB of stack"],
+    "128 KB": ["90 KiB of stack"],
+    "30 to 50 bytes for each step": ["| 48.7 million |", "| 27.9 million |"],
+    "ten minutes": ["549 s"],
+    "few hundredths of a second": ["0.023 to 0.058 s"],
 }
-# Sizes that the format or the code fixes: the reach of an offset, a region of the store.
-FIXED = ("2 KB", "256 KiB")
+# Sizes that the format, the code or a test fixes: the reach of an offset, a region of the store, a batch, the browser page.
+FIXED = ("2 KB", "256 KiB", "32 KiB", "210 KB", "a quarter of a second")
 # Commands that need a proof. After one that builds over a library for C no command of its page can run without it.
 BUILT = re.compile(r"install\.sh|libcapcheck_|pkg-config|\brt |^gdb |-m capcheck")
 # Commands that need the kit.
 KIT = re.compile(r"install\.sh|\brt |judge/build\.sh")
 # Whether this Python can run the package of python/.
 HAS_PACKAGE = sys.version_info >= (3, 10)
-COMMAND = re.compile(r"(\$|cc|sh|bash|cd|rt|python3|capcheck|capdiag|make|cat|git) ")
+COMMAND = re.compile(r"\(?(\$|cc|sh|bash|cd|rt|python3|capcheck|capdiag|make|cat|git) ")
 
 # Pages whose commands need no repository: they run in the installation's share/capcheck.
 INSTALLED = ("docs/GDB.md", "docs/ALLOCATORS.md")
@@ -302,9 +319,17 @@ def anchors(text):
     return {*re.findall(r'<a id="([^"]+)"></a>', text)} | {re.sub(r"[^\w\- ]", "", re.sub(r"\[([^]]*)\]\([^)]*\)", r"\1", it).lower()).replace(" ", "-") for it in heads}
 
 
+def archived():
+    """The files and folders of the tree that release.sh puts into the archive."""
+    with open("release.sh", encoding="utf-8") as it:
+        return re.search(r"git ls-files -z ([^|]*) \|", it.read())[1].split()
+
+
 def links(page, text):
-    """Whether each file and heading that a page links to is there."""
+    """Whether each file and heading that a page links to is there, in the tree or in the archive."""
     wrong, count = [], 0
+    kept = archived() if os.path.exists("release.sh") else ["."]
+    within = lambda path: kept == ["."] or any(path == it or path.startswith(f"{it}/") for it in kept)
     for target in re.findall(r"\]\(([^)\s]+)\)", text):
         if target.startswith("http"):
             continue
@@ -313,6 +338,8 @@ def links(page, text):
         there = os.path.normpath(os.path.join(os.path.dirname(page), path)) if path else page
         if there.startswith("..") or not os.path.exists(there):
             wrong.append(f"{page}: there is no {target}")
+        elif within(page) and not within(there):
+            wrong.append(f"{page}: the archive has no {target}")
         elif name and os.path.isfile(there):
             with open(there, encoding="utf-8") as it:
                 if name not in anchors(it.read()):
@@ -341,12 +368,15 @@ def sizes(page, text):
 
 
 def prose(path, text):
-    """The text of a file that is read as prose, line by line: a page without its blocks, or the comments of a source."""
+    """The text of a file that is read as prose, line by line: a page without its blocks, a manual page without the messages
+    that it quotes, or the comments of a source."""
     fenced, lines = False, []
     for line in text.split("\n"):
         if path.endswith(".md"):
             fenced ^= line.startswith("```")
             lines.append("" if fenced else line)
+        elif path.endswith(".1"):
+            lines.append("" if line.startswith((".I ", ".IR ")) else line)
         elif path.endswith(".rt"):
             m = re.match(r"\s*//[/!]? ?(.*)", line)
             lines.append(m[1] if m else "")
@@ -375,12 +405,13 @@ def terms(path, text):
         return
     with open("bench/README.md", encoding="utf-8") as it:
         bench = it.read()
-    text = re.sub(r"`[^`\n]*`", lambda m: "`" * len(m[0]), "\n".join(prose(path, text)))
+    has = lambda it: re.search(rf"(?<![\d.,]){re.escape(it)}\b", bench)
+    text = THEOREM.sub("", re.sub(r"`[^`\n]*`", lambda m: "`" * len(m[0]), "\n".join(prose(path, text))))
     for phrase, better in TERMS.items():
         for m in re.finditer(r"\b(?:%s)\b" % phrase.replace(" ", r"\s+"), text):
             yield f"{path}:{text.count(chr(10), 0, m.start()) + 1}: '{' '.join(m[0].split())}': {better}"
-    for m in FIGURE.finditer(text):
-        if m[0] not in bench and m[0] not in FIXED and not (m[0] in ROUNDED and all(it in bench for it in ROUNDED[m[0]])):
+    for m in FIGURE.finditer(text) if not path.startswith(("bench/", "include/")) else []:
+        if not has(m[0]) and m[0] not in FIXED and not (m[0] in ROUNDED and all(it in bench for it in ROUNDED[m[0]])):
             yield f"{path}:{text.count(chr(10), 0, m.start()) + 1}: the figure '{m[0]}' isn't in bench/README.md"
 
 
@@ -410,6 +441,10 @@ def main(words):
     read = [it for it in PAGES if it != "docs/STANDARD.md"] + glob.glob("docs/*.1") + glob.glob("include/*.h") + glob.glob("judge/*.c")
     for path in pages or sorted([*read, *glob.glob("crates/*/src/**/*.rt", recursive=True), *glob.glob("examples/*/*.c")]):
         wrong += phrases(path)
+    if not pages:
+        lines = {line for page in PAGES for _, _, block in blocks(open(page, encoding="utf-8").read()) for line in block}
+        wrong += [f"docs/check.py: no page has the command `{it}` of ELSEWHERE" for it in ELSEWHERE if it not in lines]
+        wrong += [it for path in MANUALS + HEADERS for it in terms(path, open(path, encoding="utf-8").read())]
     with tempfile.TemporaryDirectory() as work:
         tree = place(work, unproved, archive)
         for page in pages or PAGES:

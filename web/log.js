@@ -356,7 +356,7 @@ function showOrigins() {
         ...(found.length > FEW ? [make("li", {}, "There are more; the copied text has all.")] : []));
 }
 
-// ---- The shortest log ----
+// ---- A short log ----
 
 /** A disabled button would lose the focus: while it looks for the log it is only called disabled. */
 async function findShortest() {
@@ -407,14 +407,14 @@ async function copyLink() {
 
 function showTooLong() {
     const save = make("a", { class: "button", download: log.name || "log.log", href: URL.createObjectURL(log.blob) }, "Save the log");
-    const find = make("button", { type: "button", class: "small" }, "Find the shortest log");
+    const find = make("button", { type: "button", class: "small" }, "Find a short log");
     find.addEventListener("click", () => {
         findShortest();
         byId("find-shortest").scrollIntoView({ block: "center" });
     });
     const isNo = log.judged?.state === 2;
     byId("said").replaceChildren(`A link can't hold this log: packed, it has more than ${decimal(LINK)} letters. `
-        + `Send the file${isNo ? ", or the shortest log with its fault" : ""}. `, save, ...(isNo ? [" ", find] : []));
+        + `Send the file${isNo ? ", or a short log with its fault" : ""}. `, save, ...(isNo ? [" ", find] : []));
 }
 
 function listenToLog() {

@@ -1,5 +1,5 @@
 "use strict";
-// The shortest log with the same fault: the refusal, the faulty line and its diagnosis stay, except for origins and
+// A short log with the same fault: the refusal, the faulty line and its diagnosis stay, except for origins and
 // counts. It begins with the lines that the faulty line's operands come from, makes operands by roots where that is
 // shorter, and then leaves lines out as long as the fault stays. Whether it does, the judge says of each log.
 
@@ -275,5 +275,5 @@ function textOf8(bytes) {
 
 const hex8 = (number) => number.toString(16).padStart(8, "0");
 
-/** The shortest log with the fault, as far as the time allows; nothing where no other log has it. */
+/** A short log with the fault, as short as the time allows; nothing where no other log has it. */
 const shortest = (module, lines) => new Shortening(module, lines, performance.now() + TIME).found();

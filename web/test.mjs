@@ -1,4 +1,4 @@
-// The page in a browser: see test.sh. What is expected comes from examples/, the header, bench/vectors.py and docs/.
+// The page in a browser: see test.sh. What is expected comes from examples/, the header, conformance/vectors.py and docs/.
 import fs from "node:fs";
 import path from "node:path";
 

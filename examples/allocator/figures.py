@@ -2,7 +2,7 @@
 how many have at least 4096 bytes, how many of these have bounds that are not exact, and how many have bounds that cover bytes
 of a live neighbour."""
 import bisect, os, sys
-sys.path.insert(0, os.path.join(os.path.dirname(os.path.abspath(__file__)), "..", "..", "bench"))
+sys.path.insert(0, os.path.join(os.path.dirname(os.path.abspath(__file__)), "..", "..", "conformance"))
 from heap import rounded
 
 

@@ -78,7 +78,7 @@ export async function linksHoldLogs(page) {
     const long = drawn("memory", 150000, 4);
     for (const [given, wanted] of [
              [long.replace(/end \d+\n$/, "lc c20 c1 0 = 1 0000000000000000ffffffffffffffff\n"),
-                 [true, "Send the file, or the shortest log with its fault. Save the log Find the shortest log", 1]],
+                 [true, "Send the file, or a short log with its fault. Save the log Find a short log", 1]],
              [long, [true, "Send the file. Save the log", 0]]]) {
         await withLog(page, given);
         await page.run(copies);

@@ -92,11 +92,11 @@ export const vectors = fs.readdirSync(file("examples/vectors"))
                     .flatMap((name) => text(`examples/vectors/${name}`).trimEnd().split("\n"))
                     .map((line) => line.split(" = ").map((side) => side.split(" ")));
 
-/** Words at random and all that bench/vectors.py's plain definitions say of them. */
+/** Words at random and all that conformance/vectors.py's plain definitions say of them. */
 export function drawnWords() {
     const program = `
 import json, random, sys
-sys.path.insert(0, "bench")
+sys.path.insert(0, "conformance")
 from vectors import NULL, SPACE, bounds, fields, mantissa, window, word_of
 draw = random.Random(7)
 drawn = []

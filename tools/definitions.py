@@ -1,12 +1,14 @@
 #!/usr/bin/env python3
 """What a reader has to believe: the definitions of crates/*/specs that contracts of public functions reach.
 
-    python3 bench/definitions.py              what docs/PROOFS.md lists for each crate, compared with what is reached
-    python3 bench/definitions.py NAME..       how many definitions, lines, characters and words these names reach
+    python3 tools/definitions.py              what docs/PROOFS.md lists for each crate, compared with what is reached
+    python3 tools/definitions.py NAME..       how many definitions, lines, characters and words these names reach
 
 A definition reaches those that its text names, by the `use` lines of its file. Lines are counted without comments
-and without blank ones. Files that the page names as a whole, as needing no belief, are passed over. The status is 1
-where a list lacks a definition, or names what no crate defines."""
+and without blank ones. A crate's section lists all definitions of a file that it names (`specs/Fields`), except those
+of "(except `NAME`, ..)" after it, or only those of "(only `NAME`, ..)". The status is 1 where a section lacks a
+definition that is reached or excepts one, where it names a definition or a file that the crate doesn't have, or where
+the page tells other numbers of definitions and lines than the command after them counts."""
 import glob
 import os
 import re
@@ -15,7 +17,8 @@ import sys
 os.chdir(os.path.join(os.path.dirname(os.path.abspath(__file__)), ".."))
 WORD = r"[A-Za-z_][\w'-]*(?:\.[A-Za-z_][\w'-]*)*"
 HEAD = re.compile(r"^(?:abbrev |unfoldable )?(?:pub )?(?:abbrev |unfoldable )?(?:record |data )?(" + r"[A-Za-z_][\w'-]*" + r")\b.*:")
-NO_BELIEF = re.compile(r"need no belief|Nothing rests on them")
+FILE = re.compile(r"`specs/(\w+)`(?: \((except|only) ([^)]*)\))?")
+NAME = re.compile(r"`([A-Za-z_][\w'-]*)`")
 USE = re.compile(r"^\s*(pub )?(?:ghost )?use ([^;]+?);?\s*$", re.M)
 
 
@@ -149,6 +152,16 @@ def clauses(crate):
                 yield "\n".join(said[start:]), *uses(text)
 
 
+def listed(crate, section, specs):
+    """What a section lists of the definitions of its crate, pairs of a file and a name; what it names that isn't there."""
+    names, pairs, strange = set(NAME.findall(re.sub(r"\(except [^)]*\)", "", section))), set(), []
+    for file, kind, given in FILE.findall(section):
+        own, given = set(specs.get((crate, file), ({},))[0]), set(NAME.findall(given))
+        strange += [f"specs/{file}"] * (not own) + sorted(given - own)
+        pairs |= {(file, name) for name in (given if kind == "only" else own - given)}
+    return pairs | {(file, name) for it, file in specs if it == crate for name in specs[it, file][0] if name in names}, strange
+
+
 def compare():
     page, bad = read("docs/PROOFS.md"), 0
     reached = set()
@@ -158,13 +171,18 @@ def compare():
     defined = {name for own, _, _ in SPECS.values() for name in own}
     for crate in sorted(os.listdir("crates")):
         section = re.search(rf"^## {crate}:.*?(?=^## )", page + "\n## ", re.M | re.S)
-        listed = set(re.findall(r"`([A-Za-z_][\w'-]*)`", section[0])) if section else set()
-        whole = {it for line in (section[0] if section else "").split("\n") if NO_BELIEF.search(line) for it in re.findall(r"`specs/(\w+)`", line)}
-        lacks = sorted(f"{module[1]}.{name}" for module, name in reached if module[0] == crate and name not in listed and module[1] not in whole)
-        head = section[0].split("| Promised")[0] if section else ""
-        strange = sorted(it for it in re.findall(r"`([A-Za-z]\w*)`", head) if it[0].isupper() and it not in defined and not re.search(rf"\b{it}\b", rust(crate)))
+        section = section[0] if section else ""
+        pairs, strange = listed(crate, section, SPECS)
+        lacks = sorted(f"{module[1]}.{name}" for module, name in reached if module[0] == crate and (module[1], name) not in pairs)
+        head = section.split("| Promised")[0]
+        strange += sorted(it for it in NAME.findall(head) if it[0].isupper() and it not in defined and not re.search(rf"\b{it}\b", rust(crate)))
         bad += len(lacks) + len(strange)
         print(f"{crate}: {sum(module[0] == crate for module, _ in reached)} reached" + "".join(f"\n  not listed: {it}" for it in lacks) + "".join(f"\n  defined nowhere: {it}" for it in strange))
+    for number, lines, names in re.findall(r"(\d+) (?:definitions of|of them, of) (\d+) lines \(`python3 tools/definitions\.py ([^`]+)`\)", page):
+        found = size(names.split())
+        if found != (int(number), int(lines)):
+            bad += 1
+            print(f"{names}: {found[0]} definitions of {found[1]} lines, and not {number} of {lines}")
     return 1 if bad else 0
 
 
@@ -172,11 +190,19 @@ def rust(crate):
     return "\n".join(read(it) for it in glob.glob(f"crates/{crate}/src/**/*.rt", recursive=True))
 
 
+def reached_by(names):
+    """The definitions that some names reach."""
+    return closure([(module, name) for name in names for module, (own, _, _) in SPECS.items() if name in own])
+
+
+def size(names):
+    """How many definitions some names reach, and their lines."""
+    return len(reached_by(names)), sum(len(SPECS[module][0][name]) for module, name in reached_by(names))
+
+
 def count(names):
-    found = [(module, name) for name in names for module, (own, _, _) in SPECS.items() if name in own]
-    lines = [line for module, name in closure(found) for line in SPECS[module][0][name]]
-    text = "\n".join(lines)
-    print(f"{len(closure(found))} definitions, {len(lines)} lines, {len(text)} characters, {len(text.split())} words")
+    text = "\n".join(line for module, name in reached_by(names) for line in SPECS[module][0][name])
+    print(f"{size(names)[0]} definitions, {size(names)[1]} lines, {len(text)} characters, {len(text.split())} words")
     return 0
 
 

@@ -1,5 +1,5 @@
 #!/usr/bin/env python3
-"""Writes the vector file examples/vectors/edges.vectors: python3 bench/vectors.py > examples/vectors/edges.vectors
+"""Writes the vector file examples/vectors/edges.vectors: python3 conformance/vectors.py > examples/vectors/edges.vectors
 
 Each line is computed from the plain definitions in docs/WORDS.md, by unbounded integers: the window and the
 numbers congruent to B and T units in it, the least exponent found by trying each one from 0 on. Nothing here

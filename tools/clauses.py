@@ -1,8 +1,8 @@
 #!/usr/bin/env python3
 """The clauses of each public function and each method of a public trait, in crates/*/src.
 
-    python3 bench/clauses.py [CRATE..]      prints a line for each clause without a name, and nothing where all have one
-    python3 bench/clauses.py --since REV    prints each `ensures` of REV, and each definition that its docs/PROOFS.md
+    python3 tools/clauses.py [CRATE..]      prints a line for each clause without a name, and nothing where all have one
+    python3 tools/clauses.py --since REV    prints each `ensures` of REV, and each definition that its docs/PROOFS.md
                                             lists, whose text is another now or that is gone; each `requires` that is
                                             new; and the functions of REV that are gone
 
@@ -13,7 +13,7 @@ import re
 import subprocess
 import sys
 
-from definitions import blocks
+from definitions import FILE, NAME, blocks
 
 os.chdir(os.path.join(os.path.dirname(os.path.abspath(__file__)), ".."))
 FUNCTION = re.compile(r"\s*(pub )?(?:final )?(?:const )?(?:unsafe )?(?:extern \"C\" )?fn (\w+)")
@@ -76,6 +76,20 @@ def defined(revision):
     return found
 
 
+def listed(revision):
+    """The names of the definitions that docs/PROOFS.md lists, by name or by file."""
+    page = "".join(text for _, text in sources(revision, r"docs/PROOFS\.md$"))
+    names, excepted, files = set(NAME.findall(page)), set(), {}
+    for crate, section in re.findall(r"(?ms)^## (\w+): (.*?)(?=^## )", page) if "(except `" in page else []:
+        text = "\n".join(line for line in section.split("\n") if "need no belief" not in line)
+        for file, kind, given in FILE.findall(text):
+            excepted |= set(NAME.findall(given)) if kind == "except" else set()
+            files[f"crates/{crate}/specs/{file}.antt"] = kind != "only"
+    for path, text in sources(revision, r"crates/\w+/specs/.*\.antt$"):
+        names |= set(blocks(text)) if files.get(path) else set()
+    return names - excepted
+
+
 def differences(what, was, now):
     """What is said of texts that are others now."""
     for text in sorted(was - now):
@@ -93,9 +107,8 @@ def since(revision):
             old, new = (it[function].get((kind, name), set()) for it in (was, now))
             yield from differences(f"{function}: {kind} {name}", old, new) if kind == "ensures" else []
             yield from (f"{function}: new: requires {name} {{ {it} }}" for it in sorted(new - old)) if kind == "requires" else []
-    page = "".join(text for _, text in sources(revision, r"docs/PROOFS\.md$"))
     was, now = defined(revision), defined(None)
-    for name in sorted(was.keys() & set(re.findall(r"`([A-Za-z_][\w'-]*)`", page))):
+    for name in sorted(was.keys() & listed(revision)):
         yield from differences(name, was[name], now.get(name, set()))
 
 

@@ -1,7 +1,7 @@
 #!/usr/bin/env python3
 """Prints the files of crates/ that name a kind of step, in any spelling: what one more kind has to be added to.
 
-    python3 bench/kinds.py [WORD]
+    python3 tools/kinds.py [WORD]
 
 WORD is the kind's word, `setboundsexact` if none is given. The tests and examples among the crates are left out."""
 import glob

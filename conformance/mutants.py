@@ -1,16 +1,16 @@
 #!/usr/bin/env python3
-"""Whether the corpus tells the definitions in Python, bench/transcribed.py, from each with one thing changed.
+"""Whether the corpus tells the definitions in Python, conformance/transcribed.py, from each with one thing changed.
 
-    python3 bench/mutants.py              makes each mutant, asks the corpus, and compares what it finds with two tables
-    python3 bench/mutants.py --write      writes conformance/CLAUSES.tsv too; with names, the rows of these definitions
-    python3 bench/mutants.py NAME..       only the mutants of these definitions, and which file sees each
-    python3 bench/mutants.py --limits NAME..   asks the logs of conformance/limits.py alone, made for limits of 16 roots
+    python3 conformance/mutants.py              makes each mutant, asks the corpus, and compares what it finds with two tables
+    python3 conformance/mutants.py --write      writes conformance/CLAUSES.tsv too; with names, the rows of these definitions
+    python3 conformance/mutants.py NAME..       only the mutants of these definitions, and which file sees each
+    python3 conformance/mutants.py --limits NAME..   asks the logs of conformance/limits.py alone, made for limits of 16 roots
                                                and 256 and 512 granules, which these mutants then have
 
 A mutant has one comparison, operator, constant, condition or operand otherwise: `<` for `<=`, 4097 for 4096, one operand of
 `and` left out, two neighbours of a call or of a list of checks exchanged. A file of the corpus sees it if the answer is
 another, if a definition refuses the right answer or takes a wrong one, or if a relation and its closed form differ on it.
-bench/mutants.tsv has a line for each mutant that lives: the definition, what is changed (`*` for all changes), and why no
+conformance/mutants.tsv has a line for each mutant that lives: the definition, what is changed (`*` for all changes), and why no
 file can see it.
 conformance/CLAUSES.tsv has one for each clause with mutants: how many, how many are seen, and the file that sees most. The
 status is 1 if another mutant lives, if one of those is seen, or if the second table has other counts."""
@@ -25,7 +25,7 @@ import types
 
 import transcription
 
-PATH, LISTED, CLAUSES = "bench/transcribed.py", "bench/mutants.tsv", "conformance/CLAUSES.tsv"
+PATH, LISTED, CLAUSES = "conformance/transcribed.py", "conformance/mutants.tsv", "conformance/CLAUSES.tsv"
 COMPARED = {ast.Lt: ast.LtE, ast.LtE: ast.Lt, ast.Gt: ast.GtE, ast.GtE: ast.Gt, ast.Eq: ast.NotEq, ast.NotEq: ast.Eq,
             ast.In: ast.NotIn, ast.NotIn: ast.In, ast.Is: ast.IsNot, ast.IsNot: ast.Is}
 OPERATED = {ast.Add: ast.Sub, ast.Sub: ast.Add, ast.Mult: ast.FloorDiv, ast.FloorDiv: ast.Mult, ast.Mod: ast.FloorDiv, ast.Pow: ast.Mult,
@@ -150,7 +150,7 @@ class Files:
             finally:
                 sys.setprofile(None)
             if not is_same:
-                sys.exit(f"mutants.py: {name}: the corpus differs from the definitions: python3 bench/transcription.py")
+                sys.exit(f"mutants.py: {name}: the corpus differs from the definitions: python3 conformance/transcription.py")
 
     def seen_by(self, space, definition):
         """The first file that sees a difference, or None. What saw most of the last mutants is asked first."""
@@ -342,7 +342,7 @@ def main(words):
             with open(CLAUSES, encoding="utf-8") as it:
                 counts = [line.rpartition("\t")[0] for line in it.read().splitlines()]
             if counts != [line.rpartition("\t")[0] for line in text.splitlines()]:
-                bad.append(f"{CLAUSES} has other counts: python3 bench/mutants.py --write")
+                bad.append(f"{CLAUSES} has other counts: python3 conformance/mutants.py --write")
     print("\n".join([*bad, f"{count} mutants, {count - len(alive)} seen by a file of the corpus, {len(alive)} alive, {len(bad)} otherwise than the tables say"]))
     return 1 if bad else 0
 

@@ -1,8 +1,8 @@
 #!/usr/bin/env python3
 """Writes docs/STANDARD.md: the theorems, what they rest on, and the definitions, made of contracts and of crates/*/specs.
 
-    python3 bench/standard.py            compares the page with what the tree gives; the status is 1 if it differs
-    python3 bench/standard.py --write    writes it
+    python3 tools/standard.py            compares the page with what the tree gives; the status is 1 if it differs
+    python3 tools/standard.py --write    writes it
 
 docs/standard.txt has the prose. Its lines that begin with one of these words are made here:
 
@@ -12,7 +12,7 @@ docs/standard.txt has the prose. Its lines that begin with one of these words ar
     of: CRATE.DEFINITION..           definitions that an annex needs beside those of its theorems
     types: PATH NAME..               declared types, a line each
     defs: MODULE NUMBER NAME..       definitions, with the number of the first; the next ones follow it
-    table: NAME [NUMBER]             a table of bench/tables.py, with the number of its first row
+    table: NAME [NUMBER]             a table of tools/tables.py, with the number of its first row
     library: NUMBER NAME..           definitions of the kit's library
     moved: NUMBER [NUMBER]           a number that isn't given again, and the one that the clause has now, if any
     gaps:                            these numbers
@@ -492,7 +492,7 @@ def main(words):
         with open(PAGE, "w", encoding="utf-8") as it:
             it.write(text)
     elif old != text:
-        print(f"{PAGE} isn't what the tree gives: python3 bench/standard.py --write")
+        print(f"{PAGE} isn't what the tree gives: python3 tools/standard.py --write")
         return 1
     return 0
 

@@ -1,10 +1,10 @@
 #!/usr/bin/env python3
 """The definitions of run logs in Python: cap_run_log's RunLines, cap_run's RunChecks and RunChanges, and the verdict.
 
-They stand on bench/transcribed.py, as the crates stand on those below them. A run is changed in place. A place is the name of its form
+They stand on conformance/transcribed.py, as the crates stand on those below them. A run is changed in place. A place is the name of its form
 and its number; `key_of_run` is its key. Called as a program it judges a run log, as `capdiag run` does:
 
-    python3 bench/transcribed_runs.py [--freed held|used|both] [--owned] [--owners] [FILE]"""
+    python3 conformance/transcribed_runs.py [--freed held|used|both] [--owned] [--owners] [FILE]"""
 import sys
 import types
 

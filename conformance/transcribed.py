@@ -1,7 +1,7 @@
 #!/usr/bin/env python3
 """The definitions of docs/STANDARD.md in Python, each with its number there, for readers who don't read Rattle's language.
 
-They are written from the page alone, and `python3 bench/transcription.py` compares them with the programs. If the page says
+They are written from the page alone, and `python3 conformance/transcription.py` compares them with the programs. If the page says
 that there is something, such as states, a line or a beginning, a function finds it (`states_of`, `line_from`, `verdict_of`), and
 the definition then says whether what was found is right. A state is a dictionary: a place that it lacks holds untagged NULL.
 States and accounts are changed in place. A refusal is its name. A place, a line or a beginning is the name of its form and what

@@ -1,10 +1,10 @@
 #!/usr/bin/env python3
 """Compares `capdiag run` with the definitions of run logs in Python, on logs drawn at random.
 
-    python3 bench/run_logs.py CAPDIAG [LOGS [SEED]]
+    python3 conformance/run_logs.py CAPDIAG [LOGS [SEED]]
 
 Each log is judged with each choice of --freed, with and without --owned, and with --owners. The texts and the statuses have to be
-those of bench/transcribed_runs.py. Half of the logs are accepted by the usual choice; the others end at a refused line, or
+those of conformance/transcribed_runs.py. Half of the logs are accepted by the usual choice; the others end at a refused line, or
 have a line changed, cut, doubled or left out. The status is 1 if anything differs."""
 import copy
 import os

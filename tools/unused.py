@@ -1,5 +1,5 @@
 #!/usr/bin/env python3
-"""Prints the definitions and lemmas that nothing names: python3 bench/unused.py
+"""Prints the definitions and lemmas that nothing names: python3 tools/unused.py
 
 A name counts as used if it stands anywhere in the sources, contracts, definitions, proofs or edits of the crates, or in
 docs/standard.txt, except in its own declaration and in imports that give it no other name. What a proof answers, in the folders of proofs/, is named by the

@@ -1,7 +1,7 @@
 #!/usr/bin/env python3
 """The wrong bodies that the prover has to refuse: crates/*/must-fail/*.edit.
 
-    python3 bench/edits.py [CRATE..]        prints a line for each edit that can't be applied, since one of its old texts
+    python3 tools/edits.py [CRATE..]        prints a line for each edit that can't be applied, since one of its old texts
                                             doesn't stand exactly once in its file, and nothing where all can be
 
 As in `rt ci`, a pair applies to what those before it made. The status is 1 where something was printed."""

@@ -1,7 +1,7 @@
 #!/usr/bin/env python3
-"""Compares the definitions in Python, bench/transcribed.py, with docs/STANDARD.md and with capcheck.
+"""Compares the definitions in Python, conformance/transcribed.py, with docs/STANDARD.md and with capcheck.
 
-    CAPCHECK=crates/capcheck/out/capcheck python3 bench/transcription.py [LOGS]
+    CAPCHECK=crates/capcheck/out/capcheck python3 conformance/transcription.py [LOGS]
 
 - Each definition of the page's core stands there with its number, except those of OTHERS.
 - Closed forms are compared with the relations that they stand for, on 10,000 words and requests drawn at random and on the
@@ -32,14 +32,14 @@ HIGH = 0xFFFF1FFFFC018004 << 64
 
 def unnamed():
     """The definitions of the core, sections 3 to 18 without the library, that transcribed.py lacks under their number."""
-    with open("docs/STANDARD.md", encoding="utf-8") as page, open("bench/transcribed.py", encoding="utf-8") as it:
+    with open("docs/STANDARD.md", encoding="utf-8") as page, open("conformance/transcribed.py", encoding="utf-8") as it:
         index = page.read().rpartition("## Annex: Index")[2]
         here = {number: name for name, number in re.findall(r"^(?:def |class )?(\w+)\b.*  # (\d+\.\d+)$", it.read(), re.M)}
     there = {number: name for name, numbers in re.findall(r"`(\w+)` ((?:\[[\d.]+\](?: and )?)+)", index) for number in re.findall(r"[\d.]+", numbers)}
     core = {number: name for number, name in there.items() if 3 <= int(number.split(".")[0]) <= 18 and not number.startswith("17.")}
     for number in sorted(here.keys() | core.keys()):
         if here.get(number) != core.get(number) and core.get(number) not in OTHERS:
-            yield f"{number} is {core.get(number)} in docs/STANDARD.md and {here.get(number)} in bench/transcribed.py"
+            yield f"{number} is {core.get(number)} in docs/STANDARD.md and {here.get(number)} in conformance/transcribed.py"
 
 
 # Vectors
