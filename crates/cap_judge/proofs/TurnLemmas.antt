@@ -1,9 +1,9 @@
 -- What lines lead to, and where a judge stops.
-use Rattle.std.proofs.Common.{◌≡◌, ◌≢◌, ℕ, ◌+◌, ◌-◌, inl, inr, true, false, List, [], ◌∷◌, ◌++◌, length, take, drop}
+use Rattle.std.proofs.Common.{◌≡◌, ◌≢◌, ℕ, ◌+◌, ◌-◌, inl, inr, true, false, List, [], ◌∷◌, ◌++◌, length, map, take, drop}
 use Rattle.std.proofs.Common.{refl, sym, ap, subst, ◌∙◌, arith, append-nil, append_assoc, not, None, Some, Option}
 use Rattle.std.proofs.Common.{Result, Ok, Err, Bool, ◌⊎◌, ◌↔◌, ◌<◌, IfSome, IfErr, MatchResult, nat_lt}
 use Rattle.std.proofs.{Common.{length-append, length-drop, take_at}, lemmas.Bool.{not-false, false≢true}}
-use Rattle.std.proofs.lemmas.{Grind.flat_map-append, List.{take-append-le, Prefix.end_rest}, Option.none-some}
+use Rattle.std.proofs.lemmas.{Grind.flat_map-append, List.{map-append, take-append-le, Prefix.end_rest}, Option.none-some}
 use Rattle.cap_word.specs.declared.word.Word.{Word}
 use Rattle.cap_ops.specs.declared.refusal.Refusal.{Refusal, TheVariants.{BadLine, Misplaced, Truncated}}
 use Rattle.cap_ops.specs.Checks.{first_of}
@@ -23,7 +23,7 @@ use Rattle.cap_judge.specs.declared.verdict.{TakeFault.TheVariants.{NoLine, NoMe
 use Rattle.cap_judge.specs.{declared.verdict.Verdict.TheVariants.{Yes, No}, Judgings.IsLastFront}
 use Rattle.cap_judge.specs.{Logs.{has_form, line_checks, text_of}, Readings.{AnswersLine, EndsAs, EndsText, EndsAt, EndsFor}}
 use Rattle.cap_judge.specs.Readings.{EndsIn, Follows, Goes, GoesOrStops, IsAtFault, IsNoLine, Known, Lacks, RefusesNext}
-use Rattle.cap_judge.specs.Readings.{StopsAt, Takes, TakesAll, TakesStep, at, due_of, due_at_end, lines_read, refused_at, Faults}
+use Rattle.cap_judge.specs.Readings.{MakesSteps, StopsAt, Takes, TakesAll, TakesStep, at, due_of, due_at_end, lines_read, refused_at, Faults}
 use Rattle.cap_judge.specs.Turns.{Body, Ended, Reads, Stage, behind, refusal_at, Due, Refused}
 use Rattle.cap_judge.specs.declared.judges.NextLine as code
 use Rattle.cap_judge.specs.declared.judges.NextLine.TheVariants as stages
@@ -69,6 +69,36 @@ abbrev pub goes_line : (first old new : Stage) (bytes front rest behind : List �
 goes_line first old new bytes front rest behind line is so_far begins takes =
     goes_more first old new bytes front rest (spelling line ++ 10 ∷ []) behind is so_far
     (begins.1 ∙ sym (append_assoc (spelling line) (10 ∷ []) behind)) (one_goes old new line begins.0 takes)
+
+-- Lines of steps alone
+
+pub makes_none : (held : Held) → MakesSteps held [] held
+unfolding goes_none
+makes_none held = record { goes = goes_none (at stages.Body held); steps = []; lines_are = refl }
+
+pub makes_more : (first old new : Held) (bytes front rest more behind : List ℕ) → bytes ≡ front ++ rest → MakesSteps first front old
+    → rest ≡ more ++ behind → MakesSteps old more new → (fronts : List ℕ) × (bytes ≡ fronts ++ behind) × MakesSteps first fronts new
+unfolding goes_on
+makes_more first old new bytes front rest more behind is so_far is_more next =
+    let goes = goes_more (at stages.Body first) (at stages.Body old) (at stages.Body new) bytes front rest more behind is so_far.goes is_more next.goes in (
+      goes.0,
+      goes.1,
+      record {
+        goes = goes.2;
+        steps = so_far.steps ++ next.steps;
+        lines_are = ap (λ (ls : List Line). ls ++ next.goes.lines) so_far.lines_are
+            ∙ ap (λ (ls : List Line). map Line.Step so_far.steps ++ ls) next.lines_are ∙ sym (map-append Line.Step so_far.steps next.steps);
+      },
+    )
+
+pub makes_one : (first old new : Held) (bytes front rest behind : List ℕ) → bytes ≡ front ++ rest → MakesSteps first front old
+    → TakesStep old rest new behind → (fronts : List ℕ) × (bytes ≡ fronts ++ behind) × MakesSteps first fronts new
+unfolding one_goes
+makes_one first old new bytes front rest behind is so_far taken =
+    let line = Line.Step taken.0 in
+    let one = one_goes (at stages.Body old) (at stages.Body new) line taken.1.0 taken.2 in
+    makes_more first old new bytes front rest (spelling line ++ 10 ∷ []) behind is so_far
+    (taken.1.1 ∙ sym (append_assoc (spelling line) (10 ∷ []) behind)) (record { goes = one; steps = taken.0 ∷ []; lines_are = refl })
 
 -- what ends with a line feed is not empty
 feed_some : (front text : List ℕ) → front ++ (text ++ 10 ∷ []) ≢ []

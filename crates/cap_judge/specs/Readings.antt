@@ -1,5 +1,5 @@
 -- What a judge has read of the bytes that it was handed (this profile's own, as are all below).
-use Rattle.std.specs.Prelude.{◌≡◌, ◌≢◌, ◌⊎◌, ℕ, ◌+◌, Bool, false, IsTrue, List, [], ◌∷◌, ◌++◌, codes, length, Option, None, Some}
+use Rattle.std.specs.Prelude.{◌≡◌, ◌≢◌, ◌⊎◌, ℕ, ◌+◌, Bool, false, IsTrue, List, [], ◌∷◌, ◌++◌, codes, length, map, Option, None, Some}
 use Rattle.std.specs.{Prelude.{Result, Ok, Err}, Borrow.Bor, List.AllByRecursion}
 use Rattle.cap_ops.specs.declared.refusal.Refusal.{Refusal, TheVariants.{LineTooLong, Misplaced, Truncated}}
 use Rattle.cap_streams.specs.{declared.judge_faults.JudgeFault.JudgeFault, FaultLines.bytes_of}
@@ -113,6 +113,12 @@ pub record Goes (old : Stage) (bytes : List ℕ) (new : Stage) : Type 0 where
   pub in_range : AllByRecursion IsInRange lines
   pub bytes_are : bytes ≡ text_of lines
   pub reads : Reads old lines new
+
+-- the bytes are lines of steps, by which a machine goes from what it held to what it holds
+pub record MakesSteps (old : Held) (bytes : List ℕ) (new : Held) : Type 0 where
+  pub goes : Goes (at stages.Body old) bytes (at stages.Body new)
+  pub steps : List Step
+  pub lines_are : goes.lines ≡ map lines.Step steps
 
 -- a line is faulty: one before the bytes, or the first is what they begin with
 abbrev pub Faults : Stage → List ℕ → Stage → Type 0

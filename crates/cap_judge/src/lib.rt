@@ -26,6 +26,7 @@ pub use crate::laws::{
 };
 pub use crate::origins::origin_text;
 pub use crate::output::{judge_origins, judge_to, push_report, push_verdict};
+pub use crate::steps::take_steps;
 pub use crate::streams::{
     JudgeEnd, judge, judge_bytes, judge_bytes_keeping, judge_in, judge_keeping,
 };

@@ -5,7 +5,7 @@ ghost use Rattle.cap_log.specs.{Heads.head_spelling, Lines.{IsInRange, spelling}
 ghost use Rattle.cap_log.specs.declared.lines.Line.TheVariants as lines;
 ghost use Rattle.cap_machine.specs.Helds.{AnswersStep};
 ghost use Rattle.cap_judge.specs.declared.judges.NextLine.TheVariants.{Body};
-ghost use Rattle.cap_judge.specs.Readings.{EndsAt, Goes, TakesAll, TakesOne, at};
+ghost use Rattle.cap_judge.specs.Readings.{EndsAt, MakesSteps, TakesAll, TakesOne, at};
 
 use crate::recorded::{Derived, glance};
 use cap_log::kinds::{AndPerm, ClearTag, Move, SetAddr};
@@ -21,12 +21,12 @@ const MOST_HEAD_BYTES: usize = 15;
 
 /// Takes the steps at the front of some bytes, as long as a line of any length has room: what follows them,
 /// and how the step ends there that was not made. By that one nothing has changed.
-pub(crate) fn take_steps<'a, M: TaggedStore>(
+pub fn take_steps<'a, M: TaggedStore>(
     machine: &mut Machine<M>,
     bytes: &'a [u8],
 ) -> (&'a [u8], Option<StepEnd>)
     ensures taken { (front : List ℕ) × (bytes.now ≡ front ++ result.0.now)
-        × Goes (at Body machine.old) front (at Body machine.new) }
+        × MakesSteps machine.old front machine.new }
     ensures end { IfSome result.1 (EndsAt (at Body machine.new) result.0.now) }
 {
     let mut rest = bytes;
@@ -51,7 +51,7 @@ fn take_usual<'a, M: TaggedStore>(
     bytes: &'a [u8],
 ) -> (&'a [u8], Option<StepEnd>)
     ensures taken { (front : List ℕ) × (bytes.now ≡ front ++ result.0.now)
-        × Goes (at Body machine.old) front (at Body machine.new) }
+        × MakesSteps machine.old front machine.new }
     ensures end { IfSome result.1 (EndsAt (at Body machine.new) result.0.now) }
 {
     let mut rest = bytes;

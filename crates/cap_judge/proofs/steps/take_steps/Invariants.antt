@@ -1,12 +1,12 @@
 use Rattle.std.proofs.Common.{◌≡◌, ◌++◌, ℕ, List, length}
-use Rattle.cap_judge.specs.{declared.judges.NextLine.TheVariants.Body, Readings.{Goes, at}}
+use Rattle.cap_judge.specs.Readings.{MakesSteps}
 use Rattle.cap_judge.proofs.steps.take_steps.Given as goal
 
 -- the steps so far are the front of the bytes
 abbrev pub invariant-steps : goal.invariant-steps
 invariant-steps g l = record {
   taken : (front : List ℕ) × (l.fn.bytes ≡ front ++ l.rest)
-      × Goes (at Body l.fn.machine) front (at Body l.machine);
+      × MakesSteps l.fn.machine front l.machine;
 }
 
 -- each step of a rare kind shortens the rest

@@ -4,7 +4,7 @@ use Rattle.cap_judge.proofs.TurnLemmas.{front_end, goes_none}
 use Rattle.cap_judge.proofs.judges.Judge.take_front.Goals as goal
 
 pub returns-in-Body-clause-taken : goal.returns-in-Body-clause-taken
-returns-in-Body-clause-taken g c = rw c.in-Body.is c.take_steps.ensures.taken
+returns-in-Body-clause-taken g c = rw c.in-Body.is (let taken = c.take_steps.ensures.taken in (taken.0, taken.1, taken.2.goes))
 
 pub returns-in-Body-clause-end : goal.returns-in-Body-clause-end
 returns-in-Body-clause-end g c =
