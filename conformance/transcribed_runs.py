@@ -46,6 +46,8 @@ def run_step_words(form, *parts):
 def run_line_words(form, *parts):
     if form == "Version":
         return ["run", "1"]
+    if form == "Plain":
+        return ["capcheck", str(parts[0])]
     if form == "Root":
         return ["root", run_place_spelling(parts[0]), hex_digits(32, parts[1])]
     return run_step_words(*parts[0]) if form == "Run" else line_words(form, *parts)
@@ -73,8 +75,8 @@ def IsRunStepInRange(form, *parts):
 
 
 def IsRunLineInRange(form, *parts):
-    if form == "Version":
-        return True
+    if form in ("Version", "Plain"):
+        return form == "Version" or IsVersion(parts[0])
     if form == "Root":
         return IsRunPlace(parts[0]) and IsWord(parts[1])
     return IsRunStepInRange(*parts[0]) if form == "Run" else IsInRange(form, *parts)
@@ -116,8 +118,8 @@ def run_line_from(data):
         elif head in ("derive", "exchange", "invoke", "drop", "fill", "object", "free"):
             line = ("Run", run_step_from(head, words))
         else:
-            line = line_from(data)
-        return line if line and (line[0] != "Version" or head == "run") and IsRunLineInRange(*line) and run_spelling(line) == data else None
+            line = ("Plain", int(words[0])) if head == "capcheck" else line_from(data)
+        return line if line and IsRunLineInRange(*line) and run_spelling(line) == data else None
     except (ValueError, KeyError, IndexError, TypeError):
         return None
 
