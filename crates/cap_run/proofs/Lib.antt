@@ -6,3 +6,4 @@ mod SafetyLemmas
 mod FillLemmas
 mod WideningLemmas
 mod UsualLemmas
+pub mod LineLemmas

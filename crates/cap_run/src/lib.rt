@@ -10,6 +10,7 @@
 mod asks;
 mod ends;
 mod granule_steps;
+mod laws;
 mod object_steps;
 mod puts;
 mod register_steps;
@@ -19,5 +20,6 @@ mod usual_steps;
 
 pub use crate::asks::Asks;
 pub use crate::ends::{RunEnd, RunRefusal};
+pub use crate::laws::lines_stay_within;
 pub use crate::run_machine::RunMachine;
 pub use crate::specials::Specials;
