@@ -7,3 +7,4 @@ mod FillLemmas
 mod WideningLemmas
 mod UsualLemmas
 pub mod LineLemmas
+pub mod DescentLemmas
