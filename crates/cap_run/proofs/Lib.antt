@@ -8,3 +8,4 @@ mod WideningLemmas
 mod UsualLemmas
 pub mod LineLemmas
 pub mod DescentLemmas
+pub mod OneRootLemmas

@@ -5,7 +5,7 @@ ghost use Rattle.cap_machine.specs.Parents.{IsSoundState};
 ghost use Rattle.cap_run_log.specs.declared.lines.RunLine.{RunLine};
 ghost use Rattle.cap_run_log.specs.RunLines.{IsRunLineInRange};
 ghost use Rattle.cap_run.specs.declared.asks.Asks.{Asks as AsksIn};
-ghost use Rattle.cap_run.specs.{Allowed.{AreAllowed, IsAllowed, LineStaysWithin}, Descents.{LiesInRoot, StaysWithinRoots, run_along}};
+ghost use Rattle.cap_run.specs.{Allowed.{AreAllowed, DescendsFromOne, IsAllowed, LineStaysWithin}, Descents.{LiesInRoot, StaysWithinRoots, run_along}};
 ghost use Rattle.cap_run.specs.{Run.Run, RunChanges.no_run};
 
 /// Where each tagged capability of a run is sound, each one after an allowed line is sound too: it is the root that the
@@ -28,4 +28,10 @@ pub fn runs_stay_within_roots()
 pub fn accesses_lie_in_roots()
     ensures law { (asks : AsksIn) (read : List RunLine) (line : RunLine) → AreAllowed asks no_run read
         → IsAllowed asks (run_along read) line → LiesInRoot read line }
+{}
+
+/// After lines that are each allowed in its turn, a place descends from one root at most: no place is declared twice, and
+/// no place has two chains of parents.
+pub fn places_descend_from_one_root()
+    ensures law { (asks : AsksIn) (read : List RunLine) → AreAllowed asks no_run read → DescendsFromOne read }
 {}

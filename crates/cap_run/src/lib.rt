@@ -20,6 +20,8 @@ mod usual_steps;
 
 pub use crate::asks::Asks;
 pub use crate::ends::{RunEnd, RunRefusal};
-pub use crate::laws::{accesses_lie_in_roots, lines_stay_within, runs_stay_within_roots};
+pub use crate::laws::{
+    accesses_lie_in_roots, lines_stay_within, places_descend_from_one_root, runs_stay_within_roots,
+};
 pub use crate::run_machine::RunMachine;
 pub use crate::specials::Specials;
