@@ -15,13 +15,30 @@ use Rattle.cap_run_log.specs.RunLines.{IsRunLineInRange}
 use Rattle.cap_run.specs.declared.asks.Asks.{Asks}
 use Rattle.cap_run.specs.Allowed.{AreAllowed, DeclaresAt, IsAllowed, LineComesFrom}
 use Rattle.cap_run.specs.Descents.{Descends, DescendsFrom, LiesInRoot, StaysWithinRoots, access_of, line_parent, run_along}
-use Rattle.cap_run.specs.{Run.Run, RunChanges.{account_in, line_after, main_of, no_run, place_key}}
+use Rattle.cap_run.specs.{Run.Run, RunChanges.{line_after, main_of, no_run, place_key}, RunChecks.line_end}
 use Rattle.cap_run.proofs.LineLemmas.{main-tagged, stays_within, usual_leads}
 
 -- a run after lines, from any run on
 abbrev pub along : Run → List RunLine → Run
 along run [] = run
 along run (line ∷ rest) = along (line_after run line) rest
+
+-- a run after lines is the fold of their changes
+pub along-fold : (run : Run) (read : List RunLine) → fold line_after run read ≡ along run read
+along-fold run [] = refl
+along-fold run (line ∷ rest) = along-fold (line_after run line) rest
+
+pub along-append : (run : Run) (before after : List RunLine) → along run (before ++ after) ≡ along (along run before) after
+along-append run [] after = refl
+along-append run (line ∷ before) after = along-append (line_after run line) before after
+
+-- what allowed lines begin with is allowed, and what follows in what those lead to
+pub allowed_parts : (asks : Asks) (run : Run) (before after : List RunLine) → AreAllowed asks run (before ++ after)
+    → AreAllowed asks run before × AreAllowed asks (along run before) after
+allowed_parts asks run [] after allowed = (tt, allowed)
+allowed_parts asks run (line ∷ before) after allowed =
+    let rest = allowed_parts asks (line_after run line) before after allowed.2 in
+    ((allowed.0, allowed.1, rest.0), rest.1)
 
 -- an allowed line keeps each tagged capability sound
 pub sound_after : (asks : Asks) (run : Run) (line : RunLine) → IsRunLineInRange line → IsSoundState run.state → IsAllowed asks run line
@@ -102,10 +119,37 @@ back asks run (line ∷ rest) key allowed sound held =
 nothing_tagged : IsSoundState no_run.state
 nothing_tagged key held = absurd (false≢true held)
 
--- what a fold of lines leads to
-pub along-fold : (run : Run) (read : List RunLine) → fold line_after run read ≡ along run read
-along-fold run [] = refl
-along-fold run (line ∷ rest) = along-fold (line_after run line) rest
+-- after allowed lines each tagged capability is sound
+pub sound_along : (asks : Asks) (run : Run) (read : List RunLine) → AreAllowed asks run read → IsSoundState run.state
+    → IsSoundState (along run read).state
+sound_along asks run [] allowed sound = sound
+sound_along asks run (line ∷ rest) allowed sound =
+    sound_along asks (line_after run line) rest allowed.2 (sound_after asks run line allowed.0 sound allowed.1)
+
+pub all_sound : (asks : Asks) (read : List RunLine) → AreAllowed asks no_run read → IsSoundState (run_along read).state
+all_sound asks read allowed =
+    subst (λ (run : Run). IsSoundState run.state) (sym (along-fold no_run read)) (sound_along asks no_run read allowed nothing_tagged)
+
+-- a line that no check refuses is allowed, and is the last of allowed lines
+pub allowed_by : (asks : Asks) (run : Run) (line : RunLine) → line_end asks run line ≡ None → IsAllowed asks run line
+allowed_by asks run lines.Version free = tt
+allowed_by asks run (lines.Mode mode) free = tt
+allowed_by asks run (lines.Root place word) free = free
+allowed_by asks run (lines.Step step) free = free
+allowed_by asks run (lines.Run step) free = free
+allowed_by asks run (lines.End count) free = free
+
+allowed_joined : (asks : Asks) (run : Run) (before after : List RunLine) → AreAllowed asks run before → AreAllowed asks (along run before) after
+    → AreAllowed asks run (before ++ after)
+allowed_joined asks run [] after allowed more = more
+allowed_joined asks run (line ∷ before) after allowed more =
+    (allowed.0, allowed.1, allowed_joined asks (line_after run line) before after allowed.2 more)
+
+pub allowed_next : (asks : Asks) (read : List RunLine) (line : RunLine) → AreAllowed asks no_run read → IsRunLineInRange line
+    → IsAllowed asks (run_along read) line → AreAllowed asks no_run (read ++ line ∷ [])
+allowed_next asks read line allowed range next =
+    allowed_joined asks no_run read (line ∷ []) allowed
+    (range, subst (λ (run : Run). IsAllowed asks run line) (along-fold no_run read) next, tt)
 
 pub stays_within_roots : (asks : Asks) (read : List RunLine) → AreAllowed asks no_run read → StaysWithinRoots read
 stays_within_roots asks read allowed key held =
@@ -151,3 +195,13 @@ lies_in_root asks read line allowed next access is =
       (omega (arith, reach.inside.0, grant.1.from), omega (arith, reach.inside.1, grant.1.until)),
       reach.fewer access.permission grant.1.permits,
     )
+
+-- at each moment of allowed lines, and at each access
+pub stay_within_roots : (asks : Asks) (before after : List RunLine) → AreAllowed asks no_run (before ++ after) → StaysWithinRoots before
+stay_within_roots asks before after allowed = stays_within_roots asks before (allowed_parts asks no_run before after allowed).0
+
+pub lie_in_roots : (asks : Asks) (before after : List RunLine) (line : RunLine) → AreAllowed asks no_run (before ++ line ∷ after)
+    → LiesInRoot before line
+lie_in_roots asks before after line allowed =
+    let parts = allowed_parts asks no_run before (line ∷ after) allowed in
+    lies_in_root asks before line parts.0 (subst (λ (run : Run). IsAllowed asks run line) (sym (along-fold no_run before)) parts.1.1)

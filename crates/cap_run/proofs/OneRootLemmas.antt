@@ -9,7 +9,7 @@ use Rattle.cap_run_log.specs.declared.lines.RunStep.TheVariants as steps
 use Rattle.cap_run.specs.{Allowed.{AreAllowed, DescendsFromOne}, declared.asks.Asks.Asks}
 use Rattle.cap_run.specs.Descents.{Descends, DescendsFrom, line_parent, run_along}
 use Rattle.cap_run.specs.{Run.Run, RunChanges.{line_after, no_run, place_key, run_after, with_freed}}
-use Rattle.cap_run.proofs.{DescentLemmas.{along, along-fold}, LineLemmas.{freed-state, root_free}}
+use Rattle.cap_run.proofs.{DescentLemmas.{along, along-append, along-fold, allowed_parts}, LineLemmas.{freed-state, root_free}}
 
 -- there is one chain of parents
 one_chain : (run : Run) (read : List RunLine) (key a b : ℕ) → Descends run read key a → Descends run read key b → a ≡ b
@@ -25,18 +25,6 @@ between run [] after key from chain = (from, chain, refl)
 between run (line ∷ before) after key from (first, chain, parent) =
     let rest = between (line_after run line) before after key first chain in
     (rest.0, rest.1, (first, rest.2, parent))
-
-pub along-append : (run : Run) (before after : List RunLine) → along run (before ++ after) ≡ along (along run before) after
-along-append run [] after = refl
-along-append run (line ∷ before) after = along-append (line_after run line) before after
-
--- what allowed lines begin with is allowed, and what follows in what those lead to
-pub allowed_parts : (asks : Asks) (run : Run) (before after : List RunLine) → AreAllowed asks run (before ++ after)
-    → AreAllowed asks run before × AreAllowed asks (along run before) after
-allowed_parts asks run [] after allowed = (tt, allowed)
-allowed_parts asks run (line ∷ before) after allowed =
-    let rest = allowed_parts asks (line_after run line) before after allowed.2 in
-    ((allowed.0, allowed.1, rest.0), rest.1)
 
 -- a line is a step, and is counted, or each place keeps its tag and comes from itself
 record IsQuiet (run : Run) (line : RunLine) : Type 0 where
@@ -189,3 +177,6 @@ one_root asks read allowed key place other word another a b =
       | inr (inl after) ↦ absurd (twice asks read key place other word another allowed a b after.0 after.1 after.2)
       | inr (inr after) ↦ absurd (twice asks read key other place another word allowed b a after.0 after.1 after.2)
     ]
+
+pub descend_from_one : (asks : Asks) (before after : List RunLine) → AreAllowed asks no_run (before ++ after) → DescendsFromOne before
+descend_from_one asks before after allowed = one_root asks before (allowed_parts asks no_run before after allowed).0
