@@ -1,20 +1,19 @@
 -- Each tagged capability after allowed lines descends from a root, and reaches no more; so does each access.
-use Rattle.std.proofs.Common.{◌≡◌, ◌+◌, ◌++◌, ◌∷◌, [], ℕ, Bool, true, List, Option, Some, None, refl, sym, ap, subst, ◌∙◌, arith, ◌⊎◌, inl, inr, fold}
-use Rattle.std.proofs.lemmas.{Bool.false≢true, List.Sums.fold-append, Option.none-some}
+use Rattle.std.proofs.Common.{◌≡◌, ◌++◌, ◌∷◌, [], ℕ, true, List, Some, None, refl, sym, ap, subst, ◌∙◌, arith, ◌⊎◌, inl, inr, fold}
+use Rattle.std.proofs.lemmas.{Bool.false≢true, Option.none-some}
 use Rattle.cap_word.specs.declared.word.{Cap.Cap, Word.Word}
 use Rattle.cap_bounds.specs.Bounds.{IsSound}
 use Rattle.cap_ops.specs.{Accesses.{IsAllowed as IsAllowedBy}, Authority.ReachesNoMore, Checks.first_of}
 use Rattle.cap_ops.proofs.ReachLemmas.{ReachesNoMore-refl, ReachesNoMore-trans}
-use Rattle.cap_log.specs.declared.kinds.Step.{Step}
-use Rattle.cap_machine.specs.{Accounts.row_in, Parents.IsSoundState, States.tagged}
+use Rattle.cap_machine.specs.{Parents.IsSoundState}
 use Rattle.cap_machine.specs.Steps.{Access, Row, row_of}
 use Rattle.cap_machine.proofs.{AccessLemmas.granted, StepLemmas.row_by-access}
 use Rattle.cap_run_log.specs.declared.lines.{RunLine.RunLine, RunPlace.RunPlace}
 use Rattle.cap_run_log.specs.declared.lines.RunLine.TheVariants as lines
 use Rattle.cap_run_log.specs.RunLines.{IsRunLineInRange}
 use Rattle.cap_run.specs.declared.asks.Asks.{Asks}
-use Rattle.cap_run.specs.Allowed.{AreAllowed, DeclaresAt, IsAllowed, LineComesFrom}
-use Rattle.cap_run.specs.Descents.{Descends, DescendsFrom, LiesInRoot, StaysWithinRoots, access_of, line_parent, run_along}
+use Rattle.cap_run.specs.Allowed.{AreAllowed, IsAllowed}
+use Rattle.cap_run.specs.Descents.{Descends, LiesInRoot, StaysWithinRoots, access_of, run_along}
 use Rattle.cap_run.specs.{Run.Run, RunChanges.{line_after, main_of, no_run, place_key}, RunChecks.line_end}
 use Rattle.cap_run.proofs.LineLemmas.{main-tagged, stays_within, usual_leads}
 

@@ -1,6 +1,5 @@
 -- Each tagged capability after an allowed line of a run comes from one before it, or is a root.
-use Rattle.std.specs.Option.{option_map_or}
-use Rattle.std.proofs.Common.{◌≡◌, ◌==◌, ◌+◌, ◌-◌, ◌/◌, ℤ, ◌<◌, ◌≤◌, ◌^◌, ◌||◌, ◌++◌, ◌∷◌, [], ℕ, Bool, true, false, not, nat_lt, nat_le, if◌then◌else◌, List, map, Option, Some, None}
+use Rattle.std.proofs.Common.{◌≡◌, ◌==◌, ◌+◌, ◌/◌, ℤ, ◌<◌, ◌≤◌, ◌^◌, ◌||◌, ◌++◌, ◌∷◌, [], ℕ, Bool, true, false, not, nat_lt, nat_le, if◌then◌else◌, List, map, Option, Some, None}
 use Rattle.std.proofs.Common.{le-ltb, lt-ltb, ne_eqb, eqb-true, refl, sym, ap, subst, ◌∙◌, arith, option_map, ◌⊎◌, inl, inr, IsTrue}
 use Rattle.std.proofs.lemmas.{Bool.{and_parts, cases_lt, cond-true, cond-false, false≢true, leb-true, not-false}, Bool.Decides.eqb_tells, Option.none-some}
 use Rattle.cap_word.specs.declared.word.{Cap.Cap, Word.Word}
@@ -12,9 +11,9 @@ use Rattle.cap_ops.proofs.TestLemmas.{first_of-append_free, none_hold}
 use Rattle.cap_log.specs.declared.kinds.Step.{Step, TheVariants.{Move, ClearTag, SetBounds, SetBoundsExact, SetAddr}}
 use Rattle.cap_log.specs.declared.kinds.Step.TheVariants.{AndPerm, Seal, Unseal, LoadCap, StoreCap, Load, Store}
 use Rattle.cap_log.specs.Lines.{IsStepInRange}
-use Rattle.cap_machine.specs.{Accounts.{most_roots, named_by, passes_granule_limit, row_in}, Labels.untagged, Parents.IsSoundState, Runs.parent_of}
-use Rattle.cap_machine.specs.States.{State, granule_key, put, tagged, untagged_null}
-use Rattle.cap_machine.specs.Steps.{Leads, agrees, granule_through, row_of, row_by, state_with}
+use Rattle.cap_machine.specs.{Accounts.{most_roots, named_by, passes_granule_limit, row_in}, Labels.untagged, Parents.IsSoundState}
+use Rattle.cap_machine.specs.States.{State, granule_key, tagged, untagged_null}
+use Rattle.cap_machine.specs.Steps.{Leads, agrees, row_of, state_with}
 use Rattle.cap_machine.proofs.{AuthorityLemmas.one_back, StepLemmas.{hits, parent_in}}
 use Rattle.cap_run_log.specs.declared.lines.{RunLine.RunLine, RunPlace.RunPlace, RunRegister.RunRegister, RunStep.RunStep}
 use Rattle.cap_run_log.specs.declared.lines.RunLine.TheVariants as lines
@@ -23,9 +22,9 @@ use Rattle.cap_run_log.specs.declared.lines.RunStep.TheVariants as steps
 use Rattle.cap_run_log.specs.RunLines.{IsRunLineInRange, IsRunStepInRange}
 use Rattle.cap_run.specs.declared.{asks.Asks.Asks, ends.RunRefusal.RunRefusal}
 use Rattle.cap_run.specs.declared.ends.RunRefusal.TheVariants.{Usual}
-use Rattle.cap_run.specs.{Allowed.{DeclaresAt, IsAllowed, LineComesFrom, LineStaysWithin}, Descents.{line_parent, parent_by, source_if, writes_of}}
+use Rattle.cap_run.specs.{Allowed.{DeclaresAt, IsAllowed, LineComesFrom, LineStaysWithin}, Descents.{line_parent, source_if}}
 use Rattle.cap_run.specs.{Run.{Run, first_special, register_key}, RunChanges.{account_in, granule_in, line_after, main_of, place_key, run_after, usual_after, with_freed}}
-use Rattle.cap_run.specs.{RunChecks.{asked_checks, line_end, passes_limit, root_end, run_end, usual_end}, RunSteps.{derived_refusal, invoked_refusal, is_pcc, or_later}}
+use Rattle.cap_run.specs.{RunChecks.{asked_checks, passes_limit, root_end, run_end, usual_end}, RunSteps.{derived_refusal, invoked_refusal, is_pcc, or_later}}
 
 -- what a place then holds comes from what one held before: that was tagged, and the word is sound and reaches no more
 record CameFrom (old : State) (cap : Cap) (parent : Option ℕ) (from : ℕ) : Type 0 where
@@ -159,8 +158,8 @@ pub main-tagged : (state : State) (key : ℕ) → (main_of state key).tag ≡ tr
 main-tagged state key held = elim (cases_lt key first_special) [
   | inl near ↦ (near, cond-true (nat_lt key first_special) (state key) untagged_null (lt-ltb key first_special near))
   | inr far ↦ absurd (
-    false≢true (ap (λ (cap : Cap). cap.tag) (sym (cond-false (nat_lt key first_special) (state key) untagged_null (le-ltb key first_special far))) ∙ held)
-  )
+      false≢true (ap (λ (cap : Cap). cap.tag) (sym (cond-false (nat_lt key first_special) (state key) untagged_null (le-ltb key first_special far))) ∙ held)
+      )
 ]
 
 main-sound : (state : State) → IsSoundState state → IsSoundState (main_of state)
@@ -251,9 +250,9 @@ run_comes asks run (steps.Exchange target source special result special_result) 
     comes_two run.state (target == key) (at == key) result special_result (run.state key) (source_if result.tag at)
     (source_if special_result.tag source) (Some key)
     (λ here there.
-        let here_is = eqb-true target key here in
-        let there_is = eqb-true at key there in
-        omega (arith, here_is, there_is, range.0))
+    let here_is = eqb-true target key here in
+    let there_is = eqb-true at key there in
+    omega (arith, here_is, there_is, range.0))
     (comes_within run.state result.tag result.word at sound (register_derived (General target) (run.state at) result.tag result.word may.0))
     (comes_within run.state special_result.tag special_result.word source sound
     (register_derived (Special special) (run.state source) special_result.tag special_result.word may_special.0))
@@ -263,9 +262,9 @@ run_comes asks run (steps.Invoke code datum code_word datum_word) key range soun
     let within = invoked (run.state code) (run.state datum) code_word datum_word may.0 in
     comes_two run.state (first_special == key) (31 == key) (tagged code_word) (tagged datum_word) (run.state key) (Some code) (Some datum) (Some key)
     (λ here there.
-        let here_is = eqb-true first_special key here in
-        let there_is = eqb-true 31 key there in
-        omega (arith, here_is, there_is))
+    let here_is = eqb-true first_special key here in
+    let there_is = eqb-true 31 key there in
+    omega (arith, here_is, there_is))
     (comes_within run.state true code_word code sound (λ _. within.0))
     (comes_within run.state true datum_word datum sound (λ _. within.1))
     (comes_here run.state key sound)

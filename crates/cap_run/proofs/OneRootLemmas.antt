@@ -1,14 +1,14 @@
--- A place descends from one root at most: at a place one root is declared, before any step.
-use Rattle.std.proofs.Common.{◌≡◌, ◌==◌, ◌≤◌, ◌<◌, ◌+◌, ◌++◌, ◌∷◌, [], ℕ, Bool, true, false, if◌then◌else◌, nat_lt, List, Option, Some, None, refl, sym, ap, subst, ◌∙◌, arith, ◌⊎◌, inl, inr}
-use Rattle.std.proofs.lemmas.{Bool.{cond-true, eq-eqb, false≢true, ltb-false}, Option.{none-some, same_Some}}
+-- A place descends from one root at most: each root is declared before any step, where no place is tagged yet.
+use Rattle.std.proofs.Common.{◌≡◌, ◌==◌, ◌≤◌, ◌+◌, ◌++◌, ◌∷◌, [], ℕ, Bool, true, false, if◌then◌else◌, List, Option, Some, None, refl, sym, ap, subst, ◌∙◌, arith, ◌⊎◌, inl, inr}
+use Rattle.std.proofs.lemmas.{Bool.{cond-true, eq-eqb, false≢true, ltb-false}, Option.{same_Some}}
 use Rattle.cap_word.specs.declared.word.{Cap.Cap, Word.Word}
 use Rattle.cap_machine.specs.States.{State, tagged}
 use Rattle.cap_run_log.specs.declared.lines.{RunLine.RunLine, RunPlace.RunPlace, RunStep.RunStep}
 use Rattle.cap_run_log.specs.declared.lines.RunLine.TheVariants as lines
 use Rattle.cap_run_log.specs.declared.lines.RunStep.TheVariants as steps
 use Rattle.cap_run.specs.{Allowed.{AreAllowed, DescendsFromOne}, declared.asks.Asks.Asks}
-use Rattle.cap_run.specs.Descents.{Descends, DescendsFrom, line_parent, run_along}
-use Rattle.cap_run.specs.{Run.Run, RunChanges.{line_after, no_run, place_key, run_after, with_freed}}
+use Rattle.cap_run.specs.Descents.{Descends, DescendsFrom, line_parent}
+use Rattle.cap_run.specs.{Run.Run, RunChanges.{line_after, no_run, place_key, with_freed}}
 use Rattle.cap_run.proofs.{DescentLemmas.{along, along-append, along-fold, allowed_parts}, LineLemmas.{freed-state, root_free}}
 
 -- there is one chain of parents
@@ -137,21 +137,25 @@ same_root : (place other : RunPlace) (word another : Word) → lines.Root place 
 same_root place other word another is = (cc, cc)
 
 -- two lines of a list: one line, or one after the other
-cut_twice : (before front : List RunLine) (line other : RunLine) (after rest : List RunLine) → before ++ (line ∷ after) ≡ front ++ (other ∷ rest)
-    → (line ≡ other)
-    ⊎ (((mid : List RunLine) × (front ≡ before ++ (line ∷ mid)) × (after ≡ mid ++ (other ∷ rest)))
-    ⊎ ((mid : List RunLine) × (before ≡ front ++ (other ∷ mid)) × (rest ≡ mid ++ (line ∷ after))))
-cut_twice [] [] line other after rest is = inl (same_first line other after rest is)
+cut_twice : (before front : List RunLine) (line other : RunLine) (after rest : List RunLine) → before ++ line ∷ after ≡ front ++ other ∷ rest
+    → ((before ≡ front) × (line ≡ other))
+    ⊎ (((mid : List RunLine) × (front ≡ before ++ line ∷ mid) × (after ≡ mid ++ other ∷ rest))
+    ⊎ ((mid : List RunLine) × (before ≡ front ++ other ∷ mid) × (rest ≡ mid ++ line ∷ after)))
+cut_twice [] [] line other after rest is = inl (refl, same_first line other after rest is)
 cut_twice [] (x ∷ front) line other after rest is =
-    inr (inl (front, ap (λ (l : RunLine). l ∷ front) (sym (same_first line x after (front ++ (other ∷ rest)) is)), same_rest line x after (front ++ (other ∷ rest)) is))
+    let first = same_first line x after (front ++ other ∷ rest) is in
+    inr (inl (front, ap (λ (l : RunLine). l ∷ front) (sym first), same_rest line x after (front ++ other ∷ rest) is))
 cut_twice (x ∷ before) [] line other after rest is =
-    inr (inr (before, ap (λ (l : RunLine). l ∷ before) (same_first x other (before ++ (line ∷ after)) rest is), sym (same_rest x other (before ++ (line ∷ after)) rest is)))
+    let first = same_first x other (before ++ line ∷ after) rest is in
+    inr (inr (before, ap (λ (l : RunLine). l ∷ before) first, sym (same_rest x other (before ++ line ∷ after) rest is)))
 cut_twice (x ∷ before) (y ∷ front) line other after rest is =
-    let head = same_first x y (before ++ (line ∷ after)) (front ++ (other ∷ rest)) is in
-    elim (cut_twice before front line other after rest (same_rest x y (before ++ (line ∷ after)) (front ++ (other ∷ rest)) is)) [
-      | inl same ↦ inl same
-      | inr (inl later) ↦ inr (inl (later.0, ap (λ (l : RunLine). l ∷ front) (sym head) ∙ ap (λ (r : List RunLine). x ∷ r) later.1, later.2))
-      | inr (inr later) ↦ inr (inr (later.0, ap (λ (l : RunLine). l ∷ before) head ∙ ap (λ (r : List RunLine). y ∷ r) later.1, later.2))
+    let first = same_first x y (before ++ line ∷ after) (front ++ other ∷ rest) is in
+    let with_x = λ (r : List RunLine). x ∷ r in
+    let with_y = λ (r : List RunLine). y ∷ r in
+    elim (cut_twice before front line other after rest (same_rest x y (before ++ line ∷ after) (front ++ other ∷ rest) is)) [
+      | inl same ↦ inl (ap with_x same.0 ∙ ap (λ (l : RunLine). l ∷ front) first, same.1)
+      | inr (inl later) ↦ inr (inl (later.0, ap (λ (l : RunLine). l ∷ front) (sym first) ∙ ap with_x later.1, later.2))
+      | inr (inr later) ↦ inr (inr (later.0, ap (λ (l : RunLine). l ∷ before) first ∙ ap with_y later.1, later.2))
     ]
 
 twice : (asks : Asks) (read : List RunLine) (key : ℕ) (place other : RunPlace) (word another : Word) → AreAllowed asks no_run read
@@ -173,7 +177,7 @@ one_root asks read allowed key place other word another a b =
     let root = lines.Root place word in
     let later = lines.Root other another in
     elim (cut_twice a.before b.before root later a.after b.after (sym a.declared ∙ b.declared)) [
-      | inl same ↦ same_root place other word another same
+      | inl same ↦ let root_is = same_root place other word another same.1 in (same.0, root_is.0, root_is.1)
       | inr (inl after) ↦ absurd (twice asks read key place other word another allowed a b after.0 after.1 after.2)
       | inr (inr after) ↦ absurd (twice asks read key other place another word allowed b a after.0 after.1 after.2)
     ]

@@ -43,8 +43,8 @@ abbrev pub LineStaysWithin : Run → RunLine → Type 0
 LineStaysWithin run line =
     (key : ℕ) → IsTrue ((line_after run line).state key).tag → DeclaresAt run line key ⊎ ((from : ℕ) × LineComesFrom run line key from)
 
--- a place descends from one root at most
+-- a place descends from one root at most: what it descends from was declared by one line
 abbrev pub DescendsFromOne : List RunLine → Type 0
 DescendsFromOne read =
-    (key : ℕ) (place other : RunPlace) (word another : Word) → DescendsFrom read key place word → DescendsFrom read key other another
-    → (place ≡ other) × (word ≡ another)
+    (key : ℕ) (place other : RunPlace) (word another : Word) (one : DescendsFrom read key place word) (two : DescendsFrom read key other another)
+    → (one.before ≡ two.before) × (place ≡ other) × (word ≡ another)

@@ -29,8 +29,8 @@ pub fn accesses_lie_in_roots()
         → LiesInRoot before line }
 {}
 
-/// Along lines that are each allowed in its turn, at every moment a place descends from one root at most: no place is
-/// declared twice, and none has two chains of parents.
+/// Along lines that are each allowed in its turn, at every moment a place descends from one root at most: no two
+/// lines declare what it descends from.
 pub fn places_descend_from_one_root()
     ensures law { (asks : AsksIn) (before after : List RunLine) → AreAllowed asks no_run (before ++ after) → DescendsFromOne before }
 {}
