@@ -3,7 +3,7 @@ use Rattle.std.proofs.Common.{◌≡◌, ◌++◌, ◌∷◌, [], ℕ, true, Lis
 use Rattle.std.proofs.lemmas.{Bool.false≢true, Option.none-some}
 use Rattle.cap_word.specs.declared.word.{Cap.Cap, Word.Word}
 use Rattle.cap_bounds.specs.Bounds.{IsSound}
-use Rattle.cap_ops.specs.{Accesses.{IsAllowed as IsAllowedBy}, Authority.ReachesNoMore, Checks.first_of}
+use Rattle.cap_ops.specs.{Accesses.IsAllowed, Authority.ReachesNoMore, Checks.first_of}
 use Rattle.cap_ops.proofs.ReachLemmas.{ReachesNoMore-refl, ReachesNoMore-trans}
 use Rattle.cap_machine.specs.{Parents.IsSoundState}
 use Rattle.cap_machine.specs.Steps.{Access, Row, row_of}
@@ -12,7 +12,7 @@ use Rattle.cap_run_log.specs.declared.lines.{RunLine.RunLine, RunPlace.RunPlace}
 use Rattle.cap_run_log.specs.declared.lines.RunLine.TheVariants as lines
 use Rattle.cap_run_log.specs.RunLines.{IsRunLineInRange}
 use Rattle.cap_run.specs.declared.asks.Asks.{Asks}
-use Rattle.cap_run.specs.Allowed.{AreAllowed, IsAllowed}
+use Rattle.cap_run.specs.Allowed.{AreAllowed, IsLineAllowed}
 use Rattle.cap_run.specs.Descents.{Descends, LiesInRoot, StaysWithinRoots, access_of, run_along}
 use Rattle.cap_run.specs.{Run.Run, RunChanges.{line_after, main_of, no_run, place_key}, RunChecks.line_end}
 use Rattle.cap_run.proofs.LineLemmas.{main-tagged, stays_within, usual_leads}
@@ -40,7 +40,7 @@ allowed_parts asks run (line ∷ before) after allowed =
     ((allowed.0, allowed.1, rest.0), rest.1)
 
 -- an allowed line keeps each tagged capability sound
-pub sound_after : (asks : Asks) (run : Run) (line : RunLine) → IsRunLineInRange line → IsSoundState run.state → IsAllowed asks run line
+pub sound_after : (asks : Asks) (run : Run) (line : RunLine) → IsRunLineInRange line → IsSoundState run.state → IsLineAllowed asks run line
     → IsSoundState (line_after run line).state
 sound_after asks run line range sound allowed key held =
     elim (stays_within asks run line range sound allowed key held) [
@@ -66,7 +66,7 @@ record RootedIn (run : Run) (lines_are : List RunLine) (w key : ℕ) : Type 0 wh
 
 -- one line further back
 step_back : (asks : Asks) (run : Run) (line : RunLine) (rest : List RunLine) (w key : ℕ) → IsRunLineInRange line → IsSoundState run.state
-    → IsAllowed asks run line
+    → IsLineAllowed asks run line
     → (middle : ℕ) × ChainsTo (line_after run line) rest w key middle
     → RootedIn run (line ∷ rest) w key ⊎ ((from : ℕ) × ChainsTo run (line ∷ rest) w key from)
 step_back asks run line rest w key range sound allowed (middle, chain) =
@@ -130,7 +130,7 @@ all_sound asks read allowed =
     subst (λ (run : Run). IsSoundState run.state) (sym (along-fold no_run read)) (sound_along asks no_run read allowed nothing_tagged)
 
 -- a line that no check refuses is allowed, and is the last of allowed lines
-pub allowed_by : (asks : Asks) (run : Run) (line : RunLine) → line_end asks run line ≡ None → IsAllowed asks run line
+pub allowed_by : (asks : Asks) (run : Run) (line : RunLine) → line_end asks run line ≡ None → IsLineAllowed asks run line
 allowed_by asks run lines.Version free = tt
 allowed_by asks run (lines.Mode mode) free = tt
 allowed_by asks run (lines.Root place word) free = free
@@ -145,10 +145,10 @@ allowed_joined asks run (line ∷ before) after allowed more =
     (allowed.0, allowed.1, allowed_joined asks (line_after run line) before after allowed.2 more)
 
 pub allowed_next : (asks : Asks) (read : List RunLine) (line : RunLine) → AreAllowed asks no_run read → IsRunLineInRange line
-    → IsAllowed asks (run_along read) line → AreAllowed asks no_run (read ++ line ∷ [])
+    → IsLineAllowed asks (run_along read) line → AreAllowed asks no_run (read ++ line ∷ [])
 allowed_next asks read line allowed range next =
     allowed_joined asks no_run read (line ∷ []) allowed
-    (range, subst (λ (run : Run). IsAllowed asks run line) (along-fold no_run read) next, tt)
+    (range, subst (λ (run : Run). IsLineAllowed asks run line) (along-fold no_run read) next, tt)
 
 pub stays_within_roots : (asks : Asks) (read : List RunLine) → AreAllowed asks no_run read → StaysWithinRoots read
 stays_within_roots asks read allowed key held =
@@ -171,18 +171,18 @@ stays_within_roots asks read allowed key held =
     ]
 
 -- an access of an allowed line has a tagged authority, which allows it
-granted_in : (asks : Asks) (run : Run) (line : RunLine) (access : Access) → IsAllowed asks run line → access_of run line ≡ Some access
-    → (let cap = run.state access.authority in (cap.tag ≡ true) × IsAllowedBy cap.word.0 access.address access.size access.permission)
+granted_in : (asks : Asks) (run : Run) (line : RunLine) (access : Access) → IsLineAllowed asks run line → access_of run line ≡ Some access
+    → (let cap = run.state access.authority in (cap.tag ≡ true) × IsAllowed cap.word.0 access.address access.size access.permission)
 granted_in asks run (lines.Step step) access allowed is =
     let leads = usual_leads asks run step allowed in
     let free = ap (λ (row : Row). first_of row.checks) (sym (row_by-access run.rules (row_of (main_of run.state) step) access is)) ∙ leads.allowed in
     let grant = granted (main_of run.state) step access free is in
     let is_main = (main-tagged run.state access.authority grant.tag).1 in
-    subst (λ (cap : Cap). (cap.tag ≡ true) × IsAllowedBy cap.word.0 access.address access.size access.permission) is_main
+    subst (λ (cap : Cap). (cap.tag ≡ true) × IsAllowed cap.word.0 access.address access.size access.permission) is_main
     (grant.tag, grant.allowed)
 granted_in asks run line access allowed is = absurd (none-some access is)
 
-pub lies_in_root : (asks : Asks) (read : List RunLine) (line : RunLine) → AreAllowed asks no_run read → IsAllowed asks (run_along read) line
+pub lies_in_root : (asks : Asks) (read : List RunLine) (line : RunLine) → AreAllowed asks no_run read → IsLineAllowed asks (run_along read) line
     → LiesInRoot read line
 lies_in_root asks read line allowed next access is =
     let grant = granted_in asks (run_along read) line access next is in
@@ -203,4 +203,4 @@ pub lie_in_roots : (asks : Asks) (before after : List RunLine) (line : RunLine) 
     → LiesInRoot before line
 lie_in_roots asks before after line allowed =
     let parts = allowed_parts asks no_run before (line ∷ after) allowed in
-    lies_in_root asks before line parts.0 (subst (λ (run : Run). IsAllowed asks run line) (sym (along-fold no_run before)) parts.1.1)
+    lies_in_root asks before line parts.0 (subst (λ (run : Run). IsLineAllowed asks run line) (sym (along-fold no_run before)) parts.1.1)

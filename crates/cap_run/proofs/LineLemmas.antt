@@ -22,7 +22,7 @@ use Rattle.cap_run_log.specs.declared.lines.RunStep.TheVariants as steps
 use Rattle.cap_run_log.specs.RunLines.{IsRunLineInRange, IsRunStepInRange}
 use Rattle.cap_run.specs.declared.{asks.Asks.Asks, ends.RunRefusal.RunRefusal}
 use Rattle.cap_run.specs.declared.ends.RunRefusal.TheVariants.{Usual}
-use Rattle.cap_run.specs.{Allowed.{DeclaresAt, IsAllowed, LineComesFrom, LineStaysWithin}, Descents.{line_parent, source_if}}
+use Rattle.cap_run.specs.{Allowed.{DeclaresAt, IsLineAllowed, LineComesFrom, LineStaysWithin}, Descents.{line_parent, source_if}}
 use Rattle.cap_run.specs.{Run.{Run, first_special, register_key}, RunChanges.{account_in, granule_in, line_after, main_of, place_key, run_after, usual_after, with_freed}}
 use Rattle.cap_run.specs.{RunChecks.{asked_checks, passes_limit, root_end, run_end, usual_end}, RunSteps.{derived_refusal, invoked_refusal, is_pcc, or_later}}
 
@@ -126,7 +126,6 @@ invoked code datum code_word datum_word free =
     (not-false (is_invoked code.word.0 datum.word.0 code_word.0 datum_word.0) none.1.1.0) in
     (code_within code code_word held.0 words.0, data_within datum datum_word held.1 words.1)
 
--- a step of version 2 writes no special register
 unhit : (target key : ℕ) → target < first_special → first_special ≤ key → (target == key) ≡ false
 unhit target key low far = ne_eqb target key (λ same. omega (arith, same, low, far))
 
@@ -137,6 +136,7 @@ reached_low : (w : ℕ) (offset : ℤ) → access_address w offset < 2 ^ 64
 unfolding access_address
 reached_low w offset = omega arith
 
+-- a step of version 2 writes no special register
 hits_no_special : (state : State) (step : Step) (key : ℕ) → IsStepInRange step → first_special ≤ key → hits (row_of state step).writes key ≡ false
 hits_no_special state (Move step) key range far = unhit step.target key (omega (arith, range.0)) far
 hits_no_special state (ClearTag step) key range far = unhit step.target key (omega (arith, range.0)) far
@@ -311,7 +311,7 @@ rooted asks run place word key sound free held =
           (comes_here run.state key sound))
     ]
 
-pub stays_within : (asks : Asks) (run : Run) (line : RunLine) → IsRunLineInRange line → IsSoundState run.state → IsAllowed asks run line
+pub stays_within : (asks : Asks) (run : Run) (line : RunLine) → IsRunLineInRange line → IsSoundState run.state → IsLineAllowed asks run line
     → LineStaysWithin run line
 stays_within asks run lines.Version range sound allowed key held = came run lines.Version key held (comes_here run.state key sound)
 stays_within asks run (lines.Mode mode) range sound allowed key held = came run (lines.Mode mode) key held (comes_here run.state key sound)

@@ -11,15 +11,15 @@ use Rattle.cap_run.specs.{declared.asks.Asks.Asks, Descents.{DescendsFrom, line_
 use Rattle.cap_run.specs.{RunChanges.{line_after, place_key}, RunChecks.line_end}
 
 -- a line is allowed in a run: none of its checks fails. The lines of a header have none here
-abbrev pub IsAllowed : Asks → Run → RunLine → Type 0
-IsAllowed asks run lines.Version = Unit {0}
-IsAllowed asks run (lines.Mode mode) = Unit {0}
-IsAllowed asks run line = line_end asks run line ≡ None
+abbrev pub IsLineAllowed : Asks → Run → RunLine → Type 0
+IsLineAllowed asks run lines.Version = Unit {0}
+IsLineAllowed asks run (lines.Mode mode) = Unit {0}
+IsLineAllowed asks run line = line_end asks run line ≡ None
 
 -- the numbers of each of these lines are in range, and each is allowed in what the lines before it lead to
 abbrev pub AreAllowed : Asks → Run → List RunLine → Type 0
 AreAllowed asks run [] = Unit {0}
-AreAllowed asks run (line ∷ rest) = IsRunLineInRange line × IsAllowed asks run line × AreAllowed asks (line_after run line) rest
+AreAllowed asks run (line ∷ rest) = IsRunLineInRange line × IsLineAllowed asks run line × AreAllowed asks (line_after run line) rest
 
 -- what a place holds after a line comes from what another, or the same, held before it: that was tagged, and the new
 -- word is sound, with bounds inside and permissions among those of the old one

@@ -5,7 +5,7 @@ ghost use Rattle.cap_machine.specs.Parents.{IsSoundState};
 ghost use Rattle.cap_run_log.specs.declared.lines.RunLine.{RunLine};
 ghost use Rattle.cap_run_log.specs.RunLines.{IsRunLineInRange};
 ghost use Rattle.cap_run.specs.declared.asks.Asks.{Asks as AsksIn};
-ghost use Rattle.cap_run.specs.{Allowed.{AreAllowed, DescendsFromOne, IsAllowed, LineStaysWithin}, Descents.{LiesInRoot, StaysWithinRoots}};
+ghost use Rattle.cap_run.specs.{Allowed.{AreAllowed, DescendsFromOne, IsLineAllowed, LineStaysWithin}, Descents.{LiesInRoot, StaysWithinRoots}};
 ghost use Rattle.cap_run.specs.{Run.Run, RunChanges.no_run};
 
 /// Where each tagged capability of a run is sound, each one after an allowed line is sound too: it is the root that the
@@ -13,7 +13,7 @@ ghost use Rattle.cap_run.specs.{Run.Run, RunChanges.no_run};
 /// doesn't write keeps its own.
 pub fn lines_stay_within()
     ensures law { (asks : AsksIn) (run : Run) (line : RunLine) → IsRunLineInRange line → IsSoundState run.state
-        → IsAllowed asks run line → LineStaysWithin run line }
+        → IsLineAllowed asks run line → LineStaysWithin run line }
 {}
 
 /// Along lines that are each allowed in its turn, at every moment each tagged capability in a register, a special register
