@@ -1,3 +1,6 @@
+pub mod LineLemmas
+pub mod DescentLemmas
+pub mod OneRootLemmas
 mod PlaceLemmas
 mod OwnerLemmas
 mod ObjectLemmas
@@ -6,6 +9,3 @@ mod SafetyLemmas
 mod FillLemmas
 mod WideningLemmas
 mod UsualLemmas
-pub mod LineLemmas
-pub mod DescentLemmas
-pub mod OneRootLemmas

@@ -1,3 +1,4 @@
+pub mod Allowed
 pub mod SpecialCaps
 pub mod Specials
 pub mod Owned
@@ -12,4 +13,3 @@ pub mod RunChanges
 pub mod RunChecks
 pub mod Numbers
 pub mod Descents
-pub mod Allowed
