@@ -2,7 +2,7 @@ pub mod AccessLemmas
 pub mod AddressLemmas
 pub mod ClearLemmas
 pub mod Derivations
-mod DerivedLemmas
+pub mod DerivedLemmas
 pub mod NarrowingLemmas
 pub mod PermissionLemmas
 pub mod ReachLemmas

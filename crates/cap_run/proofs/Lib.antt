@@ -1,3 +1,6 @@
+pub mod LineLemmas
+pub mod DescentLemmas
+pub mod OneRootLemmas
 mod PlaceLemmas
 mod OwnerLemmas
 mod ObjectLemmas

@@ -1,3 +1,4 @@
+pub mod Allowed
 pub mod SpecialCaps
 pub mod Specials
 pub mod Owned

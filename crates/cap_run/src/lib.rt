@@ -10,6 +10,7 @@
 mod asks;
 mod ends;
 mod granule_steps;
+mod laws;
 mod object_steps;
 mod puts;
 mod register_steps;
@@ -19,5 +20,8 @@ mod usual_steps;
 
 pub use crate::asks::Asks;
 pub use crate::ends::{RunEnd, RunRefusal};
+pub use crate::laws::{
+    accesses_lie_in_roots, lines_stay_within, places_descend_from_one_root, runs_stay_within_roots,
+};
 pub use crate::run_machine::RunMachine;
 pub use crate::specials::Specials;
