@@ -35,6 +35,16 @@ module _ (objects : Objects) (index : ℕ → Option ℕ) (indexed : IsIndex num
       same_Some one two (sym (indexed.listed one a.number (ap (option_and_then number_key) is)) ∙ ap index same
       ∙ indexed.listed two b.number (ap (option_and_then number_key) is2))
 
+-- an owner with a number is in a slot that holds it
+pub owner-of : (objects : Objects) (owner : Option ℕ) (n : ℕ) → option_and_then (number_at objects) owner ≡ Some n
+    → (slot : ℕ) × (owner ≡ Some slot) × (o : Object) × (objects slot ≡ Some o) × (o.number ≡ n)
+owner-of objects None n is = absurd (none-some n is)
+owner-of objects (Some slot) n is = let o = held-by (objects slot) n is in (slot, refl, o.0, o.1, o.2)
+    where
+  held-by : (o : Option Object) (n : ℕ) → option_map (λ object. object.number) o ≡ Some n → (x : Object) × (o ≡ Some x) × (x.number ≡ n)
+  held-by None n is = absurd (none-some n is)
+  held-by (Some x) n is = (x, refl, same_Some x.number n is)
+
 -- an owner is in a slot just where it has the number of that slot
 same_owner : (objects : Objects) (n slot : ℕ)
     → ((s : ℕ) (x : Object) → objects s ≡ Some x → (s ≡ slot → x.number ≡ n) × (x.number ≡ n → s ≡ slot))

@@ -1,7 +1,7 @@
 -- Runs by the numbers of objects, after a step.
 use Rattle.std.specs.BTreeMap as tree
 use Rattle.std.specs.Ordering.{nat_cmp}
-use Rattle.std.proofs.Common.{◌≡◌, ◌==◌, ◌+◌, ◌&&◌, not, ℕ, Bool, true, false, Some, None, Option, option_and_then, if◌then◌else◌, length}
+use Rattle.std.proofs.Common.{◌≡◌, ◌≢◌, ◌==◌, ◌+◌, ◌&&◌, not, ℕ, Bool, true, false, Some, None, Option, option_and_then, if◌then◌else◌, length}
 use Rattle.std.proofs.Common.{refl, sym, ap, subst, ◌∙◌}
 use Rattle.std.proofs.Math.Path.{fun_ext}
 use Rattle.std.specs.Prelude.{Result, Ok, Err, MatchResult, OnErr, option_map}
@@ -14,8 +14,8 @@ use Rattle.cap_objects.specs.Indexes.{IsIndex, number_key}
 use Rattle.cap_objects.proofs.KeyLemmas.{at-same, choice_under}
 use Rattle.cap_run.specs.declared.{ends.{RunEnd.{RunEnd, TheVariants.{NoMemory, Refused}}, RunRefusal.RunRefusal}, specials.Specials.Specials}
 use Rattle.cap_run.specs.{Numbers.{by_number, number_at, numbered, numbered_run}, Owned.{is_empty, owner_for}, Run.Run, RunChanges.{counted, stepped, with_place}}
-use Rattle.cap_run.specs.{RunChecks.Answers, RunOf.{run_of, run_owners, run_state}, RunSteps.{IsRefusedAs, Writes, WritesBoth}}
-use Rattle.cap_run.proofs.{NumberLemmas.{at-number, recounted-numbers, renumbered, slot-of}, ObjectLemmas.owner-there}
+use Rattle.cap_run.specs.{RunChecks.Answers, RunOf.{run_of, run_owners, run_state}, RunSteps.{IsRefusedAs, Writes, WritesBoth}, Safety.IsSafe}
+use Rattle.cap_run.proofs.{NumberLemmas.{alone-at, at-number, owned-number, owner-of, recounted-numbers, renumbered, slot-of}, ObjectLemmas.owner-there}
 
 -- runs of the same parts
 pub run-is : (a b : Run) → a.state ≡ b.state → a.owners ≡ b.owners → a.objects ≡ b.objects → a.count ≡ b.count → a.rules ≡ b.rules
@@ -37,6 +37,11 @@ index_in h = tree.get nat_cmp h.numbers
 
 abbrev pub IsNumbered : Handouts → Type 0
 IsNumbered h = IsIndex number_key (objects_of h) (index_in h)
+
+-- no object has a number where none is in a slot
+pub nowhere : (objects : Objects) → ((slot : ℕ) → objects slot ≡ None) → (slot : Option ℕ) → option_and_then objects slot ≡ None
+nowhere objects none None = refl
+nowhere objects none (Some slot) = none slot
 
 -- an owner that is written, by its number
 pub numbered-put : (f : ℕ → Option ℕ) (owners : Owners) (key : ℕ) (cap : Cap) (owner : Option ℕ) (other : ℕ)
@@ -126,6 +131,51 @@ module _ (held new : Held) (specials sp : Specials) (h after : Handouts) (sized 
       (sym (at-same (run_state held specials) first one)) in
       run-is (numbered_run new sp after) goal w.state owners (objects-after goal.owners owners w.objects)
       w.rest.count w.rest.rules w.rest.roots w.rest.steps w.rest.is_named w.rest.granules
+
+-- what is safe by slots is safe by numbers
+module _ (held : Held) (specials : Specials) (h : Handouts) (sized : length specials.labels ≡ 32)
+    (are : CountsAre (run_owners held specials) (λ s. held_of (objects_of h s))) (index : IsNumbered h) where
+  apart : (one two : ℕ) (a b : Object) → one ≢ two → (s : ℕ) (t : ℕ) → objects_of h s ≡ Some a → objects_of h t ≡ Some b → a.number ≡ one → b.number ≡ two → s ≢ t
+  apart one two a b differ s t s_is t_is a_is b_is same =
+      differ (sym a_is ∙ ap (λ (o : Object). o.number) (same_Some a b (sym s_is ∙ ap (objects_of h) same ∙ t_is)) ∙ b_is)
+
+  pub safe-numbered : (keeps : Bool) → IsSafe keeps (run_of held specials h) → IsSafe keeps (numbered_run held specials h)
+  safe-numbered keeps safe = record {
+    within = λ place n is.
+        let o = owner-of (objects_of h) (run_owners held specials place) n is in
+        let w = safe.within place o.0 o.1 in (
+          w.0,
+          ap (by_number (index_in h) (objects_of h)) (sym (ap (λ (x : Object). x.number) (same_Some w.0 o.2 (sym w.1 ∙ o.3)) ∙ o.4))
+          ∙ at-number (objects_of h) (index_in h) index o.0 w.0 w.1,
+          w.2,
+          w.3,
+        );
+    extents = λ one two a b is is2 differ.
+        let s = slot-of (objects_of h) (index_in h) index one a is in
+        let t = slot-of (objects_of h) (index_in h) index two b is2 in
+        safe.extents s.0 t.0 a b s.1 t.1 (apart one two a b differ s.0 t.0 s.1 t.1 s.2 t.2);
+    reach = λ place other one two a b is is2 differ a_is b_is.
+        let s = slot-of (objects_of h) (index_in h) index one a a_is in
+        let t = slot-of (objects_of h) (index_in h) index two b b_is in
+        let o = owner-of (objects_of h) (run_owners held specials place) one is in
+        let p = owner-of (objects_of h) (run_owners held specials other) two is2 in
+        let o_is = alone-at (objects_of h) (index_in h) index o.0 s.0 o.2 a o.3 s.1 (o.4 ∙ sym s.2) in
+        let p_is = alone-at (objects_of h) (index_in h) index p.0 t.0 p.2 b p.3 t.1 (p.4 ∙ sym t.2) in
+        safe.reach place other s.0 t.0 a b (o.1 ∙ ap Some o_is) (p.1 ∙ ap Some p_is) (apart one two a b differ s.0 t.0 s.1 t.1 s.2 t.2) s.1 t.1;
+    alone = λ one two a b is is2 same.
+        let s = slot-of (objects_of h) (index_in h) index one a is in
+        let t = slot-of (objects_of h) (index_in h) index two b is2 in
+        sym s.2 ∙ same ∙ t.2;
+    held = λ n o is.
+        let s = slot-of (objects_of h) (index_in h) index n o is in
+        let own : (t : ℕ) (x : Object) → objects_of h t ≡ Some x → (t ≡ s.0 → x.number ≡ n) × (x.number ≡ n → t ≡ s.0) = λ t x t_is. (
+          λ same. ap (λ (y : Object). y.number) (same_Some x o (sym t_is ∙ ap (objects_of h) same ∙ s.1)) ∙ s.2,
+          λ same. alone-at (objects_of h) (index_in h) index t s.0 x o t_is s.1 (same ∙ sym s.2),
+        ) in
+        safe.held s.0 o s.1
+        ∙ sym (owned-number (objects_of h) (run_owners held specials) n s.0 own
+        (λ key t t_is. let y = owner-there held specials (objects_of h) sized are key t t_is in (y.0, y.1)));
+  }
 
 -- answers
 abbrev refusal_in : RunEnd → RunRefusal → RunRefusal

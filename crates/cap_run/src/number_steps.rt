@@ -25,6 +25,7 @@ impl<M: TaggedStore> RunMachine<M> {
             let step = Derive target source recorded in
             Answers (run_end asks old step) (run_after old step) (run_wants old step) old result
             (numbered_run self.new.machine self.new.specials self.new.objects) }
+        ensures asks { self.new.asks ≡ self.old.asks }
     {
         self.derive(target, source, recorded)
     }
