@@ -7,4 +7,5 @@ mod FillLemmas
 mod WideningLemmas
 mod UsualLemmas
 mod NumberLemmas
-mod NumberedLemmas
+mod RunNumberLemmas
+mod GranuleLemmas

@@ -10,7 +10,7 @@
 mod asks;
 mod ends;
 mod granule_steps;
-mod number_steps;
+mod lines;
 mod object_steps;
 mod puts;
 mod register_steps;
