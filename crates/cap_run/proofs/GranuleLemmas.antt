@@ -73,7 +73,7 @@ with_named-same run granule is =
   ]
 
 -- a place that gets what it has
-put-kept : {A : Type 0} (told : ℕ → A) (key : ℕ) (value : A) → value ≡ told key → (other : ℕ) → put told key value other ≡ told other
+pub put-kept : {A : Type 0} (told : ℕ → A) (key : ℕ) (value : A) → value ≡ told key → (other : ℕ) → put told key value other ≡ told other
 put-kept told key value is other = elim (eqb_tells key other) [
   | inl same ↦ cond-true (key == other) value (told other) same.0 ∙ is ∙ ap told same.1
   | inr unlike ↦ cond-false (key == other) value (told other) unlike.0

@@ -9,3 +9,4 @@ mod UsualLemmas
 mod NumberLemmas
 mod RunNumberLemmas
 mod GranuleLemmas
+mod RootLemmas

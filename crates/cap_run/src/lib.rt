@@ -14,6 +14,7 @@ mod lines;
 mod object_steps;
 mod puts;
 mod register_steps;
+mod roots;
 mod run_machine;
 mod specials;
 mod usual_steps;
