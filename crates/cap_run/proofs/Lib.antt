@@ -10,3 +10,4 @@ mod NumberLemmas
 mod RunNumberLemmas
 mod GranuleLemmas
 mod RootLemmas
+mod UsualNumberLemmas
