@@ -6,3 +6,5 @@ mod SafetyLemmas
 mod FillLemmas
 mod WideningLemmas
 mod UsualLemmas
+mod IndexedLemmas
+mod MeetLemmas
