@@ -8,3 +8,4 @@ mod WideningLemmas
 mod UsualLemmas
 mod IndexedLemmas
 mod MeetLemmas
+mod ChangeLemmas
