@@ -2,17 +2,29 @@
 use Rattle.std.specs.BTreeMap as tree
 use Rattle.std.specs.Ordering.{nat_cmp}
 use Rattle.std.proofs.{Common.{◌≡◌, ◌≢◌, ◌==◌, ◌≤◌, ◌⊎◌, ◌||◌, not, nat_lt, ℕ, Bool, true, false, Some, None, Option, inl, inr}, Math.Path.fun_ext}
-use Rattle.std.proofs.Common.{if◌then◌else◌, option_and_then, option_map, refl, sym, ap, subst, ◌∙◌, arith, ne_eqb}
+use Rattle.std.proofs.Common.{if◌then◌else◌, option_and_then, option_map, slice_get, refl, sym, ap, subst, ◌∙◌, arith, ne_eqb}
 use Rattle.std.proofs.lemmas.{Bool.{cases_Bool, cond-true, cond-false, Decides.eqb_tells}, Option.{none-some, same_Some}}
 use Rattle.cap_objects.specs.{Counts.{CountsAre, Owners, owned_by}, declared.{handouts.Handouts.Handouts, objects.Object.Object}, HandoutsIn.objects_of}
 use Rattle.cap_objects.specs.Extents.{Objects, Sets, is_present}
 use Rattle.cap_objects.specs.{Handed.{AreKept, held_of, with_held}, Indexes.{IsIndex, kept, number_key}}
 use Rattle.cap_run.specs.{Numbers.{by_number, number_at, numbered}, RunChanges.counted}
 use Rattle.cap_machine.specs.States.{put}
+use Rattle.cap_run.proofs.ObjectLemmas.{kept_some}
 use Rattle.cap_run.proofs.IndexedLemmas.{from-number, owned-none, owned-number, to-number}
 
 pub kept-by : (h : Handouts) → AreKept h.keeps h.count (objects_of h) (tree.get nat_cmp h.numbers) (tree.get nat_cmp h.bases)
 kept-by h = h.kept
+
+-- what is in a slot is present
+and_present : (found : Option Object) (o : Object) → option_and_then kept found ≡ Some o → is_present o ≡ true
+and_present None o is = absurd (none-some o is)
+and_present (Some x) o is = elim (cases_Bool (is_present x)) [
+  | inl there ↦ subst (λ (y : Object). is_present y ≡ true) (kept_some x o is) there
+  | inr gone_now ↦ absurd (none-some o (sym (cond-false (is_present x) (Some x) None gone_now) ∙ is))
+]
+
+pub present-by : (h : Handouts) (slot : ℕ) (o : Object) → objects_of h slot ≡ Some o → is_present o ≡ true
+present-by h slot o is = and_present (slice_get h.slots.objects.items slot) o is
 
 found_or : (found : Option Object) → (found ≡ None) ⊎ ((o : Object) × (found ≡ Some o))
 found_or None = inl refl

@@ -1,0 +1,113 @@
+-- The run by numbers after an object was handed out, widened or freed.
+use Rattle.std.specs.BTreeMap as tree
+use Rattle.std.specs.Ordering.{nat_cmp}
+use Rattle.std.proofs.{Common.{◌≡◌, ◌≢◌, ◌==◌, ◌+◌, ◌-◌, ◌≤◌, ◌<◌, ◌&&◌, not, nat_lt, max, min, ℕ, Bool, true, false, Some, None, Option, inl, inr, length}, Math.Path.fun_ext}
+use Rattle.std.proofs.Common.{if◌then◌else◌, option_and_then, option_map, refl, sym, ap, subst, ◌∙◌, arith, ne_eqb, eq-eqb}
+use Rattle.std.proofs.lemmas.{Bool.{cases_Bool, cond-true, cond-false, Decides.eqb_tells}, Option.{none-some, same_Some}}
+use Rattle.cap_word.specs.declared.word.Cap.{Cap}
+use Rattle.cap_bounds.specs.Bounds.{base_of, top_of}
+use Rattle.cap_machine.specs.{declared.rules.Rules.Rules, Helds.Held, States.{State, put}}
+use Rattle.cap_objects.specs.{Counts.{CountsAre, Owners, at_key}, declared.{handouts.Handouts.Handouts, objects.Object.Object}, HandoutsIn.objects_of}
+use Rattle.cap_objects.specs.{Extents.Objects, Handed.{IsLive, freed_in, handed_out, held_of, widened, with_held}, Indexes.kept, Objects.top_of_extent}
+use Rattle.cap_objects.proofs.KeyLemmas.{choice_under}
+use Rattle.cap_run_log.specs.declared.lines.RunStep.TheVariants as steps
+use Rattle.cap_run.specs.{declared.specials.Specials.Specials, Numbers.{by_number, number_at, numbered, numbered_run}, ObjectSteps.{Frees, HandsOut, Widens, first_holders}}
+use Rattle.cap_run.specs.{Owned.{is_empty, owner_for}, Run.Run, RunChanges.{counted, run_after, with_freed}, RunOf.{run_of, run_owners, run_state}}
+use Rattle.cap_run.proofs.{ChangeLemmas.{by_number-same, counted-put, kept-by, number-of, present-by, renumbered}, IndexedLemmas.{same-slot, to-number}}
+use Rattle.cap_run.proofs.{ObjectLemmas.{kept_some, owner-there, some_and}, OwnerLemmas.either-key}
+
+run_from : State → Owners → Objects → ℕ → Rules → ℕ → ℕ → (ℕ → Bool) → ℕ → Run
+run_from state owners objects count rules roots steps_are is_named granules = record {
+  state = state;
+  owners = owners;
+  objects = objects;
+  count = count;
+  rules = rules;
+  roots = roots;
+  steps = steps_are;
+  is_named = is_named;
+  granules = granules;
+}
+
+-- runs of the same parts
+pub same-run : (a b : Run) → a.state ≡ b.state → a.owners ≡ b.owners → a.objects ≡ b.objects → a.count ≡ b.count → a.rules ≡ b.rules
+    → a.roots ≡ b.roots → a.steps ≡ b.steps → a.is_named ≡ b.is_named → a.granules ≡ b.granules → a ≡ b
+unfolding run_from
+same-run a b state owners objects count rules roots steps_are is_named granules =
+    ap (λ (x : State). run_from x a.owners a.objects a.count a.rules a.roots a.steps a.is_named a.granules) state
+    ∙ ap (λ (x : Owners). run_from b.state x a.objects a.count a.rules a.roots a.steps a.is_named a.granules) owners
+    ∙ ap (λ (x : Objects). run_from b.state b.owners x a.count a.rules a.roots a.steps a.is_named a.granules) objects
+    ∙ ap (λ (x : ℕ). run_from b.state b.owners b.objects x a.rules a.roots a.steps a.is_named a.granules) count
+    ∙ ap (λ (x : Rules). run_from b.state b.owners b.objects b.count x a.roots a.steps a.is_named a.granules) rules
+    ∙ ap (λ (x : ℕ). run_from b.state b.owners b.objects b.count b.rules x a.steps a.is_named a.granules) roots
+    ∙ ap (λ (x : ℕ). run_from b.state b.owners b.objects b.count b.rules b.roots x a.is_named a.granules) steps_are
+    ∙ ap (λ (x : ℕ → Bool). run_from b.state b.owners b.objects b.count b.rules b.roots b.steps x a.granules) is_named
+    ∙ ap (λ (x : ℕ). run_from b.state b.owners b.objects b.count b.rules b.roots b.steps b.is_named x) granules
+
+-- owners by number after an object got one place more
+owners-put : (owners after : Owners) (old new : Objects) (register slot number : ℕ) (cap : Cap)
+    → ((other : ℕ) → after other ≡ at_key owners register (owner_for cap (Some slot)) other) → number_at new slot ≡ Some number
+    → ((key s : ℕ) → owners key ≡ Some s → (a : Object) × (b : Object) × (old s ≡ Some a) × (new s ≡ Some b) × (a.number ≡ b.number))
+    → numbered new after ≡ put (numbered old owners) register (owner_for cap (Some number))
+owners-put owners after old new register slot number cap after_is number_is stays = fun_ext (λ key.
+    let owns = cap.tag && not (is_empty cap.word.0) in
+    ap (option_and_then (number_at new)) (after_is key)
+    ∙ (elim (either-key owners register (owner_for cap (Some slot)) key) [
+      | inl here ↦
+          ap (option_and_then (number_at new)) here.1
+          ∙ choice_under (option_and_then (number_at new)) owns (Some slot) None
+          ∙ ap (λ (o : Option ℕ). if owns then o else None) number_is
+          ∙ sym (cond-true (register == key) (owner_for cap (Some number)) (numbered old owners key) (eq-eqb register key here.0))
+      | inr away ↦
+          ap (option_and_then (number_at new)) away.1
+          ∙ renumbered old new (owners key) (stays key)
+          ∙ sym (cond-false (register == key) (owner_for cap (Some number)) (numbered old owners key) (ne_eqb register key away.0))
+    ]))
+
+widened-number : (o : Object) (base top : ℕ) → (let w = widened o base top in w.number ≡ o.number)
+widened-number o base top =
+    let low = min o.base base in
+    let high = max (top_of_extent o) top in
+    let wide : Object = record o { base = low; last = high - 1; long = true } in
+    elim (cases_Bool (nat_lt low high)) [
+      | inl more ↦ ap (λ (w : Object). w.number) (cond-true (nat_lt low high) wide o more)
+      | inr none ↦ ap (λ (w : Object). w.number) (cond-false (nat_lt low high) wide o none)
+    ]
+
+module _ (held new : Held) (specials sp : Specials) (h after : Handouts) (sized : length specials.labels ≡ 32) (new_sized : length sp.labels ≡ 32)
+    (counts : CountsAre (run_owners held specials) (λ n. held_of (objects_of h n)))
+    (new_counts : CountsAre (run_owners new sp) (λ n. held_of (objects_of after n))) where
+  there : (key slot : ℕ) → run_owners held specials key ≡ Some slot → (o : Object) × (objects_of h slot ≡ Some o)
+  there key slot is = let o = owner-there held specials (objects_of h) sized counts key slot is in (o.0, o.1)
+
+  there_after : (key slot : ℕ) → run_owners new sp key ≡ Some slot → (o : Object) × (objects_of after slot ≡ Some o)
+  there_after key slot is = let o = owner-there new sp (objects_of after) new_sized new_counts key slot is in (o.0, o.1)
+
+  -- `object cN`
+  pub handed-number : (register slot : ℕ) → HandsOut (run_of held specials h) register slot (run_of new sp after)
+      → numbered_run new sp after ≡ run_after (numbered_run held specials h) (steps.Object register)
+  handed-number register slot hands =
+      let cap = run_state held specials register in
+      let number = h.count + 1 in
+      let object = handed_out number (held.steps + 1) (base_of cap.word.0) (top_of cap.word.0) in
+      let added = with_held object (first_holders cap) in
+      let known = kept-by h in
+      let known_after = kept-by after in
+      let free = hands.adds.0 in
+      let set = hands.adds.1 in
+      let owners_are = owners-put (run_owners held specials) (run_owners new sp) (objects_of h) (objects_of after) register slot number cap
+      hands.owners (number-of (objects_of after) slot added set.0)
+      (λ key s is.
+          let o = there key s is in
+          (o.0, o.0, o.1, set.1 s (λ e. none-some o.0 (sym free ∙ ap (objects_of h) (sym e) ∙ o.1)) ∙ o.1, refl)) in
+      let objects_are = counted-put (objects_of h) (objects_of after) (tree.get nat_cmp h.numbers) (tree.get nat_cmp after.numbers) known.numbered
+      known_after.numbered (run_owners new sp) new_counts (present-by after) slot number (Some added) (Some object) set
+      (λ o is. absurd (none-some o (sym free ∙ is)))
+      (λ s o is same. let few = known.few s o is in absurd (omega (arith, few, same)))
+      (λ o is. subst (λ (x : Object). (x.number ≡ number) × (option_map (λ y. with_held y x.held) (Some object) ≡ Some x))
+          (same_Some added o is) (refl, refl))
+      (λ is. absurd (none-some added (sym is))) in
+      same-run (numbered_run new sp after) (run_after (numbered_run held specials h) (steps.Object register))
+      hands.state owners_are
+      (objects_are ∙ ap (counted (put (by_number (tree.get nat_cmp h.numbers) (objects_of h)) number (Some object))) owners_are)
+      hands.count hands.rules hands.roots hands.steps hands.is_named hands.granules
