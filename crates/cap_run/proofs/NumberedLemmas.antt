@@ -111,3 +111,101 @@ module _ (held new : Held) (specials sp : Specials) (h after : Handouts) (sized 
       hands.state owners_are
       (objects_are ∙ ap (counted (put (by_number (tree.get nat_cmp h.numbers) (objects_of h)) number (Some object))) owners_are)
       hands.count hands.rules hands.roots hands.steps hands.is_named hands.granules
+
+  -- `object cN K`
+  pub widened-by_number : (register number slot : ℕ) → IsLive (objects_of h) number slot → Widens (run_of held specials h) register slot (run_of new sp after)
+      → numbered_run new sp after ≡ run_after (numbered_run held specials h) (steps.Widen register number)
+  widened-by_number register number slot live widens =
+      let cap = run_state held specials register in
+      let base = base_of cap.word.0 in
+      let top = top_of cap.word.0 in
+      let x = live.object in
+      let wide = widened x base top in
+      let grown = with_held wide (x.held + first_holders cap) in
+      let known = kept-by h in
+      let known_after = kept-by after in
+      let set = widens.objects x live.there in
+      let grown_number : grown.number ≡ number = widened-number x base top ∙ live.number in
+      let owners_are = owners-put (run_owners held specials) (run_owners new sp) (objects_of h) (objects_of after) register slot number cap
+      widens.owners (number-of (objects_of after) slot grown set.0 ∙ ap Some grown_number)
+      (λ key s is.
+          let o = there key s is in
+          elim (eqb_tells s slot) [
+            | inl same ↦
+                let o_is : o.0 ≡ x = same_Some o.0 x (sym o.1 ∙ ap (objects_of h) same.1 ∙ live.there) in
+                (o.0, grown, o.1, ap (objects_of after) same.1 ∙ set.0, ap (λ (y : Object). y.number) o_is ∙ live.number ∙ sym grown_number)
+            | inr unlike ↦ (o.0, o.0, o.1, set.1 s unlike.1 ∙ o.1, refl)
+          ]) in
+      let index = tree.get nat_cmp h.numbers in
+      let before = option_map (λ o. widened o base top) (by_number index (objects_of h) number) in
+      let before_is : before ≡ Some wide =
+      ap (option_map (λ o. widened o base top))
+      (ap (by_number index (objects_of h)) (sym live.number) ∙ to-number (objects_of h) index known.numbered slot x live.there) in
+      let objects_are = counted-put (objects_of h) (objects_of after) index (tree.get nat_cmp after.numbers) known.numbered
+      known_after.numbered (run_owners new sp) new_counts (present-by after) slot number (Some grown) before set
+      (λ o is. ap (λ (y : Object). y.number) (same_Some o x (sym is ∙ live.there)) ∙ live.number)
+      (λ s o is same. same-slot (objects_of h) index known.numbered s slot o x is live.there (same ∙ sym live.number))
+      (λ o is. subst (λ (y : Object). (y.number ≡ number) × (option_map (λ z. with_held z y.held) before ≡ Some y))
+          (same_Some grown o is) (grown_number, ap (option_map (λ z. with_held z grown.held)) before_is))
+      (λ is. absurd (none-some grown (sym is))) in
+      same-run (numbered_run new sp after) (run_after (numbered_run held specials h) (steps.Widen register number))
+      widens.state owners_are
+      (objects_are ∙ ap (counted (put (by_number index (objects_of h)) number before)) owners_are)
+      widens.rest.count widens.rest.rules widens.rest.roots widens.rest.steps widens.rest.is_named widens.rest.granules
+
+  -- `free K`
+  pub freed-number : (number slot : ℕ) → IsLive (objects_of h) number slot → Frees (run_of held specials h) slot (run_of new sp after)
+      → numbered_run new sp after ≡ with_freed (numbered_run held specials h) (Some number)
+  freed-number number slot live frees =
+      let x = live.object in
+      let gone = freed_in (held.steps + 1) x in
+      let known = kept-by h in
+      let known_after = kept-by after in
+      let set = frees.objects x live.there in
+      let owners_are : numbered (objects_of after) (run_owners new sp) ≡ numbered (objects_of h) (run_owners held specials) = fun_ext (λ key.
+          ap (λ (f : Owners). option_and_then (number_at (objects_of after)) (f key)) frees.owners
+          ∙ renumbered (objects_of h) (objects_of after) (run_owners held specials key) (λ s is.
+              let o = there key s is in
+              let p = there_after key s (ap (λ (f : Owners). f key) frees.owners ∙ is) in
+              elim (eqb_tells s slot) [
+                | inl same ↦
+                    let o_is : x ≡ o.0 = same_Some x o.0 (sym live.there ∙ ap (objects_of h) (sym same.1) ∙ o.1) in
+                    let p_is : gone ≡ p.0 = kept_some gone p.0 (sym set.0 ∙ ap (objects_of after) (sym same.1) ∙ p.1) in
+                    (o.0, p.0, o.1, p.1, sym (ap (λ (y : Object). y.number) o_is) ∙ ap (λ (y : Object). y.number) p_is)
+                | inr unlike ↦ (
+                  o.0,
+                  p.0,
+                  o.1,
+                  p.1,
+                  ap (λ (y : Object). y.number) (same_Some o.0 p.0 (sym o.1 ∙ sym (set.1 s unlike.1) ∙ p.1)),
+                )
+              ])) in
+      let index = tree.get nat_cmp h.numbers in
+      let before = option_map (freed_in (held.steps + 1)) (by_number index (objects_of h) number) in
+      let before_is : before ≡ Some gone =
+      ap (option_map (freed_in (held.steps + 1)))
+      (ap (by_number index (objects_of h)) (sym live.number) ∙ to-number (objects_of h) index known.numbered slot x live.there) in
+      let objects_are = counted-put (objects_of h) (objects_of after) index (tree.get nat_cmp after.numbers) known.numbered
+      known_after.numbered (run_owners new sp) new_counts (present-by after) slot number (kept gone) before set
+      (λ o is. ap (λ (y : Object). y.number) (same_Some o x (sym is ∙ live.there)) ∙ live.number)
+      (λ s o is same. same-slot (objects_of h) index known.numbered s slot o x is live.there (same ∙ sym live.number))
+      (λ o is. subst (λ (y : Object). (y.number ≡ number) × (option_map (λ z. with_held z y.held) before ≡ Some y))
+          (kept_some gone o is) (live.number, ap (option_map (λ z. with_held z gone.held)) before_is))
+      (λ is. (gone, before_is, refl)) in
+      same-run (numbered_run new sp after) (with_freed (numbered_run held specials h) (Some number))
+      frees.state owners_are
+      (objects_are ∙ ap (counted (put (by_number index (objects_of h)) number before)) owners_are)
+      frees.rest.count frees.rest.rules frees.rest.roots frees.rest.steps frees.rest.is_named frees.rest.granules
+
+  -- nothing changed
+  pub numbered-same : run_of new sp after ≡ run_of held specials h → numbered_run new sp after ≡ numbered_run held specials h
+  numbered-same same =
+      let objects_are : objects_of after ≡ objects_of h = ap (λ (r : Run). r.objects) same in
+      let known = kept-by h in
+      let known_after = kept-by after in
+      same-run (numbered_run new sp after) (numbered_run held specials h) (ap (λ (r : Run). r.state) same)
+      (ap (λ (r : Run). numbered r.objects r.owners) same)
+      (by_number-same (objects_of h) (objects_of after) (tree.get nat_cmp h.numbers) (tree.get nat_cmp after.numbers) known.numbered
+      known_after.numbered objects_are)
+      (ap (λ (r : Run). r.count) same) (ap (λ (r : Run). r.rules) same) (ap (λ (r : Run). r.roots) same) (ap (λ (r : Run). r.steps) same)
+      (ap {B = ℕ → Bool} (λ (r : Run). r.is_named) same) (ap (λ (r : Run). r.granules) same)
