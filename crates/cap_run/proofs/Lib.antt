@@ -9,4 +9,4 @@ mod UsualLemmas
 mod IndexedLemmas
 mod MeetLemmas
 mod ChangeLemmas
-mod NumberedLemmas
+mod ObjectNumberLemmas

@@ -10,7 +10,7 @@
 mod asks;
 mod ends;
 mod granule_steps;
-mod numbered_steps;
+mod numbered_objects;
 mod object_steps;
 mod puts;
 mod register_steps;

@@ -1,4 +1,4 @@
-use Rattle.cap_run.proofs.NumberedLemmas.{handed-number}
+use Rattle.cap_run.proofs.ObjectNumberLemmas.{handed-number}
 use Rattle.cap_run.proofs.ChangeLemmas.{renumbered}
 use Rattle.cap_run.proofs.MeetLemmas.{extent-room}
 use Rattle.std.proofs.Common.{rules, ◌≡◌, ℕ, ◌+◌, ◌-◌, ◌*◌, ◌<◌, ◌≤◌, length, ◌/◌, ◌%◌, Bool, true, false, nat_eq, nat_lt, List, [], ◌∷◌, ◌++◌, slice_index_or, slice_set, bit_and, bit_or, Fits, w8, w32, w64, Bor, MutBor}
