@@ -10,7 +10,7 @@ use Rattle.cap_objects.specs.{Handed.{AreKept, held_of, with_held}, Indexes.{IsI
 use Rattle.cap_run.specs.{Numbers.{by_number, number_at, numbered}, RunChanges.counted}
 use Rattle.cap_machine.specs.States.{put}
 use Rattle.cap_run.proofs.ObjectLemmas.{kept_some}
-use Rattle.cap_run.proofs.IndexedLemmas.{from-number, owned-none, owned-number, to-number}
+use Rattle.cap_run.proofs.{IndexedLemmas.{owned-none, owned-number}, NumberLemmas.{at-number, slot-of}}
 
 pub kept-by : (h : Handouts) → AreKept h.keeps h.count (objects_of h) (tree.get nat_cmp h.numbers) (tree.get nat_cmp h.bases)
 kept-by h = h.kept
@@ -57,7 +57,7 @@ module _ (objects : Objects) (index : ℕ → Option ℕ) (known : IsIndex numbe
   counted-are before some none = fun_ext (λ n. elim (found_or (by_number index objects n)) [
     | inl gone ↦ gone ∙ sym (gone_with (before n) (owned_by (numbered objects owners) n) (none n gone) (owned-none objects index known owners n gone))
     | inr it ↦
-        let at = from-number objects index known n it.0 it.1 in
+        let at = slot-of objects index known n it.0 it.1 in
         let count : owned_by (numbered objects owners) n ≡ it.0.held =
         ap (owned_by (numbered objects owners)) (sym at.2) ∙ owned-number objects index known owners at.0 it.0 at.1 ∙ sym (counts at.0)
         ∙ ap held_of at.1 in
@@ -85,7 +85,7 @@ module _ (old new : Objects) (old_index new_index : ℕ → Option ℕ) (old_kno
   some_put : (n : ℕ) (o : Object) → by_number new_index new n ≡ Some o
       → option_map (λ x. with_held x o.held) (put (by_number old_index old) number before n) ≡ Some o
   some_put n o is =
-      let at = from-number new new_index new_known n o is in
+      let at = slot-of new new_index new_known n o is in
       elim (eqb_tells at.0 slot) [
         | inl same ↦
             let it = here o (sym set.0 ∙ ap new (sym same.1) ∙ at.1) in
@@ -93,7 +93,7 @@ module _ (old new : Objects) (old_index new_index : ℕ → Option ℕ) (old_kno
         | inr unlike ↦
             let there : old at.0 ≡ Some o = sym (set.1 at.0 unlike.1) ∙ at.1 in
             ap (option_map (λ x. with_held x o.held)) (put_away n (λ e. unlike.1 (fresh at.0 o there (at.2 ∙ sym e)))
-            ∙ ap (by_number old_index old) (sym at.2) ∙ to-number old old_index old_known at.0 o there)
+            ∙ ap (by_number old_index old) (sym at.2) ∙ at-number old old_index old_known at.0 o there)
       ]
 
   none_put : (n : ℕ) → by_number new_index new n ≡ None
@@ -105,15 +105,15 @@ module _ (old new : Objects) (old_index new_index : ℕ → Option ℕ) (old_kno
       | inr it ↦
           let o_number = (here it.0 it.1).0 in
           absurd (none-some it.0 (sym none ∙ ap (by_number new_index new) (sym same.1 ∙ sym o_number)
-          ∙ to-number new new_index new_known slot it.0 (set.0 ∙ it.1)))
+          ∙ at-number new new_index new_known slot it.0 (set.0 ∙ it.1)))
     ]
     | inr unlike ↦ elim (found_or (by_number old_index old n)) [
       | inl gone_too ↦ inl (put_away n unlike.1 ∙ gone_too)
       | inr it ↦
-          let at = from-number old old_index old_known n it.0 it.1 in
+          let at = slot-of old old_index old_known n it.0 it.1 in
           let away : at.0 ≢ slot = λ e. unlike.1 (sym (was it.0 (ap old (sym e) ∙ at.1)) ∙ at.2) in
           absurd (none-some it.0 (sym none ∙ ap (by_number new_index new) (sym at.2)
-          ∙ to-number new new_index new_known at.0 it.0 (set.1 at.0 away ∙ at.1)))
+          ∙ at-number new new_index new_known at.0 it.0 (set.1 at.0 away ∙ at.1)))
     ]
   ]
 
@@ -132,20 +132,3 @@ renumbered old new (Some s) known =
 
 pub number-of : (objects : Objects) (slot : ℕ) (o : Object) → objects slot ≡ Some o → number_at objects slot ≡ Some o.number
 number-of objects slot o is = ap (option_map (λ object. object.number)) is
-
--- by number, objects are the same where they are by slot
-pub by_number-same : (old new : Objects) (old_index new_index : ℕ → Option ℕ) → IsIndex number_key old old_index → IsIndex number_key new new_index
-    → new ≡ old → by_number new_index new ≡ by_number old_index old
-by_number-same old new old_index new_index old_known new_known same = fun_ext (λ n. elim (found_or (by_number new_index new n)) [
-  | inl none ↦ elim (found_or (by_number old_index old n)) [
-    | inl none_too ↦ none ∙ sym none_too
-    | inr it ↦
-        let at = from-number old old_index old_known n it.0 it.1 in
-        absurd (none-some it.0 (sym none ∙ ap (by_number new_index new) (sym at.2)
-        ∙ to-number new new_index new_known at.0 it.0 (ap (λ (f : Objects). f at.0) same ∙ at.1)))
-  ]
-  | inr it ↦
-      let at = from-number new new_index new_known n it.0 it.1 in
-      it.1 ∙ sym (ap (by_number old_index old) (sym at.2)
-      ∙ to-number old old_index old_known at.0 it.0 (ap (λ (f : Objects). f at.0) (sym same) ∙ at.1))
-])

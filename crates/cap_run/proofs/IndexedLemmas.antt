@@ -1,15 +1,11 @@
--- Present objects by their numbers, through an index that tells the slot of each.
+-- How many places an object owns, by its number and by its slot.
 use Rattle.std.proofs.Common.{◌≡◌, ◌≢◌, ◌==◌, ℕ, Bool, true, false, Some, None, Option, inl, inr, option_and_then, option_map}
-use Rattle.std.proofs.Common.{refl, sym, ap, subst, ◌∙◌, ne_eqb}
-use Rattle.std.proofs.lemmas.{Bool.Decides.eqb_tells, Option.{none-some, same_Some}}
+use Rattle.std.proofs.Common.{refl, sym, ap, ◌∙◌, ne_eqb}
+use Rattle.std.proofs.lemmas.{Bool.Decides.eqb_tells, Option.none-some}
 use Rattle.cap_objects.specs.{Counts.{Owners, is_owner, most_places, owned_by}, declared.objects.Object.Object, Extents.Objects, Indexes.{IsIndex, number_key}}
 use Rattle.cap_objects.proofs.{BelowLemmas.{below-none, below-same}, KeyLemmas.is_owner-self}
 use Rattle.cap_run.specs.Numbers.{by_number, number_at, numbered}
-
-slot_in : (objects : Objects) (at : Option ℕ) (o : Object) → option_and_then objects at ≡ Some o
-    → (slot : ℕ) × (at ≡ Some slot) × (objects slot ≡ Some o)
-slot_in objects None o is = absurd (none-some o is)
-slot_in objects (Some slot) o is = (slot, refl, is)
+use Rattle.cap_run.proofs.NumberLemmas.{alone-at, at-number}
 
 -- an object whose number is another isn't the owner with this number
 other_number : (found : Option Object) (n : ℕ) → ((x : Object) → found ≡ Some x → x.number ≢ n)
@@ -18,21 +14,6 @@ other_number None n differ = refl
 other_number (Some x) n differ = ne_eqb n x.number (λ e. differ x refl (sym e))
 
 module _ (objects : Objects) (index : ℕ → Option ℕ) (known : IsIndex number_key objects index) where
-  pub to-number : (slot : ℕ) (o : Object) → objects slot ≡ Some o → by_number index objects o.number ≡ Some o
-  to-number slot o is =
-      ap (option_and_then objects) (known.listed slot o.number (ap (option_and_then number_key) is)) ∙ is
-
-  pub from-number : (n : ℕ) (o : Object) → by_number index objects n ≡ Some o → (slot : ℕ) × (objects slot ≡ Some o) × (o.number ≡ n)
-  from-number n o is =
-      let at = slot_in objects (index n) o is in
-      (at.0, at.2, same_Some o.number n (sym (ap (option_and_then number_key) at.2) ∙ known.only n at.0 at.1))
-
-  -- a number is that of one object alone
-  pub same-slot : (one two : ℕ) (a b : Object) → objects one ≡ Some a → objects two ≡ Some b → a.number ≡ b.number → one ≡ two
-  same-slot one two a b is is2 same =
-      same_Some one two (sym (known.listed one a.number (ap (option_and_then number_key) is)) ∙ ap index same
-      ∙ known.listed two b.number (ap (option_and_then number_key) is2))
-
   same_owner : (slot : ℕ) (o : Object) → objects slot ≡ Some o → (owner : Option ℕ)
       → is_owner o.number (option_and_then (number_at objects) owner) ≡ is_owner slot owner
   same_owner slot o is None = refl
@@ -41,7 +22,7 @@ module _ (objects : Objects) (index : ℕ → Option ℕ) (known : IsIndex numbe
         is_owner-self o.number (number_at objects s) (ap (number_at objects) (sym same.1) ∙ ap (option_map (λ object. object.number)) is)
         ∙ sym same.0
     | inr unlike ↦
-        other_number (objects s) o.number (λ x there e. unlike.1 (sym (same-slot s slot x o there is e))) ∙ sym unlike.0
+        other_number (objects s) o.number (λ x there e. unlike.1 (sym (alone-at objects index known s slot x o there is e))) ∙ sym unlike.0
   ]
 
   -- an object owns as many places by its number as by its slot
@@ -52,7 +33,7 @@ module _ (objects : Objects) (index : ℕ → Option ℕ) (known : IsIndex numbe
   no_owner : (n : ℕ) → by_number index objects n ≡ None → (owner : Option ℕ) → is_owner n (option_and_then (number_at objects) owner) ≡ false
   no_owner n none None = refl
   no_owner n none (Some s) = other_number (objects s) n
-      (λ x there e. none-some x (sym none ∙ ap (by_number index objects) (sym e) ∙ to-number s x there))
+      (λ x there e. none-some x (sym none ∙ ap (by_number index objects) (sym e) ∙ at-number objects index known s x there))
 
   -- a number that no object has owns nothing
   pub owned-none : (owners : Owners) (n : ℕ) → by_number index objects n ≡ None → owned_by (numbered objects owners) n ≡ 0

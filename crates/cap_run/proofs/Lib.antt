@@ -10,3 +10,5 @@ mod IndexedLemmas
 mod MeetLemmas
 mod ChangeLemmas
 mod ObjectNumberLemmas
+mod NumberLemmas
+mod NumberedLemmas

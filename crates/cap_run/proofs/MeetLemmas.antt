@@ -12,7 +12,7 @@ use Rattle.cap_objects.specs.declared.handouts.HandOutFault.TheVariants as hand
 use Rattle.cap_objects.proofs.{BelowLemmas.{below-none, below-where}, KeyLemmas.{is_owner-self, is_owner-true}}
 use Rattle.cap_run.specs.declared.{asks.Asks.Asks, ends.RunRefusal.{RunRefusal, TheVariants.{Overlaps, StillHeld}}}
 use Rattle.cap_run.specs.{Numbers.by_number, Run.Run, RunChecks.{extent_end, is_freed, is_live, meets, shares}}
-use Rattle.cap_run.proofs.IndexedLemmas.{from-number, to-number}
+use Rattle.cap_run.proofs.NumberLemmas.{at-number, slot-of}
 
 -- sharing an address is meeting an extent of an address
 pub shares-where : (base top : ℕ) (o : Object) → o.long ≡ true → o.base ≤ o.last → base < top → Meets base (top - 1) o → shares base top o ≡ true
@@ -117,7 +117,7 @@ module _ (run : Run) (objects : Objects) (index : ℕ → Option ℕ) (known : I
       → base < top → Meets base (top - 1) o → meets run left_number asked base top ≡ true
   met_in asked slot o there other is_asked is_long some met =
       meets-where run left_number asked base top o.number o (few slot o there)
-      (ap (λ (f : Objects). f o.number) objects_are ∙ to-number objects index known slot o there)
+      (ap (λ (f : Objects). f o.number) objects_are ∙ at-number objects index known slot o there)
       (λ is. other (to_slot slot o there is)) is_asked (shares-where base top o is_long (long slot o there is_long) some met)
 
   none_in : (asked : Object → Bool)
@@ -125,7 +125,7 @@ module _ (run : Run) (objects : Objects) (index : ℕ → Option ℕ) (known : I
       → Meets base (top - 1) o → ⊥)
       → meets run left_number asked base top ≡ false
   none_in asked none = where-none run left_number asked base top (λ n o there other is_asked share.
-      let at = from-number objects index known n o (ap (λ (f : Objects). f n) (sym objects_are) ∙ there) in
+      let at = slot-of objects index known n o (ap (λ (f : Objects). f n) (sym objects_are) ∙ there) in
       let met = where-shares base top o share in
       none at.0 o at.1 (λ is. other (of_slot at.0 o at.1 is ∙ ap Some at.2)) is_asked met.0 met.1 met.2)
 

@@ -6,43 +6,15 @@ use Rattle.std.proofs.Common.{if◌then◌else◌, option_and_then, option_map, 
 use Rattle.std.proofs.lemmas.{Bool.{cases_Bool, cond-true, cond-false, Decides.eqb_tells}, Option.{none-some, same_Some}}
 use Rattle.cap_word.specs.declared.word.Cap.{Cap}
 use Rattle.cap_bounds.specs.Bounds.{base_of, top_of}
-use Rattle.cap_machine.specs.{declared.rules.Rules.Rules, Helds.Held, States.{State, put}}
+use Rattle.cap_machine.specs.{Helds.Held, States.put}
 use Rattle.cap_objects.specs.{Counts.{CountsAre, Owners, at_key}, declared.{handouts.Handouts.Handouts, objects.Object.Object}, HandoutsIn.objects_of}
 use Rattle.cap_objects.specs.{Extents.Objects, Handed.{IsLive, freed_in, handed_out, held_of, widened, with_held}, Indexes.kept, Objects.top_of_extent}
 use Rattle.cap_objects.proofs.KeyLemmas.{choice_under}
 use Rattle.cap_run_log.specs.declared.lines.RunStep.TheVariants as steps
 use Rattle.cap_run.specs.{declared.specials.Specials.Specials, Numbers.{by_number, number_at, numbered, numbered_run}, ObjectSteps.{Frees, HandsOut, Widens, first_holders}}
 use Rattle.cap_run.specs.{Owned.{is_empty, owner_for}, Run.Run, RunChanges.{counted, run_after, with_freed}, RunOf.{run_of, run_owners, run_state}}
-use Rattle.cap_run.proofs.{ChangeLemmas.{by_number-same, counted-put, kept-by, number-of, present-by, renumbered}, IndexedLemmas.{same-slot, to-number}}
+use Rattle.cap_run.proofs.{ChangeLemmas.{counted-put, kept-by, number-of, present-by, renumbered}, NumberLemmas.{alone-at, at-number}, NumberedLemmas.run-is}
 use Rattle.cap_run.proofs.{ObjectLemmas.{kept_some, owner-there, some_and}, OwnerLemmas.either-key}
-
-run_from : State → Owners → Objects → ℕ → Rules → ℕ → ℕ → (ℕ → Bool) → ℕ → Run
-run_from state owners objects count rules roots steps_are is_named granules = record {
-  state = state;
-  owners = owners;
-  objects = objects;
-  count = count;
-  rules = rules;
-  roots = roots;
-  steps = steps_are;
-  is_named = is_named;
-  granules = granules;
-}
-
--- runs of the same parts
-pub same-run : (a b : Run) → a.state ≡ b.state → a.owners ≡ b.owners → a.objects ≡ b.objects → a.count ≡ b.count → a.rules ≡ b.rules
-    → a.roots ≡ b.roots → a.steps ≡ b.steps → a.is_named ≡ b.is_named → a.granules ≡ b.granules → a ≡ b
-unfolding run_from
-same-run a b state owners objects count rules roots steps_are is_named granules =
-    ap (λ (x : State). run_from x a.owners a.objects a.count a.rules a.roots a.steps a.is_named a.granules) state
-    ∙ ap (λ (x : Owners). run_from b.state x a.objects a.count a.rules a.roots a.steps a.is_named a.granules) owners
-    ∙ ap (λ (x : Objects). run_from b.state b.owners x a.count a.rules a.roots a.steps a.is_named a.granules) objects
-    ∙ ap (λ (x : ℕ). run_from b.state b.owners b.objects x a.rules a.roots a.steps a.is_named a.granules) count
-    ∙ ap (λ (x : Rules). run_from b.state b.owners b.objects b.count x a.roots a.steps a.is_named a.granules) rules
-    ∙ ap (λ (x : ℕ). run_from b.state b.owners b.objects b.count b.rules x a.steps a.is_named a.granules) roots
-    ∙ ap (λ (x : ℕ). run_from b.state b.owners b.objects b.count b.rules b.roots x a.is_named a.granules) steps_are
-    ∙ ap (λ (x : ℕ → Bool). run_from b.state b.owners b.objects b.count b.rules b.roots b.steps x a.granules) is_named
-    ∙ ap (λ (x : ℕ). run_from b.state b.owners b.objects b.count b.rules b.roots b.steps b.is_named x) granules
 
 -- owners by number after an object got one place more
 owners-put : (owners after : Owners) (old new : Objects) (register slot number : ℕ) (cap : Cap)
@@ -98,16 +70,16 @@ module _ (held new : Held) (specials sp : Specials) (h after : Handouts) (sized 
       let owners_are = owners-put (run_owners held specials) (run_owners new sp) (objects_of h) (objects_of after) register slot number cap
       hands.owners (number-of (objects_of after) slot added set.0)
       (λ key s is.
-          let o = there key s is in
-          (o.0, o.0, o.1, set.1 s (λ e. none-some o.0 (sym free ∙ ap (objects_of h) (sym e) ∙ o.1)) ∙ o.1, refl)) in
+      let o = there key s is in
+      (o.0, o.0, o.1, set.1 s (λ e. none-some o.0 (sym free ∙ ap (objects_of h) (sym e) ∙ o.1)) ∙ o.1, refl)) in
       let objects_are = counted-put (objects_of h) (objects_of after) (tree.get nat_cmp h.numbers) (tree.get nat_cmp after.numbers) known.numbered
       known_after.numbered (run_owners new sp) new_counts (present-by after) slot number (Some added) (Some object) set
       (λ o is. absurd (none-some o (sym free ∙ is)))
       (λ s o is same. let few = known.few s o is in absurd (omega (arith, few, same)))
       (λ o is. subst (λ (x : Object). (x.number ≡ number) × (option_map (λ y. with_held y x.held) (Some object) ≡ Some x))
-          (same_Some added o is) (refl, refl))
+      (same_Some added o is) (refl, refl))
       (λ is. absurd (none-some added (sym is))) in
-      same-run (numbered_run new sp after) (run_after (numbered_run held specials h) (steps.Object register))
+      run-is (numbered_run new sp after) (run_after (numbered_run held specials h) (steps.Object register))
       hands.state owners_are
       (objects_are ∙ ap (counted (put (by_number (tree.get nat_cmp h.numbers) (objects_of h)) number (Some object))) owners_are)
       hands.count hands.rules hands.roots hands.steps hands.is_named hands.granules
@@ -129,26 +101,26 @@ module _ (held new : Held) (specials sp : Specials) (h after : Handouts) (sized 
       let owners_are = owners-put (run_owners held specials) (run_owners new sp) (objects_of h) (objects_of after) register slot number cap
       widens.owners (number-of (objects_of after) slot grown set.0 ∙ ap Some grown_number)
       (λ key s is.
-          let o = there key s is in
-          elim (eqb_tells s slot) [
-            | inl same ↦
-                let o_is : o.0 ≡ x = same_Some o.0 x (sym o.1 ∙ ap (objects_of h) same.1 ∙ live.there) in
-                (o.0, grown, o.1, ap (objects_of after) same.1 ∙ set.0, ap (λ (y : Object). y.number) o_is ∙ live.number ∙ sym grown_number)
-            | inr unlike ↦ (o.0, o.0, o.1, set.1 s unlike.1 ∙ o.1, refl)
-          ]) in
+      let o = there key s is in
+      elim (eqb_tells s slot) [
+        | inl same ↦
+            let o_is : o.0 ≡ x = same_Some o.0 x (sym o.1 ∙ ap (objects_of h) same.1 ∙ live.there) in
+            (o.0, grown, o.1, ap (objects_of after) same.1 ∙ set.0, ap (λ (y : Object). y.number) o_is ∙ live.number ∙ sym grown_number)
+        | inr unlike ↦ (o.0, o.0, o.1, set.1 s unlike.1 ∙ o.1, refl)
+      ]) in
       let index = tree.get nat_cmp h.numbers in
       let before = option_map (λ o. widened o base top) (by_number index (objects_of h) number) in
       let before_is : before ≡ Some wide =
       ap (option_map (λ o. widened o base top))
-      (ap (by_number index (objects_of h)) (sym live.number) ∙ to-number (objects_of h) index known.numbered slot x live.there) in
+      (ap (by_number index (objects_of h)) (sym live.number) ∙ at-number (objects_of h) index known.numbered slot x live.there) in
       let objects_are = counted-put (objects_of h) (objects_of after) index (tree.get nat_cmp after.numbers) known.numbered
       known_after.numbered (run_owners new sp) new_counts (present-by after) slot number (Some grown) before set
       (λ o is. ap (λ (y : Object). y.number) (same_Some o x (sym is ∙ live.there)) ∙ live.number)
-      (λ s o is same. same-slot (objects_of h) index known.numbered s slot o x is live.there (same ∙ sym live.number))
+      (λ s o is same. alone-at (objects_of h) index known.numbered s slot o x is live.there (same ∙ sym live.number))
       (λ o is. subst (λ (y : Object). (y.number ≡ number) × (option_map (λ z. with_held z y.held) before ≡ Some y))
-          (same_Some grown o is) (grown_number, ap (option_map (λ z. with_held z grown.held)) before_is))
+      (same_Some grown o is) (grown_number, ap (option_map (λ z. with_held z grown.held)) before_is))
       (λ is. absurd (none-some grown (sym is))) in
-      same-run (numbered_run new sp after) (run_after (numbered_run held specials h) (steps.Widen register number))
+      run-is (numbered_run new sp after) (run_after (numbered_run held specials h) (steps.Widen register number))
       widens.state owners_are
       (objects_are ∙ ap (counted (put (by_number index (objects_of h)) number before)) owners_are)
       widens.rest.count widens.rest.rules widens.rest.roots widens.rest.steps widens.rest.is_named widens.rest.granules
@@ -163,49 +135,36 @@ module _ (held new : Held) (specials sp : Specials) (h after : Handouts) (sized 
       let known_after = kept-by after in
       let set = frees.objects x live.there in
       let owners_are : numbered (objects_of after) (run_owners new sp) ≡ numbered (objects_of h) (run_owners held specials) = fun_ext (λ key.
-          ap (λ (f : Owners). option_and_then (number_at (objects_of after)) (f key)) frees.owners
-          ∙ renumbered (objects_of h) (objects_of after) (run_owners held specials key) (λ s is.
-              let o = there key s is in
-              let p = there_after key s (ap (λ (f : Owners). f key) frees.owners ∙ is) in
-              elim (eqb_tells s slot) [
-                | inl same ↦
-                    let o_is : x ≡ o.0 = same_Some x o.0 (sym live.there ∙ ap (objects_of h) (sym same.1) ∙ o.1) in
-                    let p_is : gone ≡ p.0 = kept_some gone p.0 (sym set.0 ∙ ap (objects_of after) (sym same.1) ∙ p.1) in
-                    (o.0, p.0, o.1, p.1, sym (ap (λ (y : Object). y.number) o_is) ∙ ap (λ (y : Object). y.number) p_is)
-                | inr unlike ↦ (
-                  o.0,
-                  p.0,
-                  o.1,
-                  p.1,
-                  ap (λ (y : Object). y.number) (same_Some o.0 p.0 (sym o.1 ∙ sym (set.1 s unlike.1) ∙ p.1)),
-                )
-              ])) in
+      ap (λ (f : Owners). option_and_then (number_at (objects_of after)) (f key)) frees.owners
+      ∙ renumbered (objects_of h) (objects_of after) (run_owners held specials key) (λ s is.
+      let o = there key s is in
+      let p = there_after key s (ap (λ (f : Owners). f key) frees.owners ∙ is) in
+      elim (eqb_tells s slot) [
+        | inl same ↦
+            let o_is : x ≡ o.0 = same_Some x o.0 (sym live.there ∙ ap (objects_of h) (sym same.1) ∙ o.1) in
+            let p_is : gone ≡ p.0 = kept_some gone p.0 (sym set.0 ∙ ap (objects_of after) (sym same.1) ∙ p.1) in
+            (o.0, p.0, o.1, p.1, sym (ap (λ (y : Object). y.number) o_is) ∙ ap (λ (y : Object). y.number) p_is)
+        | inr unlike ↦ (
+          o.0,
+          p.0,
+          o.1,
+          p.1,
+          ap (λ (y : Object). y.number) (same_Some o.0 p.0 (sym o.1 ∙ sym (set.1 s unlike.1) ∙ p.1)),
+        )
+      ])) in
       let index = tree.get nat_cmp h.numbers in
       let before = option_map (freed_in (held.steps + 1)) (by_number index (objects_of h) number) in
       let before_is : before ≡ Some gone =
       ap (option_map (freed_in (held.steps + 1)))
-      (ap (by_number index (objects_of h)) (sym live.number) ∙ to-number (objects_of h) index known.numbered slot x live.there) in
+      (ap (by_number index (objects_of h)) (sym live.number) ∙ at-number (objects_of h) index known.numbered slot x live.there) in
       let objects_are = counted-put (objects_of h) (objects_of after) index (tree.get nat_cmp after.numbers) known.numbered
       known_after.numbered (run_owners new sp) new_counts (present-by after) slot number (kept gone) before set
       (λ o is. ap (λ (y : Object). y.number) (same_Some o x (sym is ∙ live.there)) ∙ live.number)
-      (λ s o is same. same-slot (objects_of h) index known.numbered s slot o x is live.there (same ∙ sym live.number))
+      (λ s o is same. alone-at (objects_of h) index known.numbered s slot o x is live.there (same ∙ sym live.number))
       (λ o is. subst (λ (y : Object). (y.number ≡ number) × (option_map (λ z. with_held z y.held) before ≡ Some y))
-          (kept_some gone o is) (live.number, ap (option_map (λ z. with_held z gone.held)) before_is))
+      (kept_some gone o is) (live.number, ap (option_map (λ z. with_held z gone.held)) before_is))
       (λ is. (gone, before_is, refl)) in
-      same-run (numbered_run new sp after) (with_freed (numbered_run held specials h) (Some number))
+      run-is (numbered_run new sp after) (with_freed (numbered_run held specials h) (Some number))
       frees.state owners_are
       (objects_are ∙ ap (counted (put (by_number index (objects_of h)) number before)) owners_are)
       frees.rest.count frees.rest.rules frees.rest.roots frees.rest.steps frees.rest.is_named frees.rest.granules
-
-  -- nothing changed
-  pub numbered-same : run_of new sp after ≡ run_of held specials h → numbered_run new sp after ≡ numbered_run held specials h
-  numbered-same same =
-      let objects_are : objects_of after ≡ objects_of h = ap (λ (r : Run). r.objects) same in
-      let known = kept-by h in
-      let known_after = kept-by after in
-      same-run (numbered_run new sp after) (numbered_run held specials h) (ap (λ (r : Run). r.state) same)
-      (ap (λ (r : Run). numbered r.objects r.owners) same)
-      (by_number-same (objects_of h) (objects_of after) (tree.get nat_cmp h.numbers) (tree.get nat_cmp after.numbers) known.numbered
-      known_after.numbered objects_are)
-      (ap (λ (r : Run). r.count) same) (ap (λ (r : Run). r.rules) same) (ap (λ (r : Run). r.roots) same) (ap (λ (r : Run). r.steps) same)
-      (ap {B = ℕ → Bool} (λ (r : Run). r.is_named) same) (ap (λ (r : Run). r.granules) same)

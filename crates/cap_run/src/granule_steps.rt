@@ -23,6 +23,7 @@ impl<M: TaggedStore> RunMachine<M> {
             (run_of self.new.machine self.new.specials self.new.objects))
             (λ end. EndsPut self.old.machine granule end self.new.machine) }
         ensures err { OnErr result ((self.new.specials ≡ self.old.specials) × (self.new.objects ≡ self.old.objects)) }
+        ensures asks { self.new.asks ≡ self.old.asks }
     {
         let from = self.granule_owner(granule);
         let cap = Cap { tag: false, word };
@@ -53,6 +54,7 @@ impl<M: TaggedStore> RunMachine<M> {
             cap.tag ≡ false → Counts old (run_of self.new.machine self.new.specials self.new.objects)) }
         ensures end { IfErr result (λ end. EndsPut self.old.machine granule end self.new.machine) }
         ensures err { OnErr result ((self.new.specials ≡ self.old.specials) × (self.new.objects ≡ self.old.objects)) }
+        ensures asks { self.new.asks ≡ self.old.asks }
     {
         let cap = self.machine.granule(granule);
         if cap.tag {
@@ -61,15 +63,16 @@ impl<M: TaggedStore> RunMachine<M> {
         if self.step_limit().is_some() {
             return Err(StepEnd::Refused(Refusal::LimitPassed));
         }
-        self.count();
+        self.count_step();
         Ok(())
     }
 
     // A step that changes nothing is counted.
-    fn count(&mut self)
+    fn count_step(&mut self)
         requires { self.old.machine.steps < 2 ^ 32 - 1 }
         ensures counts { Counts (run_of self.old.machine self.old.specials self.old.objects)
             (run_of self.new.machine self.new.specials self.new.objects) }
+        ensures asks { self.new.asks ≡ self.old.asks }
     {
         self.machine.count_step();
     }

@@ -10,6 +10,7 @@
 mod asks;
 mod ends;
 mod granule_steps;
+mod number_steps;
 mod numbered_objects;
 mod object_steps;
 mod puts;

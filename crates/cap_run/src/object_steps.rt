@@ -57,6 +57,7 @@ impl<M: TaggedStore> RunMachine<M> {
         ensures err { OnErr result ((slot : ℕ) → objects_of self.new.objects slot ≡ objects_of self.old.objects slot) }
         ensures err_rest { OnErr result ((self.new.machine ≡ self.old.machine) × (self.new.objects.count ≡ self.old.objects.count)) }
         ensures keeps { self.new.objects.keeps ≡ self.old.objects.keeps }
+        ensures asks { self.new.asks ≡ self.old.asks }
     {
         let step = self.machine.steps() + 1;
         match self.objects.hand_out(base, top, step) {
@@ -83,6 +84,7 @@ impl<M: TaggedStore> RunMachine<M> {
         ensures err { OnErr result ((other : ℕ) → objects_of self.new.objects other ≡ objects_of self.old.objects other) }
         ensures err_rest { OnErr result (self.new.machine ≡ self.old.machine) }
         ensures same { (self.new.objects.count ≡ self.old.objects.count) × (self.new.objects.keeps ≡ self.old.objects.keeps) }
+        ensures asks { self.new.asks ≡ self.old.asks }
     {
         match self.objects.widen(slot, base, top) {
             Ok(()) => {
@@ -106,6 +108,7 @@ impl<M: TaggedStore> RunMachine<M> {
             ≡ at_key (run_owners self.old.machine self.old.specials) register (Some slot) other }
         ensures rest { IsUnstepped self.old.machine self.new.machine }
         ensures same { (self.new.objects.count ≡ self.old.objects.count) × (self.new.objects.keeps ≡ self.old.objects.keeps) }
+        ensures asks { self.new.asks ≡ self.old.asks }
     {
         let cap = self.machine.register(register);
         self.objects.count_up(slot);
@@ -159,6 +162,7 @@ impl<M: TaggedStore> RunMachine<M> {
         ensures end { IfErr result (ObjectEnds (run_of self.old.machine self.old.specials self.old.objects) self.old.objects.keeps register) }
         ensures err { OnErr result (run_of self.new.machine self.new.specials self.new.objects
             ≡ run_of self.old.machine self.old.specials self.old.objects) }
+        ensures asks { self.new.asks ≡ self.old.asks }
     {
         if let Some(refusal) = self.object_refusal(register) {
             return Err(RunEnd::Refused(refusal));
@@ -194,6 +198,7 @@ impl<M: TaggedStore> RunMachine<M> {
         ensures end { IfErr result (AgainEnds (run_of self.old.machine self.old.specials self.old.objects) self.old.objects.keeps register number) }
         ensures err { OnErr result (run_of self.new.machine self.new.specials self.new.objects
             ≡ run_of self.old.machine self.old.specials self.old.objects) }
+        ensures asks { self.new.asks ≡ self.old.asks }
     {
         if let Some(refusal) = self.object_refusal(register) {
             return Err(RunEnd::Refused(refusal));
@@ -220,6 +225,7 @@ impl<M: TaggedStore> RunMachine<M> {
         ensures end { IfErr result (WidenEnds (run_of self.old.machine self.old.specials self.old.objects) self.old.objects.keeps register slot) }
         ensures err { OnErr result (run_of self.new.machine self.new.specials self.new.objects
             ≡ run_of self.old.machine self.old.specials self.old.objects) }
+        ensures asks { self.new.asks ≡ self.old.asks }
     {
         let bounds = bounds(self.register(RunRegister::General(register)).word);
         if self.step_limit().is_some() {
@@ -258,6 +264,7 @@ impl<M: TaggedStore> RunMachine<M> {
         requires few { self.old.machine.steps < 2 ^ 32 - 1 }
         ensures frees { Frees (run_of self.old.machine self.old.specials self.old.objects) slot
             (run_of self.new.machine self.new.specials self.new.objects) }
+        ensures asks { self.new.asks ≡ self.old.asks }
     {
         let step = self.machine.steps() + 1;
         self.objects.free(slot, step);
@@ -275,6 +282,7 @@ impl<M: TaggedStore> RunMachine<M> {
         ensures end { IfErr result (FreeNumberEnds (run_of self.old.machine self.old.specials self.old.objects) number) }
         ensures err { OnErr result (run_of self.new.machine self.new.specials self.new.objects
             ≡ run_of self.old.machine self.old.specials self.old.objects) }
+        ensures asks { self.new.asks ≡ self.old.asks }
     {
         match self.objects.live(number) {
             Err(NumberFault::NoObject) => Err(RunEnd::Refused(RunRefusal::NoObject)),
@@ -301,6 +309,7 @@ impl<M: TaggedStore> RunMachine<M> {
         ensures end { IfErr result (FreeEnds (run_of self.old.machine self.old.specials self.old.objects) register) }
         ensures err { OnErr result (run_of self.new.machine self.new.specials self.new.objects
             ≡ run_of self.old.machine self.old.specials self.old.objects) }
+        ensures asks { self.new.asks ≡ self.old.asks }
     {
         let place = RunRegister::General(register);
         if !self.register(place).tag {

@@ -1,6 +1,3 @@
-use Rattle.cap_run.proofs.ObjectNumberLemmas.{handed-number}
-use Rattle.cap_run.proofs.ChangeLemmas.{renumbered}
-use Rattle.cap_run.proofs.MeetLemmas.{extent-room}
 use Rattle.std.proofs.Common.{rules, ◌≡◌, ℕ, ◌+◌, ◌-◌, ◌*◌, ◌<◌, ◌≤◌, length, ◌/◌, ◌%◌, Bool, true, false, nat_eq, nat_lt, List, [], ◌∷◌, ◌++◌, slice_index_or, slice_set, bit_and, bit_or, Fits, w8, w32, w64, Bor, MutBor}
 use Rattle.cap_log.specs.Lines.{IsTarget}
 use Rattle.cap_run_log.specs.declared.lines.RunStep.TheVariants as steps
@@ -9,6 +6,6 @@ use Rattle.cap_run.specs.RunChanges.{run_after}
 use Rattle.cap_run.specs.RunChecks.{Answers, run_end, run_wants}
 use Rattle.cap_run.proofs.run_machine.RunMachine.free_by_number.Goals as goal
 
--- src/numbered_steps.rt:56:5
-pub returns : goal.returns
-returns g c = ?
+-- src/numbered_objects.rt:56:5
+pub returns-clause-outcome : goal.returns-clause-outcome
+returns-clause-outcome g c = ?
