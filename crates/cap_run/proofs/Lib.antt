@@ -12,3 +12,4 @@ mod ChangeLemmas
 mod ObjectNumberLemmas
 mod NumberLemmas
 mod NumberedLemmas
+mod EndLemmas

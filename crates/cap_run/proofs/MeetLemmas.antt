@@ -94,19 +94,20 @@ freed_kept false true true is gone = absurd (false≢true is)
 freed_kept false true false is gone = absurd (false≢true gone)
 freed_kept false false freed is gone = absurd (false≢true is)
 
-neither : (a b : Bool) → a ≡ false → b ≡ false → first_of ((a, Overlaps) ∷ (b, StillHeld) ∷ []) ≡ None
-neither false false is is2 = refl
-neither true b is is2 = absurd (false≢true (sym is))
-neither false true is is2 = absurd (false≢true (sym is2))
+-- the first of two checks that fails
+pub no_check : (a b : Bool) (x y : RunRefusal) → a ≡ false → b ≡ false → first_of ((a, x) ∷ (b, y) ∷ []) ≡ None
+no_check false false x y is is2 = refl
+no_check true b x y is is2 = absurd (false≢true (sym is))
+no_check false true x y is is2 = absurd (false≢true (sym is2))
 
-the_first : (a b : Bool) → a ≡ true → first_of ((a, Overlaps) ∷ (b, StillHeld) ∷ []) ≡ Some Overlaps
-the_first true b is = refl
-the_first false b is = absurd (false≢true is)
+pub first_check : (a b : Bool) (x y : RunRefusal) → a ≡ true → first_of ((a, x) ∷ (b, y) ∷ []) ≡ Some x
+first_check true b x y is = refl
+first_check false b x y is = absurd (false≢true is)
 
-the_second : (a b : Bool) → a ≡ false → b ≡ true → first_of ((a, Overlaps) ∷ (b, StillHeld) ∷ []) ≡ Some StillHeld
-the_second false true is is2 = refl
-the_second true b is is2 = absurd (false≢true (sym is))
-the_second false false is is2 = absurd (false≢true is2)
+pub second_check : (a b : Bool) (x y : RunRefusal) → a ≡ false → b ≡ true → first_of ((a, x) ∷ (b, y) ∷ []) ≡ Some y
+second_check false true x y is is2 = refl
+second_check true b x y is is2 = absurd (false≢true (sym is))
+second_check false false x y is is2 = absurd (false≢true is2)
 
 module _ (run : Run) (objects : Objects) (index : ℕ → Option ℕ) (known : IsIndex number_key objects index)
     (objects_are : run.objects ≡ by_number index objects) (few : (slot : ℕ) (o : Object) → objects slot ≡ Some o → o.number ≤ run.count)
@@ -152,7 +153,7 @@ module _ (run : Run) (objects : Objects) (index : ℕ → Option ℕ) (known : I
       room some slot o there (record { compared = asked.compared; other = asked.other; lives = λ e. absurd (false≢true e) }) met
 
   pub extent-room : HasRoom asks.held left_slot objects base top → extent_end asks run left_number base top ≡ None
-  extent-room room = neither (meets run left_number is_live base top) (asks.held && meets run left_number is_freed base top)
+  extent-room room = no_check (meets run left_number is_live base top) (asks.held && meets run left_number is_freed base top) Overlaps StillHeld
       (no_live (room_live room)) (no_freed room)
 
   pub extent-overlaps : (slot : ℕ) → RefusesExtent asks.held left_slot objects base top (hand.Overlaps slot)
@@ -160,7 +161,7 @@ module _ (run : Run) (objects : Objects) (index : ℕ → Option ℕ) (known : I
   extent-overlaps slot refuses =
       let it = refuses.1 in
       let is_long = (and_parts it.object.long (asks.held || not it.object.freed) it.asked.compared).0 in
-      the_first (meets run left_number is_live base top) (asks.held && meets run left_number is_freed base top)
+      first_check (meets run left_number is_live base top) (asks.held && meets run left_number is_freed base top) Overlaps StillHeld
       (met_in is_live slot it.object it.there it.asked.other (ap not (it.asked.lives refl)) is_long refuses.0 it.meets)
 
   pub extent-held : (slot : ℕ) → RefusesExtent asks.held left_slot objects base top (hand.StillHeld slot)
@@ -174,6 +175,6 @@ module _ (run : Run) (objects : Objects) (index : ℕ → Option ℕ) (known : I
             (record { compared = it.asked.compared; other = it.asked.other; lives = λ asked. live }) it.meets)
       ] in
       let keeps = freed_kept asks.held it.object.long it.object.freed it.asked.compared freed in
-      the_second (meets run left_number is_live base top) (asks.held && meets run left_number is_freed base top)
+      second_check (meets run left_number is_live base top) (asks.held && meets run left_number is_freed base top) Overlaps StillHeld
       (no_live (λ some. refuses.1))
       (both_true keeps (met_in is_freed slot it.object it.there it.asked.other freed is_long refuses.0 it.meets))

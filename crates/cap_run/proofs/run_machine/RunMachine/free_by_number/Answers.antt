@@ -1,3 +1,4 @@
+use Rattle.cap_run.proofs.EndLemmas.{extent-ends}
 use Rattle.std.proofs.Common.{rules, ◌≡◌, ℕ, ◌+◌, ◌-◌, ◌*◌, ◌<◌, ◌≤◌, length, ◌/◌, ◌%◌, Bool, true, false, nat_eq, nat_lt, List, [], ◌∷◌, ◌++◌, slice_index_or, slice_set, bit_and, bit_or, Fits, w8, w32, w64, Bor, MutBor}
 use Rattle.cap_log.specs.Lines.{IsTarget}
 use Rattle.cap_run_log.specs.declared.lines.RunStep.TheVariants as steps
