@@ -13,3 +13,4 @@ mod ObjectNumberLemmas
 mod NumberLemmas
 mod NumberedLemmas
 mod EndLemmas
+mod AnswerLemmas
