@@ -14,10 +14,10 @@ use Rattle.cap_run.specs.declared.{asks.Asks.Asks, ends.{RunEnd.{RunEnd, TheVari
 use Rattle.cap_run.specs.declared.ends.RunRefusal.TheVariants.{AlreadyFreed, NoCapability, NoObject, NoOwner, Usual}
 use Rattle.cap_run.specs.{Numbers.{number_at, numbered, numbered_run}, Owned.AreWithin, Run.Run, RunChanges.{run_after, with_freed}}
 use Rattle.cap_run.specs.RunChecks.{Answers, extent_end, growth_end, number_end, object_end, owner_end, run_end, widen_end}
-use Rattle.cap_run.specs.ObjectSteps.{AgainEnds, ExtentEnds, FreeEnds, FreeNumberEnds, Frees, HandsOut, ObjectEnds, WidenEnds, Widens, object_refusal}
+use Rattle.cap_run.specs.ObjectSteps.{AgainEnds, CanWiden, ExtentEnds, FreeEnds, FreeNumberEnds, Frees, HandsOut, ObjectEnds, WidenEnds, Widens, object_refusal}
 use Rattle.cap_run.specs.{RunOf.{run_of, run_owners, run_state}, RunSteps.{or_later, step_limit}}
-use Rattle.cap_run.proofs.{ChangeLemmas.number-of, NumberedLemmas.numbered-same, ObjectNumberLemmas.{freed-number, handed-number, widened-by_number}}
-use Rattle.cap_run.proofs.EndLemmas.{EndsAs, answers-end, extent-ends, freed-number-end, live-number, number-ends, refusal-number}
+use Rattle.cap_run.proofs.{NumberLemmas.{alone-at, at-number}, ChangeLemmas.number-of, NumberedLemmas.{index_in, numbered-same}, ObjectNumberLemmas.{freed-number, handed-number, widened-by_number}}
+use Rattle.cap_run.proofs.EndLemmas.{EndsAs, answers-end, extent-ends, freed-number-end, later, live-number, number-ends, refusal-number}
 use Rattle.cap_run.proofs.ObjectLemmas.{some_and}
 
 after_none_is : (one two end : Option RunRefusal) → one ≡ None → two ≡ end → or_later one two ≡ end
@@ -25,6 +25,12 @@ after_none_is one two end is is2 = ap (λ (o : Option RunRefusal). or_later o tw
 
 after_some : (one two : Option RunRefusal) (refusal : RunRefusal) → one ≡ Some refusal → or_later one two ≡ Some refusal
 after_some one two refusal is = ap (λ (o : Option RunRefusal). or_later o two) is
+
+-- an option is none, or holds something
+matched : (o : Option RunRefusal) (N : Type 0) (S : RunRefusal → Type 0) → MatchOption o N S
+    → ((o ≡ None) × N) ⊎ ((refusal : RunRefusal) × (o ≡ Some refusal) × S refusal)
+matched None N S is = inl (refl, is)
+matched (Some refusal) N S is = inr (refusal, refl, is)
 
 module _ (held new : Held) (specials sp : Specials) (h after : Handouts) (sized : length specials.labels ≡ 32) (new_sized : length sp.labels ≡ 32)
     (counts : CountsAre (run_owners held specials) (λ n. held_of (objects_of h n)))
@@ -118,3 +124,101 @@ module _ (held new : Held) (specials sp : Specials) (h after : Handouts) (sized 
         )
     free-owner-answers register (Err (Refused refusal)) ok can end err = (owner-freed register refusal end, same err)
     free-owner-answers register (Err NoMemory) ok can end err = absurd end
+
+  refused : (register : ℕ) (refusal : RunRefusal) (rest : Option RunRefusal) (end : RunEnd) → object_refusal (run_of held specials h) register ≡ Some refusal
+      → end ≡ Refused refusal → EndsAs (or_later (object_refusal (numbered_run held specials h) register) rest) end
+  refused register refusal rest end is end_is =
+      subst (EndsAs (or_later (object_refusal (numbered_run held specials h) register) rest)) (sym end_is)
+      (after_some (object_refusal (numbered_run held specials h) register) rest refusal
+      (refusal-number held specials h sized counts asks keeps register ∙ is))
+
+  not_refused : (register : ℕ) → object_refusal (run_of held specials h) register ≡ None → object_refusal (numbered_run held specials h) register ≡ None
+  not_refused register is = refusal-number held specials h sized counts asks keeps register ∙ is
+
+  -- `object cN`
+  pub hand-out-ok : (register slot : ℕ) → HandsOut (run_of held specials h) register slot (run_of new sp after)
+      → (let old = run_of held specials h in let w = (old.state register).word.0 in
+      (object_refusal old register ≡ None) × HasRoom h.keeps None old.objects (base_of w) (top_of w) × (step_limit old ≡ None))
+      → let run = numbered_run held specials h in
+      (run_end asks run (steps.Object register) ≡ None) × (numbered_run new sp after ≡ run_after run (steps.Object register))
+  hand-out-ok register slot hands can =
+      let run = numbered_run held specials h in
+      let w = (run.state register).word.0 in
+      let room = subst (λ (k : Bool). HasRoom k None (objects_of h) (base_of w) (top_of w)) keeps can.1 in (
+        after_none_is (object_refusal run register) _ None (not_refused register can.0)
+            (extent-ends held specials h sized counts asks keeps None None
+            (λ s o is e. absurd (none-some o.number e)) (λ s o is e. absurd (none-some s e)) (base_of w) (top_of w) NoMemory (room, can.2)),
+        handed-number held new specials sp h after sized new_sized counts new_counts register slot hands,
+      )
+
+  pub hand-out-err : (register : ℕ) (end : RunEnd) → ObjectEnds (run_of held specials h) h.keeps register end
+      → run_of new sp after ≡ run_of held specials h
+      → let run = numbered_run held specials h in
+      Answers (run_end asks run (steps.Object register)) (run_after run (steps.Object register)) true run (Err end) (numbered_run new sp after)
+  hand-out-err register end ends is =
+      let run = numbered_run held specials h in
+      let w = (run.state register).word.0 in
+      let rest = or_later (extent_end asks run None (base_of w) (top_of w)) (step_limit run) in
+      answers-end (run_end asks run (steps.Object register)) (run_after run (steps.Object register)) true run (numbered_run new sp after) end
+      (elim (matched (object_refusal (run_of held specials h) register) _ _ ends) [
+        | inl none ↦
+            later (object_refusal run register) rest end (not_refused register none.0)
+            (extent-ends held specials h sized counts asks keeps None None
+            (λ s o is e. absurd (none-some o.number e)) (λ s o is e. absurd (none-some s e)) (base_of w) (top_of w) end
+            (subst (λ (k : Bool). ExtentEnds (run_of held specials h) k None (base_of w) (top_of w) end) keeps none.1))
+        | inr it ↦ refused register it.0 rest end it.1 it.2
+      ]) refl (same is)
+
+  -- an object that is widened, by its number
+  grown : (register number slot : ℕ) (end : RunEnd) (live : IsLive (objects_of h) number slot)
+      → (let w = (run_state held specials register).word.0 in
+      ExtentEnds (run_of held specials h) h.keeps (Some slot) (min live.object.base (base_of w)) (max (top_of_extent live.object) (top_of w)) end)
+      → let run = numbered_run held specials h in
+      EndsAs (or_later (number_end run number)
+      (or_later (option_map_or (growth_end asks run number (run.state register).word.0) (run.objects number) None) (step_limit run))) end
+  grown register number slot end live ends =
+      let run = numbered_run held specials h in
+      let w = (run.state register).word.0 in
+      let o = live.object in
+      let rest = or_later (option_map_or (growth_end asks run number w) (run.objects number) None) (step_limit run) in
+      let there : run.objects number ≡ Some o =
+      ap run.objects (sym live.number) ∙ at-number (objects_of h) (index_in h) h.kept.numbered slot o live.there in
+      later (number_end run number) rest end (live-number held specials h sized counts asks keeps number slot live)
+      (subst (λ (p : Option Object). EndsAs (or_later (option_map_or (growth_end asks run number w) p None) (step_limit run)) end) (sym there)
+      (extent-ends held specials h sized counts asks keeps (Some slot) (Some number)
+      (λ s x is e. ap Some (alone-at (objects_of h) (index_in h) h.kept.numbered slot s o x live.there is (live.number ∙ same_Some number x.number e)))
+      (λ s x is e. ap Some (sym live.number ∙ ap (λ (y : Object). y.number)
+      (same_Some o x (sym live.there ∙ ap (objects_of h) (same_Some slot s e) ∙ is))))
+      (min o.base (base_of w)) (max (top_of_extent o) (top_of w)) end
+      (subst (λ (k : Bool). ExtentEnds (run_of held specials h) k (Some slot) (min o.base (base_of w)) (max (top_of_extent o) (top_of w)) end) keeps ends)))
+
+  -- `object cN K`
+  pub widen-ok : (register number slot : ℕ) → IsLive (objects_of h) number slot → Widens (run_of held specials h) register slot (run_of new sp after)
+      → (let old = run_of held specials h in (object_refusal old register ≡ None) × (step_limit old ≡ None))
+      → CanWiden (run_of held specials h) h.keeps register slot
+      → let run = numbered_run held specials h in
+      (run_end asks run (steps.Widen register number) ≡ None) × (numbered_run new sp after ≡ run_after run (steps.Widen register number))
+  widen-ok register number slot live widens can room =
+      let run = numbered_run held specials h in (
+        after_none_is (object_refusal run register) _ None (not_refused register can.0)
+            (grown register number slot NoMemory live (room live.object live.there, can.1)),
+        widened-by_number held new specials sp h after sized new_sized counts new_counts register number slot live widens,
+      )
+
+  pub widen-err : (register number : ℕ) (end : RunEnd) → AgainEnds (run_of held specials h) h.keeps register number end
+      → run_of new sp after ≡ run_of held specials h
+      → let run = numbered_run held specials h in
+      Answers (run_end asks run (steps.Widen register number)) (run_after run (steps.Widen register number)) true run (Err end) (numbered_run new sp after)
+  widen-err register number end ends is =
+      let run = numbered_run held specials h in
+      let w = (run.state register).word.0 in
+      let growth = or_later (option_map_or (growth_end asks run number w) (run.objects number) None) (step_limit run) in
+      let rest = or_later (number_end run number) growth in
+      answers-end (run_end asks run (steps.Widen register number)) (run_after run (steps.Widen register number)) true run (numbered_run new sp after) end
+      (elim (matched (object_refusal (run_of held specials h) register) _ _ ends) [
+        | inl none ↦ later (object_refusal run register) rest end (not_refused register none.0) (elim none.1 [
+          | inl number_is ↦ number-ends held specials h sized counts asks keeps number growth end number_is
+          | inr wide ↦ grown register number wide.0 end wide.1 (wide.2 wide.1.object wide.1.there)
+        ])
+        | inr it ↦ refused register it.0 rest end it.1 it.2
+      ]) refl (same is)

@@ -29,10 +29,10 @@ pub answers-end : (end : Option RunRefusal) (after : Run) (wants : Bool) (old ne
 answers-end end after wants old new (Refused refusal) is wanted same = (is, same)
 answers-end end after wants old new NoMemory is wanted same = (is, wanted, same)
 
-later : (one two : Option RunRefusal) (end : RunEnd) → one ≡ None → EndsAs two end → EndsAs (or_later one two) end
+pub later : (one two : Option RunRefusal) (end : RunEnd) → one ≡ None → EndsAs two end → EndsAs (or_later one two) end
 later one two end is ends = subst (λ (o : Option RunRefusal). EndsAs (or_later o two) end) (sym is) ends
 
-first : (one two : Option RunRefusal) (refusal : RunRefusal) → one ≡ Some refusal → or_later one two ≡ Some refusal
+pub first : (one two : Option RunRefusal) (refusal : RunRefusal) → one ≡ Some refusal → or_later one two ≡ Some refusal
 first one two refusal is = ap (λ (o : Option RunRefusal). or_later o two) is
 
 none_of : (b : Bool) → (b && false) ≡ false
