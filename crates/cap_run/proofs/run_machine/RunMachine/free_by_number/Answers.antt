@@ -2,7 +2,6 @@ use Rattle.cap_run.proofs.AnswerLemmas.{free-number-answers}
 use Rattle.cap_run.proofs.run_machine.RunMachine.free_by_number.Goals as goal
 use Rattle.std.proofs.Common.{rules}
 
--- src/numbered_objects.rt:56:5
 pub returns-clause-outcome : goal.returns-clause-outcome
 returns-clause-outcome g c =
     let s = c.args.self.now in

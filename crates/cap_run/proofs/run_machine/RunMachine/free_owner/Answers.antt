@@ -1,7 +1,6 @@
 use Rattle.cap_run.proofs.AnswerLemmas.{free-owner-answers}
 use Rattle.cap_run.proofs.run_machine.RunMachine.free_owner.Goals as goal
 
--- src/numbered_objects.rt:56:5
 pub returns-clause-outcome : goal.returns-clause-outcome
 returns-clause-outcome g c =
     let s = c.args.self.now in

@@ -2,7 +2,7 @@ use Rattle.std.proofs.Common.{◌≡◌, ℕ, Some, None, min, max, ap, sym, sub
 use Rattle.cap_word.specs.declared.word.Cap.{Cap}
 use Rattle.cap_bounds.specs.Bounds.{base_of, top_of}
 use Rattle.cap_machine.specs.States.{State}
-use Rattle.cap_objects.specs.{Counts.Owners, declared.objects.Object.Object, Handed.{RefusesExtent, widened}, HandoutsIn.objects_of, Objects.top_of_extent}
+use Rattle.cap_objects.specs.{Counts.Owners, declared.objects.Object.Object, Handed.{HasRoom, RefusesExtent, widened}, HandoutsIn.objects_of, Objects.top_of_extent}
 use Rattle.cap_run.specs.{ObjectSteps.ExtentEnds, Owned.IsWithin, RunOf.run_of, RunSteps.step_limit}
 use Rattle.cap_run.proofs.HandingLemmas.{extent-ended, none_of, refusal-none, run-same}
 use Rattle.cap_run.proofs.{ObjectLemmas.{some_and, to_some_and, widened-grows}, WideningLemmas.{wide-owners, wide-state, widens-empty, widens-long, within-wide}}
@@ -95,3 +95,27 @@ returns-else-from-bounds-clause-ok g c =
     widens-empty s.machine c.widen_object.new.self.machine s.specials c.widen_object.new.self.specials c.in-Ok.ensures.held c.in-Ok.ensures.specials s.objects c.widen_object.new.self.objects
     c.args.register c.args.slot c.bounds-bounds.result.base c.bounds-bounds.result.top base top c.in-Ok.ensures.ok c.in-Ok.ensures.same.0 capable.1
     (λ some. omega (arith, some, c.if-from-bounds.false)) grows
+
+pub returns-then-from-bounds-clause-room : goal.returns-then-from-bounds-clause-room
+returns-then-from-bounds-clause-room g c o there =
+    let s = c.args.self.now in
+    let old = run_of s.machine s.specials s.objects in
+    let base : c.bounds-bounds.result.base ≡ base_of (old.state c.args.register).word.0 =
+    c.bounds-bounds.ensures.base ∙ ap (λ (k : Cap). base_of k.word.0) c.register.ensures.value in
+    let top : c.bounds-bounds.result.top ≡ top_of (old.state c.args.register).word.0 =
+    c.bounds-bounds.ensures.top ∙ ap (λ (k : Cap). top_of k.word.0) c.register.ensures.value in
+    subst (λ (t : ℕ). HasRoom s.objects.keeps (Some c.args.slot) old.objects (min o.base (base_of (old.state c.args.register).word.0)) (max (top_of_extent o) t)) top
+    (subst (λ (b : ℕ). HasRoom s.objects.keeps (Some c.args.slot) old.objects (min o.base b) (max (top_of_extent o) c.bounds-bounds.result.top)) base
+    (c.in-Ok.ensures.room o there))
+
+pub returns-else-from-bounds-clause-room : goal.returns-else-from-bounds-clause-room
+returns-else-from-bounds-clause-room g c o there =
+    let s = c.args.self.now in
+    let old = run_of s.machine s.specials s.objects in
+    let base : c.bounds-bounds.result.base ≡ base_of (old.state c.args.register).word.0 =
+    c.bounds-bounds.ensures.base ∙ ap (λ (k : Cap). base_of k.word.0) c.register.ensures.value in
+    let top : c.bounds-bounds.result.top ≡ top_of (old.state c.args.register).word.0 =
+    c.bounds-bounds.ensures.top ∙ ap (λ (k : Cap). top_of k.word.0) c.register.ensures.value in
+    subst (λ (t : ℕ). HasRoom s.objects.keeps (Some c.args.slot) old.objects (min o.base (base_of (old.state c.args.register).word.0)) (max (top_of_extent o) t)) top
+    (subst (λ (b : ℕ). HasRoom s.objects.keeps (Some c.args.slot) old.objects (min o.base b) (max (top_of_extent o) c.bounds-bounds.result.top)) base
+    (c.in-Ok.ensures.room o there))
