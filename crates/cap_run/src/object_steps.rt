@@ -238,7 +238,7 @@ impl<M: TaggedStore> RunMachine<M> {
         match self.widen_object(slot, bounds.base, bounds.top) {
             Err(fault) => Err(ended(fault)),
             Ok(()) => {
-                if u128::from(bounds.base) < bounds.top {
+                if bounds.top > u128::from(bounds.base) {
                     self.give(register, slot);
                 }
                 Ok(())

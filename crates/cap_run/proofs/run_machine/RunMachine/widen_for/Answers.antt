@@ -33,7 +33,7 @@ give-requires-clause-within g c =
     let set = c.in-Ok.ensures.ok o.0 o.1 in
     to_some_and (objects_of c.widen_object.new.self.objects c.args.slot) _ (widened o.0 c.bounds-bounds.result.base c.bounds-bounds.result.top) set.0
     (subst (λ (st : State). IsWithin (st c.args.register) (widened o.0 c.bounds-bounds.result.base c.bounds-bounds.result.top)) (sym (wide-state s.machine c.widen_object.new.self.machine s.specials c.widen_object.new.self.specials c.in-Ok.ensures.held c.in-Ok.ensures.specials))
-    (within-wide (old.state c.args.register) o.0 c.bounds-bounds.result.base c.bounds-bounds.result.top capable.0 base top (omega (arith, c.if-from-bounds.true))))
+    (within-wide (old.state c.args.register) o.0 c.bounds-bounds.result.base c.bounds-bounds.result.top capable.0 base top (omega (arith, c.if-bounds-from.true))))
 
 pub give-requires-clause-unowned : goal.give-requires-clause-unowned
 give-requires-clause-unowned g c =
@@ -65,8 +65,8 @@ returns-in-Err-clause-err g c =
     run-same s.machine c.widen_object.new.self.machine s.specials c.widen_object.new.self.specials s.objects c.widen_object.new.self.objects e.err_rest
     e.specials e.same.0 e.err
 
-pub returns-then-from-bounds-clause-ok : goal.returns-then-from-bounds-clause-ok
-returns-then-from-bounds-clause-ok g c =
+pub returns-then-bounds-from-clause-ok : goal.returns-then-bounds-from-clause-ok
+returns-then-bounds-from-clause-ok g c =
     let s = c.args.self.now in
     let old = run_of s.machine s.specials s.objects in
     let base : c.bounds-bounds.result.base ≡ base_of (old.state c.args.register).word.0 =
@@ -79,10 +79,10 @@ returns-then-from-bounds-clause-ok g c =
     widens-long s.machine c.widen_object.new.self.machine s.specials c.widen_object.new.self.specials c.in-Ok.ensures.held c.in-Ok.ensures.specials s.objects c.widen_object.new.self.objects
     c.args.register c.args.slot c.bounds-bounds.result.base c.bounds-bounds.result.top base top c.in-Ok.ensures.ok c.in-Ok.ensures.same.0
     c.give.new.self.machine c.give.new.self.specials c.give.new.self.objects c.give.ensures.rest c.give.ensures.same.0 capable.0
-    (omega (arith, c.if-from-bounds.true)) c.give.ensures.objects grows c.give.ensures.state c.give.ensures.owners
+    (omega (arith, c.if-bounds-from.true)) c.give.ensures.objects grows c.give.ensures.state c.give.ensures.owners
 
-pub returns-else-from-bounds-clause-ok : goal.returns-else-from-bounds-clause-ok
-returns-else-from-bounds-clause-ok g c =
+pub returns-else-bounds-from-clause-ok : goal.returns-else-bounds-from-clause-ok
+returns-else-bounds-from-clause-ok g c =
     let s = c.args.self.now in
     let old = run_of s.machine s.specials s.objects in
     let base : c.bounds-bounds.result.base ≡ base_of (old.state c.args.register).word.0 =
@@ -94,10 +94,10 @@ returns-else-from-bounds-clause-ok g c =
     λ o there. (widened-grows o c.bounds-bounds.result.base c.bounds-bounds.result.top).2 in
     widens-empty s.machine c.widen_object.new.self.machine s.specials c.widen_object.new.self.specials c.in-Ok.ensures.held c.in-Ok.ensures.specials s.objects c.widen_object.new.self.objects
     c.args.register c.args.slot c.bounds-bounds.result.base c.bounds-bounds.result.top base top c.in-Ok.ensures.ok c.in-Ok.ensures.same.0 capable.1
-    (λ some. omega (arith, some, c.if-from-bounds.false)) grows
+    (λ some. omega (arith, some, c.if-bounds-from.false)) grows
 
-pub returns-then-from-bounds-clause-room : goal.returns-then-from-bounds-clause-room
-returns-then-from-bounds-clause-room g c o there =
+pub returns-then-bounds-from-clause-room : goal.returns-then-bounds-from-clause-room
+returns-then-bounds-from-clause-room g c o there =
     let s = c.args.self.now in
     let old = run_of s.machine s.specials s.objects in
     let base : c.bounds-bounds.result.base ≡ base_of (old.state c.args.register).word.0 =
@@ -108,8 +108,8 @@ returns-then-from-bounds-clause-room g c o there =
     (subst (λ (b : ℕ). HasRoom s.objects.keeps (Some c.args.slot) old.objects (min o.base b) (max (top_of_extent o) c.bounds-bounds.result.top)) base
     (c.in-Ok.ensures.room o there))
 
-pub returns-else-from-bounds-clause-room : goal.returns-else-from-bounds-clause-room
-returns-else-from-bounds-clause-room g c o there =
+pub returns-else-bounds-from-clause-room : goal.returns-else-bounds-from-clause-room
+returns-else-bounds-from-clause-room g c o there =
     let s = c.args.self.now in
     let old = run_of s.machine s.specials s.objects in
     let base : c.bounds-bounds.result.base ≡ base_of (old.state c.args.register).word.0 =
