@@ -16,7 +16,7 @@ use Rattle.cap_run.specs.{Numbers.{number_at, numbered, numbered_run}, Owned.Are
 use Rattle.cap_run.specs.RunChecks.{Answers, extent_end, growth_end, number_end, object_end, owner_end, run_end, widen_end}
 use Rattle.cap_run.specs.ObjectSteps.{AgainEnds, CanWiden, ExtentEnds, FreeEnds, FreeNumberEnds, Frees, HandsOut, ObjectEnds, WidenEnds, Widens, object_refusal}
 use Rattle.cap_run.specs.{RunOf.{run_of, run_owners, run_state}, RunSteps.{or_later, step_limit}}
-use Rattle.cap_run.proofs.{NumberLemmas.{alone-at, at-number}, ChangeLemmas.number-of, NumberedLemmas.{index_in, numbered-same}, ObjectNumberLemmas.{freed-number, handed-number, widened-by_number}}
+use Rattle.cap_run.proofs.{NumberLemmas.{alone-at, at-number}, ChangeLemmas.number-of, RunNumberLemmas.{index_in, numbered-same}, ObjectNumberLemmas.{freed-number, handed-number, widened-by_number}}
 use Rattle.cap_run.proofs.EndLemmas.{EndsAs, answers-end, extent-ends, freed-number-end, later, live-number, number-ends, refusal-number}
 use Rattle.cap_run.proofs.ObjectLemmas.{some_and}
 

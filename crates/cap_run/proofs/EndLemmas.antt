@@ -16,7 +16,7 @@ use Rattle.cap_run.specs.{Numbers.{by_number, number_at, numbered, numbered_run}
 use Rattle.cap_run.specs.ObjectSteps.{ExtentEnds, FreeEnds, NumberEnds, is_capability, object_refusal}
 use Rattle.cap_run.specs.{RunOf.{run_of, run_owners, run_state}, RunSteps.{or_later, step_limit}}
 use Rattle.cap_run.proofs.{ChangeLemmas.number-of, MeetLemmas.{extent-held, extent-overlaps, extent-room, first_check, no_check, second_check}, NumberLemmas.{alone-at, at-number, slot-of}}
-use Rattle.cap_run.proofs.{NumberedLemmas.index_in, ObjectLemmas.{owner-there, some_and}}
+use Rattle.cap_run.proofs.{RunNumberLemmas.index_in, ObjectLemmas.{owner-there, some_and}}
 
 -- what an end says of the refusal that a step ends with
 abbrev pub EndsAs : Option RunRefusal → RunEnd → Type 0

@@ -11,6 +11,8 @@ mod MeetLemmas
 mod ChangeLemmas
 mod ObjectNumberLemmas
 mod NumberLemmas
-mod NumberedLemmas
 mod EndLemmas
 mod AnswerLemmas
+mod RunNumberLemmas
+mod GranuleLemmas
+mod RootLemmas

@@ -13,7 +13,7 @@ use Rattle.cap_objects.proofs.KeyLemmas.{choice_under}
 use Rattle.cap_run_log.specs.declared.lines.RunStep.TheVariants as steps
 use Rattle.cap_run.specs.{declared.specials.Specials.Specials, Numbers.{by_number, number_at, numbered, numbered_run}, ObjectSteps.{Frees, HandsOut, Widens, first_holders}}
 use Rattle.cap_run.specs.{Owned.{is_empty, owner_for}, Run.Run, RunChanges.{counted, run_after, with_freed}, RunOf.{run_of, run_owners, run_state}}
-use Rattle.cap_run.proofs.{ChangeLemmas.{counted-put, kept-by, number-of, present-by, renumbered}, NumberLemmas.{alone-at, at-number}, NumberedLemmas.run-is}
+use Rattle.cap_run.proofs.{ChangeLemmas.{counted-put, kept-by, number-of, present-by, renumbered}, NumberLemmas.{alone-at, at-number}, RunNumberLemmas.run-is}
 use Rattle.cap_run.proofs.{ObjectLemmas.{kept_some, owner-there, some_and}, OwnerLemmas.either-key}
 
 -- owners by number after an object got one place more

@@ -1,6 +1,6 @@
 use Rattle.std.proofs.Common.{Bool, subst}
 use Rattle.cap_run.specs.{Numbers.numbered_run, Safety.IsSafe}
-use Rattle.cap_run.proofs.{SafetyLemmas.safe-kept, NumberedLemmas.safe-numbered}
+use Rattle.cap_run.proofs.{SafetyLemmas.safe-kept, RunNumberLemmas.safe-numbered}
 use Rattle.cap_run.proofs.run_machine.RunMachine.kept.Goals as goal
 
 pub returns : goal.returns

@@ -4,7 +4,7 @@ use Rattle.cap_machine.specs.{Accounts.Account, Helds.{account_of, state_of}, Pl
 use Rattle.cap_objects.specs.{Counts.{is_owner, most_places}, Handed.held_of, HandoutsIn.objects_of}
 use Rattle.cap_objects.proofs.BelowLemmas.{below-none}
 use Rattle.cap_run.specs.{Numbers.{number_at, numbered_run}, Owned.object_by, RunChanges.no_run, RunOf.run_owners, Specials.{cap_in, label_in}}
-use Rattle.cap_run.proofs.{NumberedLemmas.{index_in, nowhere, run-is}, PlaceLemmas.{specials-all}}
+use Rattle.cap_run.proofs.{RunNumberLemmas.{index_in, nowhere, run-is}, PlaceLemmas.{specials-all}}
 use Rattle.cap_run.proofs.run_machine.RunMachine.new.Goals as goal
 
 pub returns-clause-run : goal.returns-clause-run

@@ -7,13 +7,13 @@ use Rattle.std.proofs.Math.Path.{fun_ext}
 use Rattle.std.specs.Prelude.{Result, Ok, Err, MatchResult, OnErr, option_map}
 use Rattle.std.proofs.lemmas.{Bool.{false≢true}, Option.{none-some, same_Some}}
 use Rattle.cap_word.specs.declared.word.Cap.{Cap}
-use Rattle.cap_machine.specs.{declared.rules.Rules.Rules, Helds.Held, States.{State, put}}
+use Rattle.cap_machine.specs.{declared.rules.Rules.Rules, Helds.Held, States.{State, granule_key, put}}
 use Rattle.cap_objects.specs.Counts.{CountsAre, Owners, at_key}
 use Rattle.cap_objects.specs.{declared.{handouts.Handouts.Handouts, objects.Object.Object}, Extents.Objects, Handed.{IsRecounted, held_of}, HandoutsIn.objects_of}
 use Rattle.cap_objects.specs.Indexes.{IsIndex, number_key}
 use Rattle.cap_objects.proofs.KeyLemmas.{at-same, choice_under}
 use Rattle.cap_run.specs.declared.{ends.{RunEnd.{RunEnd, TheVariants.{NoMemory, Refused}}, RunRefusal.RunRefusal}, specials.Specials.Specials}
-use Rattle.cap_run.specs.{Numbers.{by_number, number_at, numbered, numbered_run}, Owned.{is_empty, owner_for}, Run.Run, RunChanges.{counted, stepped, with_place}}
+use Rattle.cap_run.specs.{Numbers.{by_number, number_at, numbered, numbered_run}, Owned.{is_empty, owner_for}, Run.Run, GranuleSteps.Fills, RunChanges.{counted, stepped, with_named, with_place}}
 use Rattle.cap_run.specs.{RunChecks.Answers, RunOf.{run_of, run_owners, run_state}, RunSteps.{IsRefusedAs, Writes, WritesBoth}, Safety.IsSafe}
 use Rattle.cap_run.proofs.{NumberLemmas.{alone-at, at-number, owned-number, owner-of, recounted-numbers, renumbered, slot-of}, ObjectLemmas.owner-there}
 
@@ -30,6 +30,13 @@ run-is a b state owners objects count rules roots steps is_named granules =
     ∙ ap (λ (x : ℕ). record b { steps = x; is_named = a.is_named; granules = a.granules }) steps
     ∙ ap (λ (x : ℕ → Bool). record b { is_named = x; granules = a.granules }) is_named
     ∙ ap (λ (x : ℕ). record b { granules = x }) granules
+
+owner_for-none : (cap : Cap) → owner_for cap None ≡ None
+owner_for-none held = same-choice (held.tag && not (is_empty held.word.0)) None
+    where
+  same-choice : (b : Bool) (o : Option ℕ) → (if b then o else o) ≡ o
+  same-choice true o = refl
+  same-choice false o = refl
 
 -- the index of a machine's objects by their numbers
 abbrev pub index_in : Handouts → ℕ → Option ℕ
@@ -96,38 +103,53 @@ module _ (held new : Held) (specials sp : Specials) (h after : Handouts) (sized 
       ∙ ap (counted (by_number (index_in h) (objects_of h))) is
 
   -- a place was written
-  pub writes-numbered : (key from : ℕ) (cap : Cap) → Writes (run_of held specials h) key cap (owner_for cap (run_owners held specials from)) (run_of new sp after)
-      → numbered_run new sp after ≡ (let run = numbered_run held specials h in stepped (with_place run key cap (run.owners from)))
-  writes-numbered key from cap w =
+  pub writes-numbered : (key : ℕ) (owner : Option ℕ) (cap : Cap) → Writes (run_of held specials h) key cap (owner_for cap owner) (run_of new sp after)
+      → numbered_run new sp after ≡ stepped (with_place (numbered_run held specials h) key cap (option_and_then (number_at (objects_of h)) owner))
+  writes-numbered key owner cap w =
       let old = numbered_run held specials h in
-      let goal = stepped (with_place old key cap (old.owners from)) in
+      let f = number_at (objects_of h) in
+      let goal = stepped (with_place old key cap (option_and_then f owner)) in
       let owners : numbered (objects_of after) (run_owners new sp) ≡ goal.owners =
       owners-after w.objects
-      ∙ fun_ext (λ k. ap (option_and_then (number_at (objects_of h))) (w.owners k)
-      ∙ numbered-put (number_at (objects_of h)) (run_owners held specials) key cap (run_owners held specials from) k)
-      ∙ ap (λ (c : Cap). put old.owners key (owner_for c (old.owners from))) (sym (at-same (run_state held specials) key cap)) in
+      ∙ fun_ext (λ k. ap (option_and_then f) (w.owners k) ∙ numbered-put f (run_owners held specials) key cap owner k)
+      ∙ ap (λ (c : Cap). put old.owners key (owner_for c (option_and_then f owner))) (sym (at-same (run_state held specials) key cap)) in
       run-is (numbered_run new sp after) goal w.state owners (objects-after goal.owners owners w.objects)
       w.rest.count w.rest.rules w.rest.roots w.rest.steps w.rest.is_named w.rest.granules
 
-  -- two places were
-  pub both-numbered : (first from second second_from : ℕ) (one two : Cap)
-      → WritesBoth (run_of held specials h) first one (owner_for one (run_owners held specials from)) second two (owner_for two (run_owners held specials second_from))
-      (run_of new sp after)
-      → numbered_run new sp after ≡ (let run = numbered_run held specials h in
-      stepped (with_place (with_place run first one (run.owners from)) second two (run.owners second_from)))
-  both-numbered first from second second_from one two w =
+  -- a granule was filled
+  pub fills-numbered : (granule : ℕ) (cap : Cap) → Fills (run_of held specials h) granule cap (run_of new sp after)
+      → numbered_run new sp after ≡ stepped (with_place (with_named (numbered_run held specials h) (Some granule)) (granule_key granule) cap None)
+  fills-numbered granule cap w =
       let old = numbered_run held specials h in
-      let goal = stepped (with_place (with_place old first one (old.owners from)) second two (old.owners second_from)) in
       let f = number_at (objects_of h) in
-      let mid = put old.owners first (owner_for one (old.owners from)) in
+      let key = granule_key granule in
+      let goal = stepped (with_place (with_named old (Some granule)) key cap None) in
+      let owners : numbered (objects_of after) (run_owners new sp) ≡ goal.owners =
+      owners-after w.objects
+      ∙ fun_ext (λ k. ap (option_and_then f) (w.owners k) ∙ choice_under (option_and_then f) (key == k) None (run_owners held specials k))
+      ∙ ap (λ (o : Option ℕ). put old.owners key o) (sym (owner_for-none (put (run_state held specials) key cap key))) in
+      run-is (numbered_run new sp after) goal w.state owners (objects-after goal.owners owners w.objects)
+      w.count w.rules w.roots w.steps w.is_named w.granules
+
+  -- two places were
+  pub both-numbered : (first second : ℕ) (owner second_owner : Option ℕ) (one two : Cap)
+      → WritesBoth (run_of held specials h) first one (owner_for one owner) second two (owner_for two second_owner) (run_of new sp after)
+      → numbered_run new sp after ≡ (let f = number_at (objects_of h) in
+      stepped (with_place (with_place (numbered_run held specials h) first one (option_and_then f owner)) second two (option_and_then f second_owner)))
+  both-numbered first second owner second_owner one two w =
+      let old = numbered_run held specials h in
+      let f = number_at (objects_of h) in
+      let a = option_and_then f owner in
+      let b = option_and_then f second_owner in
+      let goal = stepped (with_place (with_place old first one a) second two b) in
+      let mid = put old.owners first (owner_for one a) in
       let owners : numbered (objects_of after) (run_owners new sp) ≡ goal.owners =
       owners-after w.objects
       ∙ fun_ext (λ k. ap (option_and_then f) (w.owners k)
-      ∙ numbered-put f (at_key (run_owners held specials) first (owner_for one (run_owners held specials from))) second two (run_owners held specials second_from) k
-      ∙ ap (λ (o : Option ℕ). if second == k then owner_for two (old.owners second_from) else o)
-      (numbered-put f (run_owners held specials) first one (run_owners held specials from) k))
-      ∙ ap (λ (c : Cap). put mid second (owner_for c (old.owners second_from))) (sym (at-same (put (run_state held specials) first one) second two))
-      ∙ ap (λ (c : Cap). put (put old.owners first (owner_for c (old.owners from))) second (owner_for (put (put (run_state held specials) first one) second two second) (old.owners second_from)))
+      ∙ numbered-put f (at_key (run_owners held specials) first (owner_for one owner)) second two second_owner k
+      ∙ ap (λ (o : Option ℕ). if second == k then owner_for two b else o) (numbered-put f (run_owners held specials) first one owner k))
+      ∙ ap (λ (c : Cap). put mid second (owner_for c b)) (sym (at-same (put (run_state held specials) first one) second two))
+      ∙ ap (λ (c : Cap). put (put old.owners first (owner_for c a)) second (owner_for (put (put (run_state held specials) first one) second two second) b))
       (sym (at-same (run_state held specials) first one)) in
       run-is (numbered_run new sp after) goal w.state owners (objects-after goal.owners owners w.objects)
       w.rest.count w.rest.rules w.rest.roots w.rest.steps w.rest.is_named w.rest.granules

@@ -1,4 +1,4 @@
-//! Steps of runs that hand out objects, widen them and free them, where objects are told by their numbers.
+//! What the steps on objects make of a run, where objects are told by their numbers.
 
 ghost use Rattle.std.specs.Prelude.{◌≡◌};
 ghost use Rattle.cap_log.specs.Lines.{IsTarget};
