@@ -11,6 +11,7 @@ mod asks;
 mod ends;
 mod granule_steps;
 mod lines;
+mod object_lines;
 mod object_steps;
 mod puts;
 mod register_steps;

@@ -8,7 +8,7 @@ ghost use Rattle.cap_objects.specs.{Counts.at_key, Extents.Sets, HandoutsIn.obje
 ghost use Rattle.cap_objects.specs.declared.objects.Object.{Object as ObjectIn};
 ghost use Rattle.cap_run.specs.declared.ends.RunRefusal.TheVariants.{Usual};
 ghost use Rattle.cap_ops.specs.declared.refusal.Refusal.TheVariants.{LimitPassed};
-ghost use Rattle.cap_run.specs.{ObjectSteps.{AgainEnds, ExtentEnds, FreeEnds, FreeNumberEnds, Frees, HandsOut, ObjectEnds, WidenEnds, Widens, ended, is_capability, object_refusal}, Owned.IsWithin};
+ghost use Rattle.cap_run.specs.{ObjectSteps.{AgainEnds, CanWiden, ExtentEnds, FreeEnds, FreeNumberEnds, Frees, HandsOut, ObjectEnds, WidenEnds, Widens, ended, is_capability, object_refusal}, Owned.IsWithin};
 ghost use Rattle.cap_run.specs.{RunOf.{run_of, run_owners, run_state}, RunSteps.{IsUnstepped, step_limit}};
 
 use crate::ends::{RunEnd, RunRefusal};
@@ -77,6 +77,8 @@ impl<M: TaggedStore> RunMachine<M> {
         requires few { self.old.machine.steps < 2 ^ 32 - 1 }
         ensures ok { OnOk result ((object : ObjectIn) → objects_of self.old.objects slot ≡ Some object
             → Sets (objects_of self.old.objects) slot (Some (widened object base top)) (objects_of self.new.objects)) }
+        ensures room { OnOk result ((object : ObjectIn) → objects_of self.old.objects slot ≡ Some object
+            → HasRoom self.old.objects.keeps (Some slot) (objects_of self.old.objects) (min object.base base) (max (top_of_extent object) top)) }
         ensures held { OnOk result (self.new.machine ≡ record self.old.machine { steps = self.old.machine.steps + 1 }) }
         ensures specials { self.new.specials ≡ self.old.specials }
         ensures fault { IfErr result (λ fault. (object : ObjectIn) → objects_of self.old.objects slot ≡ Some object
@@ -195,6 +197,7 @@ impl<M: TaggedStore> RunMachine<M> {
             (run_of self.new.machine self.new.specials self.new.objects)) }
         ensures can { OnOk result (let old = run_of self.old.machine self.old.specials self.old.objects in
             (object_refusal old register ≡ None) × (step_limit old ≡ None)) }
+        ensures room { IfOk result (CanWiden (run_of self.old.machine self.old.specials self.old.objects) self.old.objects.keeps register) }
         ensures end { IfErr result (AgainEnds (run_of self.old.machine self.old.specials self.old.objects) self.old.objects.keeps register number) }
         ensures err { OnErr result (run_of self.new.machine self.new.specials self.new.objects
             ≡ run_of self.old.machine self.old.specials self.old.objects) }
@@ -222,6 +225,7 @@ impl<M: TaggedStore> RunMachine<M> {
         ensures ok { OnOk result (Widens (run_of self.old.machine self.old.specials self.old.objects) register slot
             (run_of self.new.machine self.new.specials self.new.objects)) }
         ensures few { OnOk result (step_limit (run_of self.old.machine self.old.specials self.old.objects) ≡ None) }
+        ensures room { OnOk result (CanWiden (run_of self.old.machine self.old.specials self.old.objects) self.old.objects.keeps register slot) }
         ensures end { IfErr result (WidenEnds (run_of self.old.machine self.old.specials self.old.objects) self.old.objects.keeps register slot) }
         ensures err { OnErr result (run_of self.new.machine self.new.specials self.new.objects
             ≡ run_of self.old.machine self.old.specials self.old.objects) }
@@ -234,7 +238,7 @@ impl<M: TaggedStore> RunMachine<M> {
         match self.widen_object(slot, bounds.base, bounds.top) {
             Err(fault) => Err(ended(fault)),
             Ok(()) => {
-                if u128::from(bounds.base) < bounds.top {
+                if bounds.top > u128::from(bounds.base) {
                     self.give(register, slot);
                 }
                 Ok(())
