@@ -17,3 +17,4 @@ mod RunNumberLemmas
 mod GranuleLemmas
 mod RootLemmas
 mod UsualNumberLemmas
+mod AskedLemmas

@@ -235,7 +235,7 @@ module _ (held new : Held) (specials : Specials) (h after : Handouts) (step : St
 abbrev pub asks_nothing : Asks → Asks
 asks_nothing asks = record asks { used = false; owned = false }
 
-abbrev usual_check : Bool × Refusal → Bool × RunRefusal
+abbrev pub usual_check : Bool × Refusal → Bool × RunRefusal
 usual_check check = (check.0, Usual check.1)
 
 -- a failed check of an access that isn't asked is passed over
@@ -244,7 +244,7 @@ passed : (checks : List (Bool × RunRefusal)) (x y : RunRefusal) (one two : Bool
 passed [] x y one two rest = refl
 passed (check ∷ checks) x y one two rest = ap (λ (o : Option RunRefusal). if check.0 then Some check.1 else o) (passed checks x y one two rest)
 
-abbrev last_checks : Account → Step → List (Bool × Refusal)
+abbrev pub last_checks : Account → Step → List (Bool × Refusal)
 last_checks account step =
     let row = row_in account step in
     (not (agrees row.writes row.records), WrongResult)

@@ -7,6 +7,7 @@
 //! ([`RunMachine::kept`]).
 #![tactic(auto)]
 
+mod asked_steps;
 mod asks;
 mod ends;
 mod granule_steps;

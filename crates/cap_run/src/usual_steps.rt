@@ -1,6 +1,6 @@
 //! The steps of version 2 in a run.
 
-ghost use Rattle.std.specs.Prelude.{◌≡◌, ◌<◌, ◌^◌, ℕ, None, Some, false, IfSome, MatchResult, OnErr};
+ghost use Rattle.std.specs.Prelude.{◌≡◌, ◌<◌, ◌^◌, ℕ, None, Some, false, IfNone, IfSome, MatchResult, OnErr};
 ghost use Rattle.cap_log.specs.declared.lines.Place.TheVariants as PlaceIn;
 ghost use Rattle.cap_machine.specs.Steps.{granule_through};
 ghost use Rattle.cap_run.specs.{Numbers.numbered_run, RunChanges.usual_after, RunChecks.{Answers, usual_end, usual_wants}};
@@ -9,7 +9,7 @@ ghost use Rattle.cap_machine.specs.Helds.{EndsStep, state_of};
 ghost use Rattle.cap_objects.specs.HandoutsIn.{objects_of};
 ghost use Rattle.cap_run.specs.{RunSteps.IsUnstepped, UsualSteps.{MakesUsual, disowned, main_owners, owner_at, written_by}};
 
-use crate::ends::RunEnd;
+use crate::ends::{RunEnd, RunRefusal};
 use crate::lines::usual_ended;
 use crate::puts::is_empty;
 use crate::run_machine::{RunMachine, slot_by};
@@ -89,6 +89,40 @@ fn written_by<M: TaggedStore>(machine: &Machine<M>, step: &Step) -> Option<Place
 }
 
 impl<M: TaggedStore> RunMachine<M> {
+    /// Makes a step of version 2 and counts it. It is refused for the first of these: a check of its operation or access
+    /// fails, where in clear mode those of operations on registers don't refuse it; if that is asked, a freed object owns
+    /// the authority of its access (`OwnerFreed`), or none does and it touches a byte of a live object (`NotOwned`); the
+    /// line records another result than the machine's (`WrongResult`); there are 4,294,967,295 steps, or it names a granule
+    /// past the limit (`LimitPassed`). `NoMemory` comes only at a granule named for the first time. After an error nothing
+    /// has changed.
+    pub fn make_usual(&mut self, step: &Step) -> Result<(), RunEnd>
+        requires { IsStepInRange step.now }
+        ensures outcome { let old = numbered_run self.old.machine self.old.specials self.old.objects in
+            Answers (usual_end self.old.asks old step.now) (usual_after old step.now) (usual_wants old step.now) old result
+            (numbered_run self.new.machine self.new.specials self.new.objects) }
+        ensures asks { self.new.asks ≡ self.old.asks }
+    {
+        if let Some(refusal) = self.asked_if(step) {
+            return Err(RunEnd::Refused(refusal));
+        }
+        self.usual(step)
+    }
+
+    // Why what is asked refuses a step that its own checks permit: nothing, where nothing is asked.
+    #[inline(always)]
+    fn asked_if(&self, step: &Step) -> Option<RunRefusal>
+        requires { IsStepInRange step.now }
+        ensures some { IfSome result (λ refusal.
+            usual_end self.now.asks (numbered_run self.now.machine self.now.specials self.now.objects) step.now ≡ Some refusal) }
+        ensures none { IfNone result (let run = numbered_run self.now.machine self.now.specials self.now.objects in
+            usual_end self.now.asks run step.now ≡ usual_end (record self.now.asks { used = false; owned = false }) run step.now) }
+    {
+        if !self.asks.used && !self.asks.owned {
+            return None;
+        }
+        self.asked_refusal(step)
+    }
+
     // Makes a step of version 2, where nothing is asked of its access.
     fn usual(&mut self, step: &Step) -> Result<(), RunEnd>
         requires { IsStepInRange step.now }
