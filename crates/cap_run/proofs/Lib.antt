@@ -18,3 +18,4 @@ mod GranuleLemmas
 mod RootLemmas
 mod UsualNumberLemmas
 mod AskedLemmas
+mod AloneLemmas

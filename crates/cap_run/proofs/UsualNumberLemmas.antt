@@ -92,6 +92,21 @@ parent-low state (StoreCap step) place range is = by_register step.source place 
 parent-low state (Load step) place range is = absurd (none-some place is)
 parent-low state (Store step) place range is = absurd (none-some place is)
 
+-- the place that a step writes is a register but c0, or a granule
+pub written-low : (held : Held) (step : Step) → IsStepInRange step → IfSome (written_by held step) IsPlace
+written-low held (Move step) range = range.0
+written-low held (ClearTag step) range = range.0
+written-low held (SetBounds step) range = range.0
+written-low held (SetBoundsExact step) range = range.0
+written-low held (SetAddr step) range = range.0
+written-low held (AndPerm step) range = range.0
+written-low held (Seal step) range = range.0
+written-low held (Unseal step) range = range.0
+written-low held (LoadCap step) range = range.0
+written-low held (StoreCap step) range = address_low (state_of held step.authority).word.0 step.offset
+written-low held (Load step) range = tt
+written-low held (Store step) range = address_low (state_of held step.authority).word.0 step.offset
+
 -- the parent of a place that a step writes, and of another
 parent_in : (writes : Option (Place × Cap)) (tag : Bool) (parent : Option Place) (key from : ℕ)
     → (if option_map_or (λ (to : Place × Cap). key_of to.0 == key) writes false then (if tag then option_map key_of parent else None) else Some key) ≡ Some from

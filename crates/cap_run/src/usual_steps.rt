@@ -132,15 +132,48 @@ impl<M: TaggedStore> RunMachine<M> {
         ensures asks { self.new.asks ≡ self.old.asks }
     {
         self.machine.kept();
-        let written = written_by(&self.machine, step);
-        match self.step(step, written) {
+        match self.step_with_owners(step) {
             Ok(()) => Ok(()),
             Err(end) => Err(usual_ended(end)),
         }
     }
 
+    // Makes a step as the machine without objects does, with the owners that places then have.
+    #[inline(always)]
+    fn step_with_owners(&mut self, step: &Step) -> Result<(), StepEnd>
+        requires { IsStepInRange step.now }
+        ensures outcome { MatchResult result
+            (λ _. MakesUsual self.old.machine (objects_of self.old.objects) step.now self.new.machine (objects_of self.new.objects))
+            (λ end. EndsStep self.old.machine step.now end self.new.machine) }
+        ensures specials { self.new.specials ≡ self.old.specials }
+        ensures err { OnErr result (self.new.objects ≡ self.old.objects) }
+        ensures count { self.new.objects.count ≡ self.old.objects.count }
+        ensures asks { self.new.asks ≡ self.old.asks }
+    {
+        if self.objects.count() == 0 {
+            return self.step_alone(step);
+        }
+        let written = written_by(&self.machine, step);
+        self.step(step, written)
+    }
+
+    // The same where no object was handed out, so that no place has an owner.
+    #[inline(always)]
+    fn step_alone(&mut self, step: &Step) -> Result<(), StepEnd>
+        requires none { self.old.objects.count ≡ 0 }
+        requires range { IsStepInRange step.now }
+        ensures outcome { MatchResult result
+            (λ _. MakesUsual self.old.machine (objects_of self.old.objects) step.now self.new.machine (objects_of self.new.objects))
+            (λ end. EndsStep self.old.machine step.now end self.new.machine) }
+        ensures rest { (self.new.specials ≡ self.old.specials) × (self.new.objects ≡ self.old.objects) }
+        ensures asks { self.new.asks ≡ self.old.asks }
+    {
+        self.machine.kept();
+        self.machine.step(step)
+    }
+
     /// Makes a step of version 2, which writes this place, if any, as the machine without objects does.
-    pub fn step(&mut self, step: &Step, written: Option<Place>) -> Result<(), StepEnd>
+    pub(crate) fn step(&mut self, step: &Step, written: Option<Place>) -> Result<(), StepEnd>
         requires written { written ≡ written_by self.old.machine step.now }
         requires in_range { IfSome written IsPlace }
         requires range { IsStepInRange step.now }
