@@ -1,7 +1,7 @@
 -- Owners, their counts and what they own after a step of version 2.
 use Rattle.std.specs.FinMap as map
 use Rattle.std.proofs.Common.{◌≡◌, ◌≢◌, ◌==◌, ◌-◌, ◌<◌, ◌≤◌, ◌^◌, ℕ, Bool, true, false, IsTrue, Some, None, Option, inl, inr}
-use Rattle.std.proofs.Common.{if◌then◌else◌, nat_lt, le-ltb, lt-ltb, ne_eqb, refl, sym, ap, subst, ◌∙◌, arith, option_map, option_and_then, unwrap_or, IfSome}
+use Rattle.std.proofs.Common.{if◌then◌else◌, is_some, nat_lt, le-ltb, lt-ltb, ne_eqb, refl, sym, ap, subst, ◌∙◌, arith, option_map, option_and_then, unwrap_or, IfSome}
 use Rattle.std.specs.Option.{option_map_or}
 use Rattle.std.proofs.Math.Path.{fun_ext}
 use Rattle.std.proofs.lemmas.{Bool.{cases_lt, cond-true, cond-false}, Option.{none-some, same_Some}}
@@ -9,7 +9,7 @@ use Rattle.cap_word.specs.declared.word.Cap.{Cap}
 use Rattle.cap_bounds.specs.Bounds.{IsInside, base_of, top_of}
 use Rattle.cap_log.specs.{declared.{kinds.Step.Step, lines.Place.{Place, TheVariants.{Register, Granule}}}, Lines.{IsPlace, IsStepInRange}}
 use Rattle.tagmem.specs.Granules.{AreStored, Entry, Granules, blank}
-use Rattle.cap_machine.specs.{Accounts.Account, declared.ends.StepEnd.{StepEnd, TheVariants.{Refused, NoMemory}}}
+use Rattle.cap_machine.specs.{Accounts.Account, declared.{ends.StepEnd.{StepEnd, TheVariants.{Refused, NoMemory}}, rules.Rules.Rules}}
 use Rattle.cap_machine.specs.Helds.{EndsStep, Held, IsKept, Makes, account_of, code_in, state_of}
 use Rattle.cap_machine.specs.{Places.{IsCoded, place_at}, Runs.parent_of, States.{State, key_of}, Steps.row_of}
 use Rattle.cap_machine.proofs.AuthorityLemmas.{one_back}
@@ -18,7 +18,7 @@ use Rattle.cap_objects.specs.{Extents.Objects, Handed.{IsRecounted, held_of}}
 use Rattle.cap_objects.proofs.BelowLemmas.{below-same, counts_where}
 use Rattle.cap_run.specs.declared.specials.Specials.{Specials}
 use Rattle.cap_run.specs.{Owned.{AreWithin, IsWithin, object_by, owner_for}, Run.{first_special}, RunOf.{run_owners, run_state}}
-use Rattle.cap_run.specs.{Specials.{cap_in, label_in}, UsualSteps.{disowned, main_owners, owner_at, written_by}}
+use Rattle.cap_run.specs.{Specials.{cap_in, label_in}, RunSteps.IsUnstepped, UsualSteps.{disowned, main_owners, owner_at, written_by}}
 use Rattle.cap_run.proofs.OwnerLemmas.{counts-to, either-key, owner_for-some, within-came}
 
 pub usual-ended : (old : Held) (step : Step) (end : StepEnd) (new : Held) → EndsStep old step end new → new ≡ old
@@ -35,13 +35,13 @@ coded_tag true code slot coded is = refl
 coded_tag false code slot coded is = absurd (none-some slot (sym (ap (λ (c : ℕ). object_by (place_at c)) (coded.0.1 refl)) ∙ is))
 
 -- the parent of a place that isn't written is itself
-own_parent : (writes : Option (Place × Cap)) (key : ℕ) (other : Option ℕ)
+pub own_parent : (writes : Option (Place × Cap)) (key : ℕ) (other : Option ℕ)
     → ((place : Place) → option_map (λ (w : Place × Cap). w.0) writes ≡ Some place → key_of place ≢ key)
     → (if option_map_or (λ (to : Place × Cap). key_of to.0 == key) writes false then other else Some key) ≡ Some key
 own_parent None key other differ = refl
 own_parent (Some w) key other differ = cond-false (key_of w.0 == key) other (Some key) (ne_eqb (key_of w.0) key (differ w.0 refl))
 
-under_then : (f : ℕ → Option Place) (o : Option ℕ) → object_by (option_and_then f o) ≡ option_and_then (λ k. object_by (f k)) o
+pub under_then : (f : ℕ → Option Place) (o : Option ℕ) → object_by (option_and_then f o) ≡ option_and_then (λ k. object_by (f k)) o
 under_then f None = refl
 under_then f (Some k) = refl
 
@@ -51,7 +51,7 @@ code_far : (memory : Granules) (granule : ℕ) (o : Option Entry) → AreStored 
 code_far memory granule None stored is far = refl
 code_far memory granule (Some entry) stored is far = absurd (let e = (stored granule entry is).in_memory in omega arith)
 
-main-far : (held : Held) (key : ℕ) → AreStored held.memory → first_special ≤ key → main_owners held key ≡ None
+pub main-far : (held : Held) (key : ℕ) → AreStored held.memory → first_special ≤ key → main_owners held key ≡ None
 main-far held key stored far =
     let past : nat_lt key 32 ≡ false = le-ltb key 32 (omega arith) in
     let code : code_in held key ≡ 0 =
@@ -59,21 +59,21 @@ main-far held key stored far =
     ap (λ (c : ℕ). object_by (place_at c)) code
 
 -- registers and granules, and special registers, of a run
-owners-main : (held : Held) (specials : Specials) (key : ℕ) → key < first_special → run_owners held specials key ≡ main_owners held key
+pub owners-main : (held : Held) (specials : Specials) (key : ℕ) → key < first_special → run_owners held specials key ≡ main_owners held key
 owners-main held specials key low = cond-true (nat_lt key first_special) (main_owners held key) _ (lt-ltb key first_special low)
 
-owners-special : (held : Held) (specials : Specials) (key : ℕ) → first_special ≤ key
+pub owners-special : (held : Held) (specials : Specials) (key : ℕ) → first_special ≤ key
     → run_owners held specials key ≡ object_by (place_at (label_in specials (key - first_special)))
 owners-special held specials key high = cond-false (nat_lt key first_special) (main_owners held key) _ (le-ltb key first_special high)
 
-state-main : (held : Held) (specials : Specials) (key : ℕ) → key < first_special → run_state held specials key ≡ state_of held key
+pub state-main : (held : Held) (specials : Specials) (key : ℕ) → key < first_special → run_state held specials key ≡ state_of held key
 state-main held specials key low = cond-true (nat_lt key first_special) (state_of held key) _ (lt-ltb key first_special low)
 
-state-special : (held : Held) (specials : Specials) (key : ℕ) → first_special ≤ key → run_state held specials key ≡ cap_in specials (key - first_special)
+pub state-special : (held : Held) (specials : Specials) (key : ℕ) → first_special ≤ key → run_state held specials key ≡ cap_in specials (key - first_special)
 state-special held specials key high = cond-false (nat_lt key first_special) (state_of held key) _ (le-ltb key first_special high)
 
 -- disowning takes owners away alone
-disowned-some : (written : Option Place) (state : State) (owners : Owners) (key slot : ℕ) → disowned written state owners key ≡ Some slot → owners key ≡ Some slot
+pub disowned-some : (written : Option Place) (state : State) (owners : Owners) (key slot : ℕ) → disowned written state owners key ≡ Some slot → owners key ≡ Some slot
 disowned-some None state owners key slot is = is
 disowned-some (Some (Granule g)) state owners key slot is = is
 disowned-some (Some (Register n)) state owners key slot is = elim (either-key owners n (owner_for (state n) (owners n)) key) [
@@ -81,7 +81,7 @@ disowned-some (Some (Register n)) state owners key slot is = elim (either-key ow
   | inr away ↦ sym away.1 ∙ is
 ]
 
-disowned-other : (written : Option Place) (state : State) (owners : Owners) (key : ℕ) → ((place : Place) → written ≡ Some place → key_of place ≢ key)
+pub disowned-other : (written : Option Place) (state : State) (owners : Owners) (key : ℕ) → ((place : Place) → written ≡ Some place → key_of place ≢ key)
     → disowned written state owners key ≡ owners key
 disowned-other None state owners key differ = refl
 disowned-other (Some (Granule g)) state owners key differ = refl
@@ -91,6 +91,18 @@ disowned-other (Some (Register n)) state owners key differ =
 at_there : (owners : Owners) (written : Option Place) (slot : ℕ) {P : Type 0} → ((key : ℕ) → owners key ≡ Some slot → P) → owner_at owners written ≡ Some slot → P
 at_there owners None slot each is = absurd (none-some slot is)
 at_there owners (Some place) slot each is = each (key_of place) is
+
+-- the account of a machine whose labels alone changed
+pub unstepped-account : (old new : Held) → IsUnstepped old new → state_of new ≡ state_of old
+    → account_of new ≡ record (account_of old) { origin = (account_of new).origin }
+unstepped-account old new same state =
+    ap (λ (s : State). record (account_of new) { state = s }) state
+    ∙ ap (λ (r : Rules). record (account_of new) { state = state_of old; rules = r }) same.0
+    ∙ ap (λ (m : Granules). record (account_of new) {
+      state = state_of old; rules = old.rules; is_named = λ granule. is_some (map.get m granule); granules = map.len m;
+    }) same.1
+    ∙ ap (λ (n : ℕ). record (account_of old) { origin = (account_of new).origin; roots = n; steps = new.steps }) same.2
+    ∙ ap (λ (n : ℕ). record (account_of old) { origin = (account_of new).origin; steps = n }) same.3
 
 module _ (old mid new : Held) (specials : Specials) (step : Step) (written : Option Place) (range : IsStepInRange step)
     (kept : IsKept old.registers old.codes old.memory) (stored : AreStored old.memory) (kept_after : IsKept mid.registers mid.codes mid.memory)

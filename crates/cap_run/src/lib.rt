@@ -7,13 +7,17 @@
 //! ([`RunMachine::kept`]).
 #![tactic(auto)]
 
+mod asked_steps;
 mod asks;
 mod ends;
 mod granule_steps;
 mod laws;
+mod lines;
+mod object_lines;
 mod object_steps;
 mod puts;
 mod register_steps;
+mod roots;
 mod run_machine;
 mod specials;
 mod usual_steps;

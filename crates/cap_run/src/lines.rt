@@ -1,0 +1,182 @@
+//! What the steps that only runs have make of a run, where objects are told by their numbers.
+
+ghost use Rattle.std.specs.Prelude.{◌≡◌, ◌≤◌, ◌<◌, ◌^◌};
+ghost use Rattle.cap_log.specs.Lines.{IsTarget};
+ghost use Rattle.cap_run_log.specs.RunLines.{IsRunPlace, IsRunStepInRange};
+ghost use Rattle.cap_run_log.specs.declared.lines.RunPlace.TheVariants.{Granule};
+ghost use Rattle.cap_run_log.specs.declared.lines.RunStep.TheVariants.{Derive, Drop, Exchange, Fill, Invoke};
+ghost use Rattle.cap_run.specs.{Numbers.numbered_run, Run.{IsSource, IsTargetOf}, RunChanges.run_after};
+ghost use Rattle.cap_run.specs.RunChecks.{Answers, run_end, run_wants, usual_ended};
+
+use crate::ends::{RunEnd, RunRefusal};
+use crate::run_machine::RunMachine;
+use cap_machine::StepEnd;
+use cap_run_log::{RunPlace, RunRegister, RunStep};
+use cap_word::{Cap, Word};
+use tagmem::TaggedStore;
+
+// How a step ends in a run that ends so in the machine without objects.
+pub(crate) fn usual_ended(end: StepEnd) -> RunEnd
+    ensures { result ≡ usual_ended end }
+{
+    match end {
+        StepEnd::Refused(refusal) => RunEnd::Refused(RunRefusal::Usual(refusal)),
+        StepEnd::NoMemory => RunEnd::NoMemory,
+    }
+}
+
+impl<M: TaggedStore> RunMachine<M> {
+    /// Makes a step that only runs have and counts it. After an error nothing has changed. It is refused for the first of
+    /// its own checks that fails, and then as `LimitPassed` where there are 4,294,967,295 steps or a granule is named past the
+    /// limit:
+    ///
+    /// - derive, exchange, invoke: a check of a derivation fails (`SourceUntagged`, `UnsoundResult`, `BeyondSource`,
+    ///   `SealChanged`), or one of an invocation (`AuthorityUntagged`, `NotInvokable`, `WrongResult`);
+    /// - drop, fill: none;
+    /// - object: `NoCapability`, `HasOwner`; with a number `NoObject`, `AlreadyFreed`; `Overlaps`, `StillHeld`;
+    /// - free: `NoCapability` and `NoOwner`, or with a number `NoObject`; `AlreadyFreed`.
+    ///
+    /// `NoMemory` comes only at an object, and at a granule named for the first time.
+    pub fn make(&mut self, step: &RunStep) -> Result<(), RunEnd>
+        requires { IsRunStepInRange step.now }
+        ensures outcome { let old = numbered_run self.old.machine self.old.specials self.old.objects in
+            Answers (run_end self.old.asks old step.now) (run_after old step.now) (run_wants old step.now) old result
+            (numbered_run self.new.machine self.new.specials self.new.objects) }
+        ensures asks { self.new.asks ≡ self.old.asks }
+    {
+        match *step {
+            RunStep::Derive(target, source, recorded) => self.derived(target, source, recorded),
+            RunStep::Exchange {
+                target,
+                source,
+                special,
+                result: recorded,
+                special_result,
+            } => self.exchanged(target, source, special, recorded, special_result),
+            RunStep::Invoke {
+                code,
+                datum,
+                code_word,
+                datum_word,
+            } => self.invoked(code, datum, code_word, datum_word),
+            RunStep::Drop(place) => self.dropped(place),
+            RunStep::Fill(granule, word) => self.filled(granule, word),
+            RunStep::Object(register) => self.hand_out(register),
+            RunStep::Widen(register, number) => self.widen(register, number),
+            RunStep::FreeOwner(register) => self.free_owner(register),
+            RunStep::FreeNumber(number) => self.free_by_number(number),
+        }
+    }
+
+    // A register gets what is derived from another one.
+    pub(crate) fn derived(
+        &mut self,
+        target: RunRegister,
+        source: RunRegister,
+        recorded: Cap,
+    ) -> Result<(), RunEnd>
+        requires target { IsTargetOf target }
+        requires source { IsSource source }
+        ensures outcome { let old = numbered_run self.old.machine self.old.specials self.old.objects in
+            let step = Derive target source recorded in
+            Answers (run_end self.old.asks old step) (run_after old step) (run_wants old step) old result
+            (numbered_run self.new.machine self.new.specials self.new.objects) }
+        ensures asks { self.new.asks ≡ self.old.asks }
+    {
+        self.derive(target, source, recorded)
+    }
+
+    // A register and a special one get what is derived from the special one and from a register.
+    pub(crate) fn exchanged(
+        &mut self,
+        target: u8,
+        source: u8,
+        number: u8,
+        recorded: Cap,
+        special_recorded: Cap,
+    ) -> Result<(), RunEnd>
+        requires target { IsTarget target }
+        requires source { source ≤ 31 }
+        requires number { number ≤ 31 }
+        ensures outcome { let old = numbered_run self.old.machine self.old.specials self.old.objects in
+            let step = Exchange target source number recorded special_recorded in
+            Answers (run_end self.old.asks old step) (run_after old step) (run_wants old step) old result
+            (numbered_run self.new.machine self.new.specials self.new.objects) }
+        ensures asks { self.new.asks ≡ self.old.asks }
+    {
+        self.exchange(target, source, number, recorded, special_recorded)
+    }
+
+    // A sealed pair is invoked.
+    pub(crate) fn invoked(
+        &mut self,
+        code: u8,
+        datum: u8,
+        code_word: Word,
+        datum_word: Word,
+    ) -> Result<(), RunEnd>
+        requires code { code ≤ 31 }
+        requires datum { datum ≤ 31 }
+        ensures outcome { let old = numbered_run self.old.machine self.old.specials self.old.objects in
+            let step = Invoke code datum code_word datum_word in
+            Answers (run_end self.old.asks old step) (run_after old step) (run_wants old step) old result
+            (numbered_run self.new.machine self.new.specials self.new.objects) }
+        ensures asks { self.new.asks ≡ self.old.asks }
+    {
+        self.invoke(code, datum, code_word, datum_word)
+    }
+
+    // A granule gets a word without a tag.
+    pub(crate) fn filled(&mut self, granule: u64, word: Word) -> Result<(), RunEnd>
+        requires { granule < 2 ^ 60 }
+        ensures outcome { let old = numbered_run self.old.machine self.old.specials self.old.objects in
+            let step = Fill granule word in
+            Answers (run_end self.old.asks old step) (run_after old step) (run_wants old step) old result
+            (numbered_run self.new.machine self.new.specials self.new.objects) }
+        ensures asks { self.new.asks ≡ self.old.asks }
+    {
+        match self.fill(granule, word) {
+            Ok(()) => Ok(()),
+            Err(end) => Err(usual_ended(end)),
+        }
+    }
+
+    // The tag of a place goes.
+    pub(crate) fn dropped(&mut self, place: RunPlace) -> Result<(), RunEnd>
+        requires { IsRunPlace place }
+        ensures outcome { let old = numbered_run self.old.machine self.old.specials self.old.objects in
+            let step = Drop place in
+            Answers (run_end self.old.asks old step) (run_after old step) (run_wants old step) old result
+            (numbered_run self.new.machine self.new.specials self.new.objects) }
+        ensures asks { self.new.asks ≡ self.old.asks }
+    {
+        match place {
+            RunPlace::General(number) => self.drop_register(RunRegister::General(number)),
+            RunPlace::Special(number) => self.drop_register(RunRegister::Special(number)),
+            RunPlace::Granule(granule) => self.dropped_granule(granule),
+        }
+    }
+
+    // The tag of a granule goes. A granule without a tag stays as it is, and isn't named by this.
+    fn dropped_granule(&mut self, granule: u64) -> Result<(), RunEnd>
+        requires { granule < 2 ^ 60 }
+        ensures outcome { let old = numbered_run self.old.machine self.old.specials self.old.objects in
+            let step = Drop (Granule granule) in
+            Answers (run_end self.old.asks old step) (run_after old step) (run_wants old step) old result
+            (numbered_run self.new.machine self.new.specials self.new.objects) }
+        ensures asks { self.new.asks ≡ self.old.asks }
+    {
+        if let Some(refusal) = self.step_limit() {
+            return Err(RunEnd::Refused(refusal));
+        }
+        let cap = self.granule_cap(granule);
+        if !cap.tag {
+            self.count_step();
+            return Ok(());
+        }
+        match self.fill(granule, cap.word) {
+            Ok(()) => Ok(()),
+            Err(end) => Err(usual_ended(end)),
+        }
+    }
+}
