@@ -1,6 +1,7 @@
 pub mod LineLemmas
 pub mod DescentLemmas
 pub mod OneRootLemmas
+mod ChoiceLemmas
 mod PlaceLemmas
 mod OwnerLemmas
 mod ObjectLemmas

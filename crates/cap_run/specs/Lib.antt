@@ -13,3 +13,4 @@ pub mod RunChanges
 pub mod RunChecks
 pub mod Numbers
 pub mod Descents
+pub mod Choices

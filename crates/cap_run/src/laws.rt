@@ -5,6 +5,7 @@ ghost use Rattle.cap_machine.specs.Parents.{IsSoundState};
 ghost use Rattle.cap_run_log.specs.declared.lines.RunLine.{RunLine};
 ghost use Rattle.cap_run_log.specs.RunLines.{IsRunLineInRange};
 ghost use Rattle.cap_run.specs.declared.asks.Asks.{Asks as AsksIn};
+ghost use Rattle.cap_run.specs.Choices.{EndsByChoice, AsksNoMore, RefusedByChoice};
 ghost use Rattle.cap_run.specs.{Allowed.{AreAllowed, DescendsFromOne, IsLineAllowed, LineStaysWithin}, Descents.{LiesInRoot, StaysWithinRoots}};
 ghost use Rattle.cap_run.specs.{Run.Run, RunChanges.no_run};
 
@@ -33,4 +34,20 @@ pub fn accesses_lie_in_roots()
 /// lines declare what it descends from.
 pub fn places_descend_from_one_root()
     ensures law { (asks : AsksIn) (before after : List RunLine) → AreAllowed asks no_run (before ++ after) → DescendsFromOne before }
+{}
+
+/// What is asked changes how a line ends only to the refusal that it adds, where the checks before that one pass.
+pub fn lines_end_by_choice()
+    ensures law { (asks : AsksIn) (run : Run) (line : RunLine) → EndsByChoice asks run line }
+{}
+
+/// With a check more asked for, lines end as without it, or are refused by it at a line that is refused without it by a
+/// check after it, or from which on none is refused, or a later one.
+pub fn lines_are_refused_by_choice()
+    ensures law { (asks : AsksIn) (run : Run) (read : List RunLine) → RefusedByChoice asks run read }
+{}
+
+/// Lines that are each allowed in its turn are so where less is asked, and lead to the same run.
+pub fn asking_less_allows_more()
+    ensures law { (less more : AsksIn) (run : Run) (read : List RunLine) → AsksNoMore less more → AreAllowed more run read → AreAllowed less run read }
 {}
