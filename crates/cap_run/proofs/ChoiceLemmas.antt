@@ -119,7 +119,7 @@ run_choice refusal IsAfter held used owned other_used other_owned run (steps.Fre
 run_choice refusal IsAfter held used owned other_used other_owned run (steps.FreeNumber number) = inl refl
 
 -- the last checks of a step of version 2
-abbrev last_checks : Run → Step → List (Bool × RunRefusal)
+abbrev pub last_checks : Run → Step → List (Bool × RunRefusal)
 last_checks run step =
     let row = row_in (account_in run) step in
     (not (agrees row.writes row.records), Usual WrongResult) ∷ (passes_limit run (named_by row), Usual LimitPassed) ∷ []

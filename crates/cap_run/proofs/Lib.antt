@@ -2,6 +2,8 @@ pub mod LineLemmas
 pub mod DescentLemmas
 pub mod OneRootLemmas
 mod ChoiceLemmas
+mod MeetingLemmas
+mod OwnedLemmas
 mod PlaceLemmas
 mod OwnerLemmas
 mod ObjectLemmas

@@ -1,11 +1,11 @@
 //! Laws about runs. These functions do nothing: what they say is their contract.
 
-ghost use Rattle.std.specs.Prelude.{List, ◌++◌, ◌∷◌};
+ghost use Rattle.std.specs.Prelude.{IsTrue, List, ◌++◌, ◌∷◌};
 ghost use Rattle.cap_machine.specs.Parents.{IsSoundState};
 ghost use Rattle.cap_run_log.specs.declared.lines.RunLine.{RunLine};
 ghost use Rattle.cap_run_log.specs.RunLines.{IsRunLineInRange};
 ghost use Rattle.cap_run.specs.declared.asks.Asks.{Asks as AsksIn};
-ghost use Rattle.cap_run.specs.Choices.{EndsByChoice, AsksNoMore, RefusedByChoice};
+ghost use Rattle.cap_run.specs.Choices.{EndsByChoice, AsksNoMore, IsOwnedAccess, RefusedByChoice};
 ghost use Rattle.cap_run.specs.{Allowed.{AreAllowed, DescendsFromOne, IsLineAllowed, LineStaysWithin}, Descents.{LiesInRoot, StaysWithinRoots}};
 ghost use Rattle.cap_run.specs.{Run.Run, RunChanges.no_run};
 
@@ -50,4 +50,10 @@ pub fn lines_are_refused_by_choice()
 /// Lines that are each allowed in its turn are so where less is asked, and lead to the same run.
 pub fn asking_less_allows_more()
     ensures law { (less more : AsksIn) (run : Run) (read : List RunLine) → AsksNoMore less more → AreAllowed more run read → AreAllowed less run read }
+{}
+
+/// Where it is asked that an object owns each access to a live object, an allowed line whose access touches a byte of a
+/// live object goes through a capability that an object owns.
+pub fn owned_accesses_have_owners()
+    ensures law { (asks : AsksIn) (run : Run) (line : RunLine) → IsTrue asks.owned → IsLineAllowed asks run line → IsOwnedAccess run line }
 {}
