@@ -4,6 +4,7 @@ pub mod OneRootLemmas
 mod ChoiceLemmas
 mod MeetingLemmas
 mod OwnedLemmas
+mod ErasureLemmas
 mod PlaceLemmas
 mod OwnerLemmas
 mod ObjectLemmas

@@ -14,3 +14,4 @@ pub mod RunChecks
 pub mod Numbers
 pub mod Descents
 pub mod Choices
+pub mod Erasure

@@ -7,7 +7,7 @@ ghost use Rattle.cap_run_log.specs.RunLines.{IsRunLineInRange};
 ghost use Rattle.cap_run.specs.declared.asks.Asks.{Asks as AsksIn};
 ghost use Rattle.cap_run.specs.Choices.{EndsByChoice, AsksNoMore, IsOwnedAccess, RefusedByChoice};
 ghost use Rattle.cap_run.specs.{Allowed.{AreAllowed, DescendsFromOne, IsLineAllowed, LineStaysWithin}, Descents.{LiesInRoot, StaysWithinRoots}};
-ghost use Rattle.cap_run.specs.{Run.Run, RunChanges.no_run};
+ghost use Rattle.cap_run.specs.{Erasure.AllowsErased, Run.Run, RunChanges.no_run};
 
 /// Where each tagged capability of a run is sound, each one after an allowed line is sound too: it is the root that the
 /// line declares, or reaches no more than what the place held before the line that it comes from. A place that the line
@@ -56,4 +56,10 @@ pub fn asking_less_allows_more()
 /// live object goes through a capability that an object owns.
 pub fn owned_accesses_have_owners()
     ensures law { (asks : AsksIn) (run : Run) (line : RunLine) → IsTrue asks.owned → IsLineAllowed asks run line → IsOwnedAccess run line }
+{}
+
+/// Without the lines of objects, lines that are each allowed in its turn are allowed, whatever is asked, and lead to the
+/// same run but for its objects and how many steps it has.
+pub fn lines_are_allowed_without_objects()
+    ensures law { (asks other : AsksIn) (read : List RunLine) → AreAllowed asks no_run read → AllowsErased other read }
 {}
