@@ -4,6 +4,8 @@ pub mod OneRootLemmas
 mod ChoiceLemmas
 mod MeetingLemmas
 mod OwnedLemmas
+mod FollowLemmas
+mod HolderLemmas
 mod ErasureLemmas
 mod PlaceLemmas
 mod OwnerLemmas

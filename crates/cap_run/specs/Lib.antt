@@ -14,4 +14,5 @@ pub mod RunChecks
 pub mod Numbers
 pub mod Descents
 pub mod Choices
+pub mod Holders
 pub mod Erasure

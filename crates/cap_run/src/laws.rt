@@ -7,7 +7,7 @@ ghost use Rattle.cap_run_log.specs.RunLines.{IsRunLineInRange};
 ghost use Rattle.cap_run.specs.declared.asks.Asks.{Asks as AsksIn};
 ghost use Rattle.cap_run.specs.Choices.{EndsByChoice, AsksNoMore, IsOwnedAccess, RefusedByChoice};
 ghost use Rattle.cap_run.specs.{Allowed.{AreAllowed, DescendsFromOne, IsLineAllowed, LineStaysWithin}, Descents.{LiesInRoot, StaysWithinRoots}};
-ghost use Rattle.cap_run.specs.{Erasure.AllowsErased, Run.Run, RunChanges.no_run};
+ghost use Rattle.cap_run.specs.{Erasure.AllowsErased, Holders.OwnersDescend, Run.Run, RunChanges.no_run};
 
 /// Where each tagged capability of a run is sound, each one after an allowed line is sound too: it is the root that the
 /// line declares, or reaches no more than what the place held before the line that it comes from. A place that the line
@@ -62,4 +62,11 @@ pub fn owned_accesses_have_owners()
 /// same run but for its objects and how many steps it has.
 pub fn lines_are_allowed_without_objects()
     ensures law { (asks other : AsksIn) (read : List RunLine) → AreAllowed asks no_run read → AllowsErased other read }
+{}
+
+/// Along lines that are each allowed in its turn, at every moment an object owns just the places that reach some address
+/// and whose chain of parents passes through a register that an `object` line of its number named, at the moment after
+/// that line. Each such chain passes through one `object` line at most.
+pub fn objects_own_what_descends()
+    ensures law { (asks : AsksIn) (before after : List RunLine) → AreAllowed asks no_run (before ++ after) → OwnersDescend before }
 {}
