@@ -1,4 +1,4 @@
--- An object owns just what descends from one of its registers.
+-- What an `object` line does, and where the owner of a place comes from.
 use Rattle.std.proofs.Common.{◌≡◌, ◌==◌, ◌+◌, ◌<◌, ◌≤◌, ◌++◌, ◌∷◌, [], ℕ, Bool, true, false, IsTrue, if◌then◌else◌, is_some, List, Option, Some, None, refl, sym, ap, subst, ◌∙◌, arith, ◌⊎◌, inl, inr, eq-eqb}
 use Rattle.std.proofs.lemmas.{Bool.{cond-true, cond-false, false≢true, ltb-false, Decides.eqb_tells}, Option.{none-some, same_Some}}
 use Rattle.cap_word.specs.declared.word.Cap.{Cap}
@@ -18,7 +18,7 @@ use Rattle.cap_run.proofs.FollowLemmas.{AllReach, Follows, line_follows, owner_f
 use Rattle.cap_run.proofs.{LineLemmas.{later_none, root_free, stays_within}, OneRootLemmas.{between, cut_twice, one_chain, steps_grow}, OwnerLemmas.owner_for-some}
 
 -- what an allowed `object` line does
-record Hands (run : Run) (line : RunLine) (register number : ℕ) : Type 0 where
+pub record Hands (run : Run) (line : RunLine) (register number : ℕ) : Type 0 where
   pub unowned : run.owners register ≡ None
   pub owners_are : (key : ℕ) → (line_after run line).owners key ≡ put run.owners register (owner_for (run.state register) (Some number)) key
   pub state_is : (line_after run line).state ≡ run.state
@@ -36,7 +36,7 @@ unowned_by : (run : Run) (register : ℕ) (later : Option RunRefusal) → or_lat
 unowned_by run register later free =
     no_owner (is_capability (run.state register)) (run.owners register) (later_none (object_refusal run register) later free).0
 
-hands : (asks : Asks) (run : Run) (line : RunLine) (register number : ℕ) → IsLineAllowed asks run line
+pub hands : (asks : Asks) (run : Run) (line : RunLine) (register number : ℕ) → IsLineAllowed asks run line
     → handed_by run line ≡ Some (register, number) → Hands run line register number
 hands asks run (lines.Run (steps.Object at)) register number allowed names =
     subst (λ (p : ℕ × ℕ). Hands run (lines.Run (steps.Object at)) p.0 p.1) (same_Some _ _ names)
@@ -58,7 +58,7 @@ hands asks run (lines.Run (steps.FreeOwner at)) register number allowed names = 
 hands asks run (lines.Run (steps.FreeNumber of)) register number allowed names = absurd (none-some _ names)
 
 -- where the owner of a place comes from: the line, or its parent
-abbrev OwnerFrom : Run → RunLine → ℕ → ℕ → Type 0
+abbrev pub OwnerFrom : Run → RunLine → ℕ → ℕ → Type 0
 OwnerFrom run line key number =
     (handed_by run line ≡ Some (key, number)) ⊎ ((from : ℕ) × (line_parent run line key ≡ Some from) × (run.owners from ≡ Some number))
 
@@ -87,11 +87,11 @@ module _ (asks : Asks) (run : Run) (line : RunLine) (reach : AllReach run) (rang
       let told = (line_follows asks run line key reach range allowed names).owned number is in (told.0, inr told.1)
   from_by key number (Some by) names is = handed_from by.0 by.1 key number names is
 
-  owner_from : (key number : ℕ) → (line_after run line).owners key ≡ Some number
+  pub owner_from : (key number : ℕ) → (line_after run line).owners key ≡ Some number
       → ReachesSome ((line_after run line).state key) × OwnerFrom run line key number
   owner_from key number is = from_by key number (handed_by run line) refl is
 
-  reach_after : AllReach (line_after run line)
+  pub reach_after : AllReach (line_after run line)
   reach_after key number is = (owner_from key number is).0
 
   to_by : (key from number : ℕ) (by : Option (ℕ × ℕ)) → handed_by run line ≡ by → ReachesSome ((line_after run line).state key)
@@ -106,6 +106,6 @@ module _ (asks : Asks) (run : Run) (line : RunLine) (reach : AllReach run) (rang
         | inr unlike ↦ does.owners_are key ∙ cond-false (by.0 == key) (owner_for (run.state by.0) (Some by.1)) (run.owners key) unlike.0 ∙ owned
       ]
 
-  owner_to : (key from number : ℕ) → ReachesSome ((line_after run line).state key) → line_parent run line key ≡ Some from
+  pub owner_to : (key from number : ℕ) → ReachesSome ((line_after run line).state key) → line_parent run line key ≡ Some from
       → run.owners from ≡ Some number → (line_after run line).owners key ≡ Some number
   owner_to key from number reaches parent is = to_by key from number (handed_by run line) refl reaches parent is

@@ -6,6 +6,7 @@ mod MeetingLemmas
 mod OwnedLemmas
 mod FollowLemmas
 mod HolderLemmas
+mod PassLemmas
 mod ErasureLemmas
 mod PlaceLemmas
 mod OwnerLemmas

@@ -1,4 +1,4 @@
-use Rattle.cap_run.proofs.HolderLemmas.{owners_descend}
+use Rattle.cap_run.proofs.PassLemmas.{owners_descend}
 use Rattle.cap_run.proofs.laws.objects_own_what_descends.Goals as goal
 
 pub returns : goal.returns
