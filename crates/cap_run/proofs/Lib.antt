@@ -7,6 +7,9 @@ mod OwnedLemmas
 mod FollowLemmas
 mod HolderLemmas
 mod PassLemmas
+mod PresentLemmas
+mod NotHeldLemmas
+mod StillHeldLemmas
 mod ErasureLemmas
 mod PlaceLemmas
 mod OwnerLemmas

@@ -23,7 +23,7 @@ shares-share base top object is =
     (max base object.base, omega arith, omega (arith, low), omega arith, omega (arith, low))
 
 -- a fact that holds below a number holds of one
-below-which : (holds : ℕ → Bool) (n : ℕ) → 0 < count_below holds n → (key : ℕ) × (key < n) × (holds key ≡ true)
+pub below-which : (holds : ℕ → Bool) (n : ℕ) → 0 < count_below holds n → (key : ℕ) × (key < n) × (holds key ≡ true)
 unfolding count_below
 below-which holds zero some = absurd (omega (arith, some))
 below-which holds (suc n) some = elim (cases_Bool (holds n)) [

@@ -15,4 +15,5 @@ pub mod Numbers
 pub mod Descents
 pub mod Choices
 pub mod Holders
+pub mod HeldExtents
 pub mod Erasure

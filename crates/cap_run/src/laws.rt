@@ -6,8 +6,8 @@ ghost use Rattle.cap_run_log.specs.declared.lines.RunLine.{RunLine};
 ghost use Rattle.cap_run_log.specs.RunLines.{IsRunLineInRange};
 ghost use Rattle.cap_run.specs.declared.asks.Asks.{Asks as AsksIn};
 ghost use Rattle.cap_run.specs.Choices.{EndsByChoice, AsksNoMore, IsOwnedAccess, RefusedByChoice};
-ghost use Rattle.cap_run.specs.{Allowed.{AreAllowed, DescendsFromOne, IsLineAllowed, LineStaysWithin}, Descents.{LiesInRoot, StaysWithinRoots}};
-ghost use Rattle.cap_run.specs.{Erasure.AllowsErased, Holders.OwnersDescend, Run.Run, RunChanges.no_run};
+ghost use Rattle.cap_run.specs.{Allowed.{AreAllowed, DescendsFromOne, IsLineAllowed, LineStaysWithin}, Descents.{LiesInRoot, StaysWithinRoots, run_along}};
+ghost use Rattle.cap_run.specs.{Erasure.AllowsErased, HeldExtents.IsHeldExactly, Holders.OwnersDescend, Run.Run, RunChanges.no_run};
 
 /// Where each tagged capability of a run is sound, each one after an allowed line is sound too: it is the root that the
 /// line declares, or reaches no more than what the place held before the line that it comes from. A place that the line
@@ -69,4 +69,10 @@ pub fn lines_are_allowed_without_objects()
 /// that line. Each such chain passes through one `object` line at most.
 pub fn objects_own_what_descends()
     ensures law { (asks : AsksIn) (before after : List RunLine) → AreAllowed asks no_run (before ++ after) → OwnersDescend before }
+{}
+
+/// After any lines, an `object` line that its other checks don't refuse is refused as `StillHeld` if that is asked and its
+/// interval shares an address with the extent of a freed object that a place has as its owner. No other line is refused so.
+pub fn held_objects_are_met_exactly()
+    ensures law { (asks : AsksIn) (before : List RunLine) (line : RunLine) → IsHeldExactly asks (run_along before) line }
 {}
