@@ -353,5 +353,5 @@ erased_allowed asks other read allowed =
     let last = ap (λ (r : Run). r.steps) (along-fold no_run read) in omega (arith, sums, last) in (
       all.allowed,
       along-fold no_run (erased_after 0 read) ∙ all.leads ∙ ap (λ (r : Run). bare r all.left) (sym (along-fold no_run read))
-      ∙ ap (bare (run_along read)) left_is,
+          ∙ ap (bare (run_along read)) left_is,
     )
