@@ -115,7 +115,7 @@ back asks run (line ∷ rest) key allowed sound held =
       | inr chain ↦ step_back asks run line rest w key allowed.0 sound allowed.1 chain
     ]
 
-nothing_tagged : IsSoundState no_run.state
+pub nothing_tagged : IsSoundState no_run.state
 nothing_tagged key held = absurd (false≢true held)
 
 -- after allowed lines each tagged capability is sound

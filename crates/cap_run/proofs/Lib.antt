@@ -1,6 +1,16 @@
 pub mod LineLemmas
 pub mod DescentLemmas
 pub mod OneRootLemmas
+mod ChoiceLemmas
+mod MeetingLemmas
+mod OwnedLemmas
+mod FollowLemmas
+mod HolderLemmas
+mod PassLemmas
+mod PresentLemmas
+mod NotHeldLemmas
+mod StillHeldLemmas
+mod ErasureLemmas
 mod PlaceLemmas
 mod OwnerLemmas
 mod ObjectLemmas

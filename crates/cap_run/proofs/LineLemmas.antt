@@ -74,7 +74,7 @@ comes_two old true false a b c p q r apart first second third = first
 comes_two old false true a b c p q r apart first second third = second
 comes_two old false false a b c p q r apart first second third = third
 
-later_none : (first later : Option RunRefusal) → or_later first later ≡ None → (first ≡ None) × (later ≡ None)
+pub later_none : (first later : Option RunRefusal) → or_later first later ≡ None → (first ≡ None) × (later ≡ None)
 later_none None later free = (refl, free)
 later_none (Some refusal) later free = absurd (none-some refusal (sym free))
 
@@ -137,7 +137,7 @@ unfolding access_address
 reached_low w offset = omega arith
 
 -- a step of version 2 writes no special register
-hits_no_special : (state : State) (step : Step) (key : ℕ) → IsStepInRange step → first_special ≤ key → hits (row_of state step).writes key ≡ false
+pub hits_no_special : (state : State) (step : Step) (key : ℕ) → IsStepInRange step → first_special ≤ key → hits (row_of state step).writes key ≡ false
 hits_no_special state (Move step) key range far = unhit step.target key (omega (arith, range.0)) far
 hits_no_special state (ClearTag step) key range far = unhit step.target key (omega (arith, range.0)) far
 hits_no_special state (SetBounds step) key range far = unhit step.target key (omega (arith, range.0)) far

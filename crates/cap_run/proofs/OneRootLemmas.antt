@@ -12,14 +12,14 @@ use Rattle.cap_run.specs.{Run.Run, RunChanges.{line_after, no_run, place_key, wi
 use Rattle.cap_run.proofs.{DescentLemmas.{along, along-append, along-fold, allowed_parts}, LineLemmas.{freed-state, root_free}}
 
 -- there is one chain of parents
-one_chain : (run : Run) (read : List RunLine) (key a b : ℕ) → Descends run read key a → Descends run read key b → a ≡ b
+pub one_chain : (run : Run) (read : List RunLine) (key a b : ℕ) → Descends run read key a → Descends run read key b → a ≡ b
 one_chain run [] key a b h k = sym h ∙ k
 one_chain run (line ∷ rest) key a b h k =
     let same = one_chain (line_after run line) rest key h.0 k.0 h.1 k.1 in
     same_Some a b (sym h.2 ∙ ap (line_parent run line) same ∙ k.2)
 
 -- a chain over lines after others passes through a place between
-between : (run : Run) (before after : List RunLine) (key from : ℕ) → Descends run (before ++ after) key from
+pub between : (run : Run) (before after : List RunLine) (key from : ℕ) → Descends run (before ++ after) key from
     → (middle : ℕ) × Descends (along run before) after key middle × Descends run before middle from
 between run [] after key from chain = (from, chain, refl)
 between run (line ∷ before) after key from (first, chain, parent) =
@@ -68,7 +68,7 @@ kind_of run (lines.Step step) = inr (record { steps_are = refl })
 kind_of run (lines.Run step) = step_kind run step
 kind_of run (lines.End count) = inl (record { own = λ key. refl; keeps = λ key held. held; steps_are = refl })
 
-steps_grow : (run : Run) (read : List RunLine) → run.steps ≤ (along run read).steps
+pub steps_grow : (run : Run) (read : List RunLine) → run.steps ≤ (along run read).steps
 steps_grow run [] = omega arith
 steps_grow run (line ∷ rest) =
     let later = steps_grow (line_after run line) rest in
@@ -137,7 +137,7 @@ same_root : (place other : RunPlace) (word another : Word) → lines.Root place 
 same_root place other word another is = (cc, cc)
 
 -- two lines of a list: one line, or one after the other
-cut_twice : (before front : List RunLine) (line other : RunLine) (after rest : List RunLine) → before ++ line ∷ after ≡ front ++ other ∷ rest
+pub cut_twice : (before front : List RunLine) (line other : RunLine) (after rest : List RunLine) → before ++ line ∷ after ≡ front ++ other ∷ rest
     → ((before ≡ front) × (line ≡ other))
     ⊎ (((mid : List RunLine) × (front ≡ before ++ line ∷ mid) × (after ≡ mid ++ other ∷ rest))
     ⊎ ((mid : List RunLine) × (before ≡ front ++ other ∷ mid) × (rest ≡ mid ++ line ∷ after)))

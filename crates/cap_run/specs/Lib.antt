@@ -14,3 +14,7 @@ pub mod RunChecks
 pub mod Numbers
 pub mod Descents
 pub mod RootSteps
+pub mod Choices
+pub mod Holders
+pub mod HeldExtents
+pub mod Erasure

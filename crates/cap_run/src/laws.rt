@@ -1,12 +1,13 @@
 //! Laws about runs. These functions do nothing: what they say is their contract.
 
-ghost use Rattle.std.specs.Prelude.{List, ◌++◌, ◌∷◌};
+ghost use Rattle.std.specs.Prelude.{IsTrue, List, ◌++◌, ◌∷◌};
 ghost use Rattle.cap_machine.specs.Parents.{IsSoundState};
 ghost use Rattle.cap_run_log.specs.declared.lines.RunLine.{RunLine};
 ghost use Rattle.cap_run_log.specs.RunLines.{IsRunLineInRange};
 ghost use Rattle.cap_run.specs.declared.asks.Asks.{Asks as AsksIn};
-ghost use Rattle.cap_run.specs.{Allowed.{AreAllowed, DescendsFromOne, IsLineAllowed, LineStaysWithin}, Descents.{LiesInRoot, StaysWithinRoots}};
-ghost use Rattle.cap_run.specs.{Run.Run, RunChanges.no_run};
+ghost use Rattle.cap_run.specs.Choices.{EndsByChoice, AsksNoMore, IsOwnedAccess, RefusedByChoice};
+ghost use Rattle.cap_run.specs.{Allowed.{AreAllowed, DescendsFromOne, IsLineAllowed, LineStaysWithin}, Descents.{LiesInRoot, StaysWithinRoots, run_along}};
+ghost use Rattle.cap_run.specs.{Erasure.AllowsErased, HeldExtents.IsHeldExactly, Holders.OwnersDescend, Run.Run, RunChanges.no_run};
 
 /// Where each tagged capability of a run is sound, each one after an allowed line is sound too: it is the root that the
 /// line declares, or reaches no more than what the place held before the line that it comes from. A place that the line
@@ -33,4 +34,45 @@ pub fn accesses_lie_in_roots()
 /// lines declare what it descends from.
 pub fn places_descend_from_one_root()
     ensures law { (asks : AsksIn) (before after : List RunLine) → AreAllowed asks no_run (before ++ after) → DescendsFromOne before }
+{}
+
+/// What is asked changes how a line ends only to the refusal that it adds, where the checks before that one pass.
+pub fn lines_end_by_choice()
+    ensures law { (asks : AsksIn) (run : Run) (line : RunLine) → EndsByChoice asks run line }
+{}
+
+/// With a check more asked for, lines end as without it, or are refused by it at a line that is refused without it by a
+/// check after it, or from which on none is refused, or a later one.
+pub fn lines_are_refused_by_choice()
+    ensures law { (asks : AsksIn) (run : Run) (read : List RunLine) → RefusedByChoice asks run read }
+{}
+
+/// Lines that are each allowed in its turn are so where less is asked, and lead to the same run.
+pub fn asking_less_allows_more()
+    ensures law { (less more : AsksIn) (run : Run) (read : List RunLine) → AsksNoMore less more → AreAllowed more run read → AreAllowed less run read }
+{}
+
+/// Where it is asked that an object owns each access to a live object, an allowed line whose access touches a byte of a
+/// live object goes through a capability that an object owns.
+pub fn owned_accesses_have_owners()
+    ensures law { (asks : AsksIn) (run : Run) (line : RunLine) → IsTrue asks.owned → IsLineAllowed asks run line → IsOwnedAccess run line }
+{}
+
+/// Without the lines of objects, lines that are each allowed in its turn are allowed, whatever is asked, and lead to the
+/// same run but for its objects and how many steps it has.
+pub fn lines_are_allowed_without_objects()
+    ensures law { (asks other : AsksIn) (read : List RunLine) → AreAllowed asks no_run read → AllowsErased other read }
+{}
+
+/// Along lines that are each allowed in its turn, at every moment an object owns just the places that reach some address
+/// and whose chain of parents passes through a register that an `object` line of its number named, at the moment after
+/// that line. Each such chain passes through one `object` line at most.
+pub fn objects_own_what_descends()
+    ensures law { (asks : AsksIn) (before after : List RunLine) → AreAllowed asks no_run (before ++ after) → OwnersDescend before }
+{}
+
+/// After any lines, an `object` line that its other checks don't refuse is refused as `StillHeld` if that is asked and its
+/// interval shares an address with the extent of a freed object that a place has as its owner. No other line is refused so.
+pub fn held_objects_are_met_exactly()
+    ensures law { (asks : AsksIn) (before : List RunLine) (line : RunLine) → IsHeldExactly asks (run_along before) line }
 {}
