@@ -8,7 +8,8 @@ use Rattle.cap_bounds.specs.Bounds.{is_sound}
 use Rattle.cap_ops.specs.{Checks.first_of, declared.refusal.Refusal.{Refusal, TheVariants.{LimitPassed, Misplaced, PlaceTaken, UnsoundRoot, WrongCount, WrongResult}}}
 use Rattle.cap_ops.proofs.TestLemmas.{first_of-append_free, first_of-append_none, none_hold}
 use Rattle.cap_log.specs.declared.{kinds.Step.Step, lines.Place.{Place, TheVariants.{Register, Granule}}}
-use Rattle.cap_machine.specs.Accounts.{Account, most_roots, most_steps, named_by, naming, passes_granule_limit, row_in, with_step}
+use Rattle.cap_machine.specs.declared.limits.Limits.{Limits}
+use Rattle.cap_machine.specs.Accounts.{Account, most_steps, named_by, naming, passes_granule_limit, row_in, with_step}
 use Rattle.cap_machine.specs.{declared.rules.Rules.Rules, Runs.parent_of, States.{State, put}}
 use Rattle.cap_machine.specs.Steps.{Access, agrees, row_of}
 use Rattle.cap_objects.specs.{Counts.Owners, Extents.Objects}
@@ -117,7 +118,7 @@ asked_nothing asks run steps_are (Some access) =
 root_bare : (run : Run) (steps_are : ℕ) (place : RunPlace) (word : Word) → steps_are ≤ run.steps → root_end run place word ≡ None
     → root_end (bare run steps_are) place word ≡ None
 root_bare run steps_are place word less free =
-    let limit = nat_le most_roots run.roots || passes_granule_limit (account_in run) (granule_in place) in
+    let limit = nat_le run.limits.roots run.roots || passes_granule_limit (account_in run) (granule_in place) in
     let rest : List (Bool × RunRefusal) =
     ((run.state (place_key place)).tag, Usual PlaceTaken) ∷ (not (is_sound word.0), Usual UnsoundRoot) ∷ (limit, Usual LimitPassed) ∷ [] in
     let first = (none_hold ((nat_lt 0 run.steps, Usual Misplaced) ∷ rest) free).0 in
@@ -158,13 +159,14 @@ run_bare asks other run steps_are (steps.FreeOwner register) plain less free = a
 run_bare asks other run steps_are (steps.FreeNumber number) plain less free = absurd (false≢true (sym plain))
 
 -- two runs of the same parts
-abbrev run_with : State → Owners → Objects → ℕ → Rules → ℕ → ℕ → (ℕ → Bool) → ℕ → Run
-run_with state_is owners_are objects_are count_is rules_are roots_are steps_are named granules_are = record {
+abbrev run_with : State → Owners → Objects → ℕ → Rules → Limits → ℕ → ℕ → (ℕ → Bool) → ℕ → Run
+run_with state_is owners_are objects_are count_is rules_are limits_are roots_are steps_are named granules_are = record {
   state = state_is;
   owners = owners_are;
   objects = objects_are;
   count = count_is;
   rules = rules_are;
+  limits = limits_are;
   roots = roots_are;
   steps = steps_are;
   is_named = named;
@@ -173,20 +175,20 @@ run_with state_is owners_are objects_are count_is rules_are roots_are steps_are 
 
 -- a run is one without objects
 as_bare : (run other : Run) (steps_are : ℕ) → other.state ≡ run.state → ((key : ℕ) → other.owners key ≡ None)
-    → ((number : ℕ) → other.objects number ≡ None) → other.count ≡ 0 → other.rules ≡ run.rules → other.roots ≡ run.roots
+    → ((number : ℕ) → other.objects number ≡ None) → other.count ≡ 0 → other.rules ≡ run.rules → other.limits ≡ run.limits → other.roots ≡ run.roots
     → other.steps ≡ steps_are → other.is_named ≡ run.is_named → other.granules ≡ run.granules → other ≡ bare run steps_are
-as_bare run other steps_are state owners objects count rules roots steps_is named granules =
+as_bare run other steps_are state owners objects count rules limits roots steps_is named granules =
     let no_owners : other.owners ≡ (λ (key : ℕ). None) = fun_ext owners in
     let no_objects : other.objects ≡ (λ (number : ℕ). None) = fun_ext objects in
-    let whole : run_with other.state other.owners other.objects other.count other.rules other.roots other.steps other.is_named other.granules
-    ≡ run_with run.state (λ key. None) (λ number. None) 0 run.rules run.roots steps_are run.is_named run.granules = cc in
+    let whole : run_with other.state other.owners other.objects other.count other.rules other.limits other.roots other.steps other.is_named other.granules
+    ≡ run_with run.state (λ key. None) (λ number. None) 0 run.rules run.limits run.roots steps_are run.is_named run.granules = cc in
     whole
 
 -- what a step that isn't of objects makes of a run without them
 after_run : (run : Run) (steps_are : ℕ) (step : RunStep) → is_of_objects step ≡ false
     → run_after (bare run steps_are) step ≡ bare (run_after run step) (steps_are + 1)
 after_run run steps_are (steps.Derive target source result) plain =
-    as_bare (run_after run (steps.Derive target source result)) _ (steps_are + 1) refl (put_none _ _ _ (λ key. refl) (no_owner _ None refl)) (λ number. refl) refl refl refl refl refl refl
+    as_bare (run_after run (steps.Derive target source result)) _ (steps_are + 1) refl (put_none _ _ _ (λ key. refl) (no_owner _ None refl)) (λ number. refl) refl refl refl refl refl refl refl
 after_run run steps_are (steps.Exchange target source special result special_result) plain =
     as_bare (run_after run (steps.Exchange target source special result special_result)) _ (steps_are + 1) refl (put_none _ _ _ (put_none _ _ _ (λ key. refl) (no_owner _ None refl)) (no_owner _ None refl)) (λ number. refl) refl refl refl
     refl refl refl
@@ -194,9 +196,9 @@ after_run run steps_are (steps.Invoke code datum code_word datum_word) plain =
     as_bare (run_after run (steps.Invoke code datum code_word datum_word)) _ (steps_are + 1) refl (put_none _ _ _ (put_none _ _ _ (λ key. refl) (no_owner _ None refl)) (no_owner _ None refl)) (λ number. refl) refl refl refl
     refl refl refl
 after_run run steps_are (steps.Drop place) plain =
-    as_bare (run_after run (steps.Drop place)) _ (steps_are + 1) refl (put_none _ _ _ (λ key. refl) (no_owner _ None refl)) (λ number. refl) refl refl refl refl refl refl
+    as_bare (run_after run (steps.Drop place)) _ (steps_are + 1) refl (put_none _ _ _ (λ key. refl) (no_owner _ None refl)) (λ number. refl) refl refl refl refl refl refl refl
 after_run run steps_are (steps.Fill granule word) plain =
-    as_bare (run_after run (steps.Fill granule word)) _ (steps_are + 1) refl (put_none _ _ _ (λ key. refl) (no_owner _ None refl)) (λ number. refl) refl refl refl refl refl refl
+    as_bare (run_after run (steps.Fill granule word)) _ (steps_are + 1) refl (put_none _ _ _ (λ key. refl) (no_owner _ None refl)) (λ number. refl) refl refl refl refl refl refl refl
 after_run run steps_are (steps.Object register) plain = absurd (false≢true (sym plain))
 after_run run steps_are (steps.Widen register number) plain = absurd (false≢true (sym plain))
 after_run run steps_are (steps.FreeOwner register) plain = absurd (false≢true (sym plain))
@@ -225,7 +227,7 @@ after_usual run steps_are step =
     let row = row_in old step in
     as_bare (usual_after run step) (usual_after other step) (steps_are + 1) refl
     (disowned_none _ _ _ (λ key. then_none other.owners (parent_of old.state step (with_step old step).state key) (λ k. refl)))
-    (λ number. refl) refl refl refl refl (naming_named (account_in other) (account_in run) (named_by row) refl)
+    (λ number. refl) refl refl refl refl refl (naming_named (account_in other) (account_in run) (named_by row) refl)
     (naming_granules (account_in other) (account_in run) (named_by row) refl refl)
 
 after_root : (run : Run) (steps_are : ℕ) (place : RunPlace) (word : Word)

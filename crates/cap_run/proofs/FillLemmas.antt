@@ -58,6 +58,7 @@ module _ (held new : Held) (specials : Specials) (granule : ℕ) (cap : Cap) (lo
     objects = counted;
     count = count;
     rules = ap (λ (a : Account). a.rules) account;
+    limits = ap (λ (a : Account). a.limits) account;
     roots = ap (λ (a : Account). a.roots) account;
     steps = ap (λ (a : Account). a.steps) account;
     is_named = ap (λ (a : Account). a.is_named) account;

@@ -11,7 +11,7 @@ use Rattle.cap_ops.proofs.TestLemmas.{first_of-append_free, none_hold}
 use Rattle.cap_log.specs.declared.kinds.Step.{Step, TheVariants.{Move, ClearTag, SetBounds, SetBoundsExact, SetAddr}}
 use Rattle.cap_log.specs.declared.kinds.Step.TheVariants.{AndPerm, Seal, Unseal, LoadCap, StoreCap, Load, Store}
 use Rattle.cap_log.specs.Lines.{IsStepInRange}
-use Rattle.cap_machine.specs.{Accounts.{most_roots, named_by, passes_granule_limit, row_in}, Labels.untagged, Parents.IsSoundState}
+use Rattle.cap_machine.specs.{Accounts.{named_by, passes_granule_limit, row_in}, Labels.untagged, Parents.IsSoundState}
 use Rattle.cap_machine.specs.States.{State, granule_key, tagged, untagged_null}
 use Rattle.cap_machine.specs.Steps.{Leads, agrees, row_of, state_with}
 use Rattle.cap_machine.proofs.{AuthorityLemmas.one_back, StepLemmas.{hits, parent_in}}
@@ -95,7 +95,7 @@ pub record IsFree (run : Run) (place : RunPlace) (word : Word) : Type 0 where
 
 pub root_free : (run : Run) (place : RunPlace) (word : Word) → root_end run place word ≡ None → IsFree run place word
 root_free run place word free =
-    let limit = nat_le most_roots run.roots || passes_granule_limit (account_in run) (granule_in place) in
+    let limit = nat_le run.limits.roots run.roots || passes_granule_limit (account_in run) (granule_in place) in
     let none = none_hold (
     (nat_lt 0 run.steps, Usual Misplaced) ∷ ((run.state (place_key place)).tag, Usual PlaceTaken) ∷ (not (is_sound word.0), Usual UnsoundRoot)
     ∷ (limit, Usual LimitPassed) ∷ []

@@ -10,7 +10,7 @@ use Rattle.cap_ops.specs.declared.derived_words.DeriveFault.TheVariants as deriv
 use Rattle.cap_ops.specs.declared.derived_words.InvokeFault.{InvokeFault}
 use Rattle.cap_ops.specs.declared.derived_words.InvokeFault.TheVariants as invoke
 use Rattle.cap_log.specs.declared.kinds.Step.{Step}
-use Rattle.cap_machine.specs.Accounts.{most_roots, most_steps, named_by, passes_granule_limit, row_in}
+use Rattle.cap_machine.specs.Accounts.{most_steps, named_by, passes_granule_limit, row_in}
 use Rattle.cap_machine.specs.Steps.{agrees}
 use Rattle.cap_run_log.specs.declared.lines.{RunPlace.RunPlace, RunRegister.RunRegister, RunRegister.TheVariants.{General, Special}}
 use Rattle.cap_run.specs.declared.{asks.Asks.Asks, ends.RunRefusal.RunRefusal}
@@ -117,7 +117,7 @@ root_if false false false false = tt
 pub root_not : (run : Run) (place : RunPlace) (word : Word) → NotHeld (root_end run place word)
 root_not run place word =
     root_if (nat_lt 0 run.steps) (run.state (place_key place)).tag (not (is_sound word.0))
-    (nat_le most_roots run.roots || passes_granule_limit (account_in run) (granule_in place))
+    (nat_le run.limits.roots run.roots || passes_granule_limit (account_in run) (granule_in place))
 
 pub end_not : (is : Bool) → NotHeld (if is then None else Some (refusals.Usual WrongCount))
 end_not true = tt

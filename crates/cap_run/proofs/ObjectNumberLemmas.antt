@@ -82,7 +82,7 @@ module _ (held new : Held) (specials sp : Specials) (h after : Handouts) (sized 
       run-is (numbered_run new sp after) (run_after (numbered_run held specials h) (steps.Object register))
       hands.state owners_are
       (objects_are ∙ ap (counted (put (by_number (tree.get nat_cmp h.numbers) (objects_of h)) number (Some object))) owners_are)
-      hands.count hands.rules hands.roots hands.steps hands.is_named hands.granules
+      hands.count hands.rules hands.limits hands.roots hands.steps hands.is_named hands.granules
 
   -- `object cN K`
   pub widened-by_number : (register number slot : ℕ) → IsLive (objects_of h) number slot → Widens (run_of held specials h) register slot (run_of new sp after)
@@ -123,7 +123,7 @@ module _ (held new : Held) (specials sp : Specials) (h after : Handouts) (sized 
       run-is (numbered_run new sp after) (run_after (numbered_run held specials h) (steps.Widen register number))
       widens.state owners_are
       (objects_are ∙ ap (counted (put (by_number index (objects_of h)) number before)) owners_are)
-      widens.rest.count widens.rest.rules widens.rest.roots widens.rest.steps widens.rest.is_named widens.rest.granules
+      widens.rest.count widens.rest.rules widens.rest.limits widens.rest.roots widens.rest.steps widens.rest.is_named widens.rest.granules
 
   -- `free K`
   pub freed-number : (number slot : ℕ) → IsLive (objects_of h) number slot → Frees (run_of held specials h) slot (run_of new sp after)
@@ -167,4 +167,4 @@ module _ (held new : Held) (specials sp : Specials) (h after : Handouts) (sized 
       run-is (numbered_run new sp after) (with_freed (numbered_run held specials h) (Some number))
       frees.state owners_are
       (objects_are ∙ ap (counted (put (by_number index (objects_of h)) number before)) owners_are)
-      frees.rest.count frees.rest.rules frees.rest.roots frees.rest.steps frees.rest.is_named frees.rest.granules
+      frees.rest.count frees.rest.rules frees.rest.limits frees.rest.roots frees.rest.steps frees.rest.is_named frees.rest.granules

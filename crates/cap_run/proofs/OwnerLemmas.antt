@@ -120,6 +120,7 @@ pub stepped : (old mid new : Held) (specials special_after : Specials) (handouts
 stepped old mid new specials special_after handouts after same is count = record {
   count = count;
   rules = ap (λ (h : Held). h.rules) is ∙ same.0;
+  limits = ap (λ (h : Held). h.limits) is ∙ same.4;
   roots = ap (λ (h : Held). h.roots) is ∙ same.2;
   steps = ap (λ (h : Held). h.steps) is ∙ ap (λ (n : ℕ). n + 1) same.3;
   is_named = ap {B = ℕ → Bool} (λ (h : Held) (granule : ℕ). is_some (map.get h.memory granule)) is ∙ ap {B = ℕ → Bool} (λ (m : Granules) (granule : ℕ). is_some (map.get m granule)) same.1;
@@ -208,4 +209,4 @@ owners-both owners mid after first second label second_label one two is second_i
     ∙ ap (λ (o : Option ℕ). if second == other then two else o) (mid_is other ∙ ap (λ (o : Option ℕ). at_key owners first o other) is)
 
 pub unstepped-twice : (old mid new : Held) → IsUnstepped old mid → IsUnstepped mid new → IsUnstepped old new
-unstepped-twice old mid new a b = (b.0 ∙ a.0, b.1 ∙ a.1, b.2 ∙ a.2, b.3 ∙ a.3)
+unstepped-twice old mid new a b = (b.0 ∙ a.0, b.1 ∙ a.1, b.2 ∙ a.2, b.3 ∙ a.3, b.4 ∙ a.4)

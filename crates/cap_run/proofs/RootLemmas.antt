@@ -9,7 +9,7 @@ use Rattle.cap_word.specs.declared.word.{Cap.Cap, Word.Word}
 use Rattle.cap_bounds.specs.Bounds.{is_sound}
 use Rattle.cap_log.specs.{declared.lines.Place.{Place, TheVariants.{Granule, Register}}, Lines.IsPlace}
 use Rattle.cap_ops.specs.{declared.refusal.Refusal.{Refusal, TheVariants.{LimitPassed, Misplaced, PlaceTaken, UnsoundRoot}}, Checks.first_of}
-use Rattle.cap_machine.specs.{Accounts.{Account, granule_of, is_new, most_roots, passes_granule_limit, root_checks}, declared.ends.StepEnd.{StepEnd, TheVariants.{NoMemory, Refused}}}
+use Rattle.cap_machine.specs.{Accounts.{Account, granule_of, is_new, passes_granule_limit, root_checks}, declared.ends.StepEnd.{StepEnd, TheVariants.{NoMemory, Refused}}}
 use Rattle.cap_machine.specs.Helds.{EndsRoot, Held, IsKept, account_of, code_in, state_of}
 use Rattle.cap_machine.specs.{Labels.{labelled, with_labelled_root}, Places.{IsCoded, place_at}, States.{State, key_of, put, tagged, untagged_null}}
 use Rattle.cap_objects.specs.{Counts.{CountsAre, Owners, is_owner, most_places}, declared.{handouts.Handouts.Handouts, objects.Object.Object}, Extents.Objects}
@@ -114,7 +114,7 @@ module _ (held : Held) (specials : Specials) (h : Handouts) (place : Place) (wor
         → root_end (numbered_run held specials h) (in_run p) word ≡ option_map Usual (first_of (root_checks (account_of held) p word))
     by (Register n) low none =
         let run = numbered_run held specials h in
-        let limit = nat_le most_roots run.roots || passes_granule_limit (account_of held) None in
+        let limit = nat_le run.limits.roots run.roots || passes_granule_limit (account_of held) None in
         let checks : Bool → List (Bool × Refusal) = λ t. (t, PlaceTaken) ∷ (not (is_sound word.0), UnsoundRoot) ∷ (limit, LimitPassed) ∷ [] in
         cond-false (nat_lt 0 held.steps) _ (first_of (map (λ (c : Bool × Refusal). (c.0, Usual c.1)) (checks (run.state n).tag))) none
         ∙ first-usual (checks (run.state n).tag)
@@ -122,7 +122,7 @@ module _ (held : Held) (specials : Specials) (h : Handouts) (place : Place) (wor
     by (Granule g) low none =
         let run = numbered_run held specials h in
         let key = key_of (Granule g) in
-        let limit = nat_le most_roots run.roots || passes_granule_limit (account_of held) (Some g) in
+        let limit = nat_le run.limits.roots run.roots || passes_granule_limit (account_of held) (Some g) in
         let checks : Bool → List (Bool × Refusal) = λ t. (t, PlaceTaken) ∷ (not (is_sound word.0), UnsoundRoot) ∷ (limit, LimitPassed) ∷ [] in
         cond-false (nat_lt 0 held.steps) _ (first_of (map (λ (c : Bool × Refusal). (c.0, Usual c.1)) (checks (run.state key).tag))) none
         ∙ first-usual (checks (run.state key).tag)
@@ -175,8 +175,8 @@ module _ (old one two new : Held) (nothing held : Cap) (label : ℕ) (word : Wor
   counted-checks : first_of (root_checks (account_of one) (Register 1) word) ≡ first_of (count_checks old word)
   counted-checks =
       ap (λ (a : Account). first_of (root_checks a (Register 1) word)) first
-      ∙ ap (λ (t : Bool). first_of ((t, PlaceTaken) ∷ (not (is_sound word.0), UnsoundRoot) ∷ (nat_le most_roots old.roots || false, LimitPassed) ∷ [])) none
-      ∙ ap (λ (l : Bool). first_of ((not (is_sound word.0), UnsoundRoot) ∷ (l, LimitPassed) ∷ [])) (or_false (nat_le most_roots old.roots))
+      ∙ ap (λ (t : Bool). first_of ((t, PlaceTaken) ∷ (not (is_sound word.0), UnsoundRoot) ∷ (nat_le old.limits.roots old.roots || false, LimitPassed) ∷ [])) none
+      ∙ ap (λ (l : Bool). first_of ((not (is_sound word.0), UnsoundRoot) ∷ (l, LimitPassed) ∷ [])) (or_false (nat_le old.limits.roots old.roots))
 
   pub count-root : (result : Result (Unit {0}) StepEnd)
       → MatchResult result
@@ -205,6 +205,7 @@ run_by account specials h =
       objects = by_number (index_in h) objects;
       count = h.count;
       rules = account.rules;
+      limits = account.limits;
       roots = account.roots;
       steps = account.steps;
       is_named = account.is_named;
@@ -260,7 +261,7 @@ module _ (held new : Held) (specials sp : Specials) (h : Handouts) (number : ℕ
       let run = numbered_run held specials h in
       run-is (numbered_run new sp h) (root_after run (Special number) word) special-state
       (ap (numbered (objects_of h)) (root-owners held new specials sp h (first_special + number) word special-state unowned special-owners))
-      refl refl (ap (λ (a : Account). a.rules) counts.account) (ap (λ (a : Account). a.roots) counts.account) (ap (λ (a : Account). a.steps) counts.account)
+      refl refl (ap (λ (a : Account). a.rules) counts.account) (ap (λ (a : Account). a.limits) counts.account) (ap (λ (a : Account). a.roots) counts.account) (ap (λ (a : Account). a.steps) counts.account)
       (ap (λ (a : Account). a.is_named) counts.account) (ap (λ (a : Account). a.granules) counts.account)
 
 -- why it isn't put
@@ -269,11 +270,11 @@ pub special-end : (held : Held) (specials : Specials) (h : Handouts) (number : �
 special-end held specials h number word first none =
     let run = numbered_run held specials h in
     let zero : nat_lt 0 held.steps ≡ false = ap (nat_lt 0) first in
-    let limit = nat_le most_roots held.roots || false in
+    let limit = nat_le held.limits.roots held.roots || false in
     let free : (run.state (first_special + number)).tag ≡ false = ap (λ (c : Cap). c.tag) (special-holds held specials number) ∙ none in
     cond-false (nat_lt 0 held.steps) _ _ zero
     ∙ cond-false (run.state (first_special + number)).tag _ _ free
-    ∙ ap (λ (l : Bool). first_of ((not (is_sound word.0), Usual UnsoundRoot) ∷ (l, Usual LimitPassed) ∷ [])) (or_false (nat_le most_roots held.roots))
+    ∙ ap (λ (l : Bool). first_of ((not (is_sound word.0), Usual UnsoundRoot) ∷ (l, Usual LimitPassed) ∷ [])) (or_false (nat_le held.limits.roots held.roots))
     ∙ first-usual (count_checks held word)
 
 pub special-refused : (held new : Held) (specials : Specials) (h : Handouts) (number : ℕ) (word : Word) → held.steps ≡ 0 → (cap_in specials number).tag ≡ false
@@ -296,14 +297,14 @@ main-after held new specials h (Register n) word low unowned account =
     let state = main-state held specials h (Register n) word low new account in
     run-is (numbered_run new specials h) (root_after run (in_run (Register n)) word) state
     (ap (numbered (objects_of h)) (root-owners held new specials specials h n word state unowned (main-owners held specials h (Register n) word low new account)))
-    refl refl (ap (λ (a : Account). a.rules) account) (ap (λ (a : Account). a.roots) account) (ap (λ (a : Account). a.steps) account)
+    refl refl (ap (λ (a : Account). a.rules) account) (ap (λ (a : Account). a.limits) account) (ap (λ (a : Account). a.roots) account) (ap (λ (a : Account). a.steps) account)
     (ap (λ (a : Account). a.is_named) account) (ap (λ (a : Account). a.granules) account)
 main-after held new specials h (Granule n) word low unowned account =
     let run = numbered_run held specials h in
     let state = main-state held specials h (Granule n) word low new account in
     run-is (numbered_run new specials h) (root_after run (in_run (Granule n)) word) state
     (ap (numbered (objects_of h)) (root-owners held new specials specials h (key_of (Granule n)) word state unowned (main-owners held specials h (Granule n) word low new account)))
-    refl refl (ap (λ (a : Account). a.rules) account) (ap (λ (a : Account). a.roots) account) (ap (λ (a : Account). a.steps) account)
+    refl refl (ap (λ (a : Account). a.rules) account) (ap (λ (a : Account). a.limits) account) (ap (λ (a : Account). a.roots) account) (ap (λ (a : Account). a.steps) account)
     (ap (λ (a : Account). a.is_named) account) (ap (λ (a : Account). a.granules) account)
 
 -- the place of a root that was taken held no tag

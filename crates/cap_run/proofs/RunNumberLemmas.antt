@@ -7,7 +7,7 @@ use Rattle.std.proofs.Math.Path.{fun_ext}
 use Rattle.std.specs.Prelude.{Result, Ok, Err, MatchResult, OnErr, option_map}
 use Rattle.std.proofs.lemmas.{Bool.{false≢true}, Option.{none-some, same_Some}}
 use Rattle.cap_word.specs.declared.word.Cap.{Cap}
-use Rattle.cap_machine.specs.{declared.rules.Rules.Rules, Helds.Held, States.{State, granule_key, put}}
+use Rattle.cap_machine.specs.{declared.{limits.Limits.Limits, rules.Rules.Rules}, Helds.Held, States.{State, granule_key, put}}
 use Rattle.cap_objects.specs.Counts.{CountsAre, Owners, at_key}
 use Rattle.cap_objects.specs.{declared.{handouts.Handouts.Handouts, objects.Object.Object}, Extents.Objects, Handed.{IsRecounted, held_of}, HandoutsIn.objects_of}
 use Rattle.cap_objects.specs.Indexes.{IsIndex, number_key}
@@ -18,14 +18,15 @@ use Rattle.cap_run.specs.{RunChecks.Answers, RunOf.{run_of, run_owners, run_stat
 use Rattle.cap_run.proofs.{NumberLemmas.{alone-at, at-number, owned-number, owner-of, recounted-numbers, renumbered, slot-of}, ObjectLemmas.owner-there}
 
 -- runs of the same parts
-pub run-is : (a b : Run) → a.state ≡ b.state → a.owners ≡ b.owners → a.objects ≡ b.objects → a.count ≡ b.count → a.rules ≡ b.rules
+pub run-is : (a b : Run) → a.state ≡ b.state → a.owners ≡ b.owners → a.objects ≡ b.objects → a.count ≡ b.count → a.rules ≡ b.rules → a.limits ≡ b.limits
     → a.roots ≡ b.roots → a.steps ≡ b.steps → a.is_named ≡ b.is_named → a.granules ≡ b.granules → a ≡ b
-run-is a b state owners objects count rules roots steps is_named granules =
+run-is a b state owners objects count rules limits roots steps is_named granules =
     ap (λ (x : State). record a { state = x }) state
     ∙ ap (λ (x : Owners). record a { state = b.state; owners = x }) owners
     ∙ ap (λ (x : Objects). record a { state = b.state; owners = b.owners; objects = x }) objects
     ∙ ap (λ (x : ℕ). record a { state = b.state; owners = b.owners; objects = b.objects; count = x }) count
-    ∙ ap (λ (x : Rules). record b { rules = x; roots = a.roots; steps = a.steps; is_named = a.is_named; granules = a.granules }) rules
+    ∙ ap (λ (x : Rules). record b { rules = x; limits = a.limits; roots = a.roots; steps = a.steps; is_named = a.is_named; granules = a.granules }) rules
+    ∙ ap (λ (x : Limits). record b { limits = x; roots = a.roots; steps = a.steps; is_named = a.is_named; granules = a.granules }) limits
     ∙ ap (λ (x : ℕ). record b { roots = x; steps = a.steps; is_named = a.is_named; granules = a.granules }) roots
     ∙ ap (λ (x : ℕ). record b { steps = x; is_named = a.is_named; granules = a.granules }) steps
     ∙ ap (λ (x : ℕ → Bool). record b { is_named = x; granules = a.granules }) is_named
@@ -114,7 +115,7 @@ module _ (held new : Held) (specials sp : Specials) (h after : Handouts) (sized 
       ∙ fun_ext (λ k. ap (option_and_then f) (w.owners k) ∙ numbered-put f (run_owners held specials) key cap owner k)
       ∙ ap (λ (c : Cap). put old.owners key (owner_for c (option_and_then f owner))) (sym (at-same (run_state held specials) key cap)) in
       run-is (numbered_run new sp after) goal w.state owners (objects-after goal.owners owners w.objects)
-      w.rest.count w.rest.rules w.rest.roots w.rest.steps w.rest.is_named w.rest.granules
+      w.rest.count w.rest.rules w.rest.limits w.rest.roots w.rest.steps w.rest.is_named w.rest.granules
 
   -- a granule was filled
   pub fills-numbered : (granule : ℕ) (cap : Cap) → Fills (run_of held specials h) granule cap (run_of new sp after)
@@ -129,7 +130,7 @@ module _ (held new : Held) (specials sp : Specials) (h after : Handouts) (sized 
       ∙ fun_ext (λ k. ap (option_and_then f) (w.owners k) ∙ choice_under (option_and_then f) (key == k) None (run_owners held specials k))
       ∙ ap (λ (o : Option ℕ). put old.owners key o) (sym (owner_for-none (put (run_state held specials) key cap key))) in
       run-is (numbered_run new sp after) goal w.state owners (objects-after goal.owners owners w.objects)
-      w.count w.rules w.roots w.steps w.is_named w.granules
+      w.count w.rules w.limits w.roots w.steps w.is_named w.granules
 
   -- two places were
   pub both-numbered : (first second : ℕ) (owner second_owner : Option ℕ) (one two : Cap)
@@ -152,7 +153,7 @@ module _ (held new : Held) (specials sp : Specials) (h after : Handouts) (sized 
       ∙ ap (λ (c : Cap). put (put old.owners first (owner_for c a)) second (owner_for (put (put (run_state held specials) first one) second two second) b))
       (sym (at-same (run_state held specials) first one)) in
       run-is (numbered_run new sp after) goal w.state owners (objects-after goal.owners owners w.objects)
-      w.rest.count w.rest.rules w.rest.roots w.rest.steps w.rest.is_named w.rest.granules
+      w.rest.count w.rest.rules w.rest.limits w.rest.roots w.rest.steps w.rest.is_named w.rest.granules
 
 -- what is safe by slots is safe by numbers
 module _ (held : Held) (specials : Specials) (h : Handouts) (sized : length specials.labels ≡ 32)

@@ -9,6 +9,7 @@ use Rattle.cap_word.specs.declared.word.Cap.{Cap}
 use Rattle.cap_bounds.specs.Bounds.{IsInside, base_of, top_of}
 use Rattle.cap_log.specs.{declared.{kinds.Step.Step, lines.Place.{Place, TheVariants.{Register, Granule}}}, Lines.{IsPlace, IsStepInRange}}
 use Rattle.tagmem.specs.Granules.{AreStored, Entry, Granules, blank}
+use Rattle.cap_machine.specs.declared.limits.Limits.{Limits}
 use Rattle.cap_machine.specs.{Accounts.Account, declared.{ends.StepEnd.{StepEnd, TheVariants.{Refused, NoMemory}}, rules.Rules.Rules}}
 use Rattle.cap_machine.specs.Helds.{EndsStep, Held, IsKept, Makes, account_of, code_in, state_of}
 use Rattle.cap_machine.specs.{Places.{IsCoded, place_at}, Runs.parent_of, States.{State, key_of}, Steps.row_of}
@@ -101,8 +102,9 @@ unstepped-account old new same state =
     ∙ ap (λ (m : Granules). record (account_of new) {
       state = state_of old; rules = old.rules; is_named = λ granule. is_some (map.get m granule); granules = map.len m;
     }) same.1
-    ∙ ap (λ (n : ℕ). record (account_of old) { origin = (account_of new).origin; roots = n; steps = new.steps }) same.2
-    ∙ ap (λ (n : ℕ). record (account_of old) { origin = (account_of new).origin; steps = n }) same.3
+    ∙ ap (λ (n : ℕ). record (account_of old) { origin = (account_of new).origin; limits = new.limits; roots = n; steps = new.steps }) same.2
+    ∙ ap (λ (n : ℕ). record (account_of old) { origin = (account_of new).origin; limits = new.limits; steps = n }) same.3
+    ∙ ap (λ (l : Limits). record (account_of old) { origin = (account_of new).origin; limits = l }) same.4
 
 module _ (old mid new : Held) (specials : Specials) (step : Step) (written : Option Place) (range : IsStepInRange step)
     (kept : IsKept old.registers old.codes old.memory) (stored : AreStored old.memory) (kept_after : IsKept mid.registers mid.codes mid.memory)

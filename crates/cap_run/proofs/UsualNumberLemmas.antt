@@ -59,9 +59,9 @@ pub account-is : (held : Held) (specials : Specials) (h : Handouts) → AreStore
 account-is held specials h stored = ap (λ (s : State). record (plain held) { state = s }) (main-is held specials stored)
 
 -- naming leaves the rest, and sees no origins
-naming-rest : (account : Account) (granule : Option ℕ) → (let after = naming account granule in (after.rules ≡ account.rules) × (after.roots ≡ account.roots))
-naming-rest account None = (refl, refl)
-naming-rest account (Some granule) = (refl, refl)
+naming-rest : (account : Account) (granule : Option ℕ) → (let after = naming account granule in (after.rules ≡ account.rules) × (after.roots ≡ account.roots) × (after.limits ≡ account.limits))
+naming-rest account None = (refl, refl, refl)
+naming-rest account (Some granule) = (refl, refl, refl)
 
 naming-plain : (held : Held) (granule : Option ℕ) → (let one = naming (account_of held) granule in let two = naming (plain held) granule in
     (one.is_named ≡ two.is_named) × (one.granules ≡ two.granules))
@@ -238,7 +238,8 @@ module _ (held new : Held) (specials : Specials) (h after : Handouts) (step : St
       let rest = naming-rest (account_of held) (named_by row) in
       run-is (numbered_run new specials after) goal usual-state usual-owners
       (objects-after held new specials specials h after sized are index reindex goal.owners usual-owners makes.recounted) count
-      (ap (λ (a : Account). a.rules) makes.account ∙ rest.0) (ap (λ (a : Account). a.roots) makes.account ∙ rest.1)
+      (ap (λ (a : Account). a.rules) makes.account ∙ rest.0) (ap (λ (a : Account). a.limits) makes.account ∙ rest.2)
+      (ap (λ (a : Account). a.roots) makes.account ∙ rest.1)
       (ap (λ (a : Account). a.steps) makes.account) (ap (λ (a : Account). a.is_named) makes.account ∙ named.0)
       (ap (λ (a : Account). a.granules) makes.account ∙ named.1)
 

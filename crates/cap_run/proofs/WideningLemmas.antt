@@ -58,6 +58,7 @@ module _ (held mid : Held) (specials sp : Specials) (mid_is : mid ≡ record hel
   wide-stepped new new_sp h new_h rest count = record {
     count = count;
     rules = rest.0 ∙ ap (λ (x : Held). x.rules) mid_is;
+    limits = rest.4 ∙ ap (λ (x : Held). x.limits) mid_is;
     roots = rest.2 ∙ ap (λ (x : Held). x.roots) mid_is;
     steps = rest.3 ∙ ap (λ (x : Held). x.steps) mid_is;
     is_named = ap {B = ℕ → Bool} (λ (m : Granules) (granule : ℕ). is_some (map.get m granule)) (rest.1 ∙ ap (λ (x : Held). x.memory) mid_is);

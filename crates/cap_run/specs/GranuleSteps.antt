@@ -12,6 +12,7 @@ pub record Fills (old : Run) (granule : ℕ) (cap : Cap) (new : Run) : Type 0 wh
   pub objects : IsRecounted old.objects new.objects
   pub count : new.count ≡ old.count
   pub rules : new.rules ≡ old.rules
+  pub limits : new.limits ≡ old.limits
   pub roots : new.roots ≡ old.roots
   pub steps : new.steps ≡ old.steps + 1
   pub is_named : new.is_named ≡ (λ other. (granule == other) || old.is_named other)

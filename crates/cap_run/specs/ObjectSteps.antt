@@ -80,6 +80,7 @@ pub record HandsOut (old : Run) (register slot : ℕ) (new : Run) : Type 0 where
   pub owners : (other : ℕ) → new.owners other ≡ at_key old.owners register (owner_for (old.state register) (Some slot)) other
   pub count : new.count ≡ old.count + 1
   pub rules : new.rules ≡ old.rules
+  pub limits : new.limits ≡ old.limits
   pub roots : new.roots ≡ old.roots
   pub steps : new.steps ≡ old.steps + 1
   pub is_named : new.is_named ≡ old.is_named

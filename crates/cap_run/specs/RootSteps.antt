@@ -5,11 +5,11 @@ use Rattle.cap_bounds.specs.Bounds.{is_sound}
 use Rattle.cap_ops.specs.declared.refusal.Refusal.{Refusal, TheVariants.{LimitPassed, UnsoundRoot}}
 use Rattle.cap_ops.specs.Checks.{first_of}
 use Rattle.cap_machine.specs.declared.ends.StepEnd.{StepEnd, TheVariants.{NoMemory, Refused}}
-use Rattle.cap_machine.specs.{Accounts.most_roots, Helds.{Held, account_of}}
+use Rattle.cap_machine.specs.Helds.{Held, account_of}
 
 -- why a root isn't counted, wherever it is held: its word isn't sound, or there are too many roots
 abbrev pub count_checks : Held → Word → List (Bool × Refusal)
-count_checks held word = (not (is_sound word.0), UnsoundRoot) ∷ (nat_le most_roots held.roots, LimitPassed) ∷ []
+count_checks held word = (not (is_sound word.0), UnsoundRoot) ∷ (nat_le held.limits.roots held.roots, LimitPassed) ∷ []
 
 -- a root was counted, and nothing else changed
 pub record CountsRoot (old : Held) (word : Word) (new : Held) : Type 0 where

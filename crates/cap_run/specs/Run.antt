@@ -1,7 +1,7 @@
 -- A run at a moment: what its places hold, and which objects own them (this profile's own).
 use Rattle.std.specs.Prelude.{ℕ, ◌+◌, ◌-◌, ◌^◌, ◌≤◌, Bool, nat_lt, if◌then◌else◌}
 use Rattle.cap_log.specs.{Lines.IsTarget}
-use Rattle.cap_machine.specs.{declared.rules.Rules.Rules, States.{State}}
+use Rattle.cap_machine.specs.{declared.{limits.Limits.Limits, rules.Rules.Rules}, States.{State}}
 use Rattle.cap_objects.specs.{Counts.Owners, Extents.Objects}
 use Rattle.cap_run_log.specs.declared.lines.RunRegister.{RunRegister, TheVariants.{General, Special}}
 
@@ -34,6 +34,7 @@ pub record Run : Type 0 where
   pub objects : Objects
   pub count : ℕ
   pub rules : Rules
+  pub limits : Limits
   pub roots : ℕ
   pub steps : ℕ
   pub is_named : ℕ → Bool

@@ -4,7 +4,7 @@ use Rattle.cap_word.specs.declared.word.{Cap.Cap, Word.Word}
 use Rattle.cap_bounds.specs.Bounds.{base_of, top_of}
 use Rattle.cap_log.specs.declared.{kinds.Step.Step, lines.Mode.Mode, lines.Mode.TheVariants.{Strict, Clear}}
 use Rattle.cap_log.specs.declared.lines.Place.{Place, TheVariants.{Granule, Register}}
-use Rattle.cap_machine.specs.declared.rules.Rules.{Rules, TheVariants.{TwoStrict, TwoClear}}
+use Rattle.cap_machine.specs.declared.{limits.Limits.Limits, rules.Rules.{Rules, TheVariants.{TwoStrict, TwoClear}}}
 use Rattle.cap_machine.specs.Accounts.{Account, naming, with_step}
 use Rattle.cap_machine.specs.{Labels.untagged, Runs.parent_of, States.{State, granule_key, put, tagged, untagged_null}, Steps.row_of}
 use Rattle.cap_objects.specs.{Counts.{Owners, owned_by}, declared.objects.Object.Object, Extents.Objects, Handed.{freed_in, handed_out, widened, with_held}}
@@ -40,6 +40,7 @@ main_of state key = if nat_lt key first_special then state key else untagged_nul
 abbrev pub account_in : Run → Account
 account_in run = record {
   rules = run.rules;
+  limits = run.limits;
   state = main_of run.state;
   origin = λ key. None;
   roots = run.roots;
@@ -133,6 +134,10 @@ line_after run (lines.Step step) = usual_after run step
 line_after run (lines.Run step) = run_after run step
 line_after run line = run
 
+-- the limits of a run: as many roots, and as many distinct granules, as 32 bits can count
+abbrev pub run_limits : Limits
+run_limits = record { roots = 4294967295; granules = 4294967295 }
+
 -- a run before any line: nothing has a tag, and no object was handed out
 abbrev pub no_run : Run
 no_run = record {
@@ -141,6 +146,7 @@ no_run = record {
   objects = λ number. None;
   count = 0;
   rules = TwoStrict;
+  limits = run_limits;
   roots = 0;
   steps = 0;
   is_named = λ granule. false;

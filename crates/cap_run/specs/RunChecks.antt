@@ -7,7 +7,7 @@ use Rattle.cap_bounds.specs.Bounds.{base_of, is_sound, top_of}
 use Rattle.cap_ops.specs.declared.refusal.Refusal.{Refusal, TheVariants.{LimitPassed, Misplaced, PlaceTaken, UnsoundRoot, WrongCount, WrongResult}}
 use Rattle.cap_ops.specs.Checks.{first_of}
 use Rattle.cap_log.specs.declared.kinds.Step.{Step}
-use Rattle.cap_machine.specs.Accounts.{is_new, most_roots, most_steps, named_by, passes_granule_limit, row_in}
+use Rattle.cap_machine.specs.Accounts.{is_new, most_steps, named_by, passes_granule_limit, row_in}
 use Rattle.cap_machine.specs.Steps.{Access, agrees}
 use Rattle.cap_objects.specs.{Counts.{count_below, is_owner}, declared.objects.Object.Object, Objects.top_of_extent}
 use Rattle.cap_run_log.specs.declared.lines.{RunLine.RunLine, RunPlace.RunPlace, RunStep.RunStep}
@@ -128,7 +128,7 @@ root_end run place word =
     (nat_lt 0 run.steps, Usual Misplaced)
     ∷ ((run.state (place_key place)).tag, Usual PlaceTaken)
     ∷ (not (is_sound word.0), Usual UnsoundRoot)
-    ∷ (nat_le most_roots run.roots || passes_granule_limit (account_in run) (granule_in place), Usual LimitPassed)
+    ∷ (nat_le run.limits.roots run.roots || passes_granule_limit (account_in run) (granule_in place), Usual LimitPassed)
     ∷ []
     )
 

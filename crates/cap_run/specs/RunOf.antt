@@ -17,6 +17,7 @@ run_of held specials handouts = let account = account_of held in record {
   objects = objects_of handouts;
   count = handouts.count;
   rules = account.rules;
+  limits = account.limits;
   roots = account.roots;
   steps = account.steps;
   is_named = account.is_named;

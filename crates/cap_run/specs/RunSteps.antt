@@ -52,6 +52,7 @@ step_limit run = if nat_le most_steps run.steps then Some (refusals.Usual usual.
 pub record IsStepped (old new : Run) : Type 0 where
   pub count : new.count ≡ old.count
   pub rules : new.rules ≡ old.rules
+  pub limits : new.limits ≡ old.limits
   pub roots : new.roots ≡ old.roots
   pub steps : new.steps ≡ old.steps + 1
   pub is_named : new.is_named ≡ old.is_named
@@ -80,7 +81,7 @@ Derived old target source result new =
 -- registers or special registers alone changed
 abbrev pub IsUnstepped : Held → Held → Type 0
 IsUnstepped old new =
-    (new.rules ≡ old.rules) × (new.memory ≡ old.memory) × (new.roots ≡ old.roots) × (new.steps ≡ old.steps)
+    (new.rules ≡ old.rules) × (new.memory ≡ old.memory) × (new.roots ≡ old.roots) × (new.steps ≡ old.steps) × (new.limits ≡ old.limits)
 
 -- a step is refused as this, its first check that fails
 abbrev pub IsRefusedAs : Option RunRefusal → RunEnd → Type 0

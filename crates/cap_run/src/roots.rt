@@ -40,8 +40,8 @@ fn count_root<M: TaggedStore>(machine: &mut Machine<M>, word: Word) -> Result<()
 impl<M: TaggedStore> RunMachine<M> {
     /// Puts a root, tagged, at its place, and counts it: no object owns it. It is refused for the first of these: a step was
     /// made (`Misplaced`); its place has a capability with a tag (`PlaceTaken`); its word isn't sound (`UnsoundRoot`);
-    /// there are 4,096 roots, or it names a granule past the limit (`LimitPassed`). `NoMemory` comes only at a granule named
-    /// for the first time. After an error nothing has changed.
+    /// there are 4,294,967,295 roots, or it names a granule past as many (`LimitPassed`). `NoMemory` comes only at a
+    /// granule named for the first time. After an error nothing has changed.
     pub fn declare(&mut self, place: RunPlace, word: Word) -> Result<(), RunEnd>
         requires { IsRunPlace place }
         ensures outcome { let old = numbered_run self.old.machine self.old.specials self.old.objects in

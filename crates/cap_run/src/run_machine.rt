@@ -10,12 +10,18 @@ ghost use Rattle.cap_run.specs.{Numbers.numbered_run, RunChanges.no_run, Safety.
 use crate::asks::Asks;
 use crate::specials::Specials;
 use cap_log::Place;
-use cap_machine::{Machine, Rules};
+use cap_machine::{Limits, Machine, Rules};
 use cap_objects::Handouts;
 use cap_run_log::RunRegister;
 use cap_word::Cap;
 use std::alloc::Global;
 use tagmem::TaggedStore;
+
+// As many roots, and as many distinct granules, as 32 bits can count.
+const LIMITS: Limits = Limits {
+    roots: u32::MAX,
+    granules: u32::MAX,
+};
 
 /// A machine, special registers beside it, and the objects that own what its places hold.
 #[derive(Drop)]
@@ -38,7 +44,7 @@ impl<M: TaggedStore> RunMachine<M> {
         ensures asks { result.asks ≡ asks }
     {
         RunMachine {
-            machine: Machine::with_rules(memory, Rules::TwoStrict),
+            machine: Machine::with_limits(memory, Rules::TwoStrict, LIMITS),
             specials: Specials::new(),
             objects: Handouts::new(alloc, asks.held),
             asks,
