@@ -1,5 +1,5 @@
 -- What is asked decides which lines are allowed, and nothing else.
-use Rattle.std.proofs.Common.{◌≡◌, ◌&&◌, ◌+◌, ◌<◌, ◌++◌, ◌∷◌, [], ℕ, Bool, true, false, IsTrue, not, if◌then◌else◌, List, map, Option, Some, None, option_map, refl, sym, ap, subst, ◌∙◌, arith, ◌⊎◌, inl, inr}
+use Rattle.std.proofs.Common.{◌≡◌, ◌&&◌, ◌+◌, ◌<◌, ◌++◌, ◌∷◌, [], ℕ, Bool, true, false, IsTrue, not, if◌then◌else◌, List, map, Option, Some, None, option_map, fold, length, refl, sym, ap, subst, ◌∙◌, arith, ◌⊎◌, inl, inr}
 use Rattle.std.proofs.lemmas.{Bool.{false≢true}, Option.none-some}
 use Rattle.std.specs.Option.{option_map_or}
 use Rattle.cap_bounds.specs.Bounds.{base_of, top_of}
@@ -14,7 +14,7 @@ use Rattle.cap_run_log.specs.declared.lines.RunStep.TheVariants as steps
 use Rattle.cap_run.specs.declared.{asks.Asks.Asks, ends.RunRefusal.RunRefusal}
 use Rattle.cap_run.specs.declared.ends.RunRefusal.TheVariants.{NotOwned, Overlaps, OwnerFreed, StillHeld, Usual}
 use Rattle.cap_run.specs.{Allowed.{AreAllowed, IsLineAllowed}, Choices.{AsksNoMore, EndsByChoice, EndsEarlier, IsAfterHeld, IsAfterOwned, IsAfterUsed}}
-use Rattle.cap_run.specs.Choices.{IsRefusedFrom, RefusedByChoice, RefusedEarlier, first_refused, line_refusal}
+use Rattle.cap_run.specs.Choices.{IsFirstRefused, IsRefusedFrom, RefusedByChoice, RefusedEarlier, first_refused, line_refusal}
 use Rattle.cap_run.specs.{ObjectSteps.object_refusal, Run.Run, RunChanges.{account_in, line_after}, RunSteps.{or_later, step_limit}}
 use Rattle.cap_run.specs.RunChecks.{asked_checks, extent_end, growth_end, is_freed, is_live, is_unowned, line_end, meets, number_end, passes_limit, usual_end, uses_freed}
 
@@ -262,3 +262,34 @@ pub all_allowed_with_less : (less more : Asks) (run : Run) (read : List RunLine)
 all_allowed_with_less less more run [] asked allowed = tt
 all_allowed_with_less less more run (line ∷ rest) asked allowed =
     (allowed.0, allowed_with_less less more run line asked allowed.1, all_allowed_with_less less more (line_after run line) rest asked allowed.2)
+
+-- an allowed line isn't refused
+not_refused : (asks : Asks) (run : Run) (line : RunLine) → IsLineAllowed asks run line → line_refusal asks run line ≡ None
+not_refused asks run lines.Version allowed = refl
+not_refused asks run (lines.Mode mode) allowed = refl
+not_refused asks run (lines.Root place word) allowed = allowed
+not_refused asks run (lines.Step step) allowed = allowed
+not_refused asks run (lines.Run step) allowed = allowed
+not_refused asks run (lines.End count) allowed = allowed
+
+none_refused : (asks : Asks) (run : Run) (read : List RunLine) → AreAllowed asks run read → first_refused asks run read ≡ None
+none_refused asks run [] allowed = refl
+none_refused asks run (line ∷ rest) allowed =
+    ap (λ (first : Option RunRefusal). first_or first (first_refused asks (line_after run line) rest)) (not_refused asks run line allowed.1)
+    ∙ ap (first_or None) (none_refused asks (line_after run line) rest allowed.2)
+
+refused_after : (asks : Asks) (run : Run) (before after : List RunLine) (line : RunLine) (refusal : RunRefusal) → AreAllowed asks run before
+    → line_refusal asks (fold line_after run before) line ≡ Some refusal
+    → first_refused asks run (before ++ line ∷ after) ≡ Some (length before, refusal)
+refused_after asks run [] after line refusal allowed is =
+    ap (λ (first : Option RunRefusal). first_or first (first_refused asks (line_after run line) after)) is
+refused_after asks run (one ∷ before) after line refusal allowed is =
+    ap (λ (first : Option RunRefusal). first_or first (first_refused asks (line_after run one) (before ++ line ∷ after))) (not_refused asks run one allowed.1)
+    ∙ ap (first_or None) (refused_after asks (line_after run one) before after line refusal allowed.2 is)
+    ∙ ap (λ (n : ℕ). Some (n, refusal)) (let e : length before + 1 ≡ length (one ∷ before) = omega arith in e)
+
+pub is_first_refused : (asks : Asks) (run : Run) (before after : List RunLine) (line : RunLine) → IsFirstRefused asks run before after line
+is_first_refused asks run before after line = record {
+  none = none_refused asks run before;
+  some = λ refusal allowed is. refused_after asks run before after line refusal allowed is;
+}

@@ -171,7 +171,7 @@ stays_within_roots asks read allowed key held =
     ]
 
 -- an access of an allowed line has a tagged authority, which allows it
-granted_in : (asks : Asks) (run : Run) (line : RunLine) (access : Access) → IsLineAllowed asks run line → access_of run line ≡ Some access
+pub granted_in : (asks : Asks) (run : Run) (line : RunLine) (access : Access) → IsLineAllowed asks run line → access_of run line ≡ Some access
     → (let cap = run.state access.authority in (cap.tag ≡ true) × IsAllowed cap.word.0 access.address access.size access.permission)
 granted_in asks run (lines.Step step) access allowed is =
     let leads = usual_leads asks run step allowed in

@@ -6,8 +6,8 @@ use Rattle.cap_objects.specs.{Handed.{freed_in, with_held}, Indexes.kept}
 use Rattle.cap_run_log.specs.declared.lines.{RunLine.RunLine, RunStep.RunStep}
 use Rattle.cap_run_log.specs.declared.lines.RunLine.TheVariants as lines
 use Rattle.cap_run_log.specs.declared.lines.RunStep.TheVariants as steps
-use Rattle.cap_run.specs.{Run.Run, RunChanges.{counted, line_after, no_run, run_after, stepped, with_freed, with_object}}
-use Rattle.cap_run.proofs.{DescentLemmas.along, MeetingLemmas.below-which, OwnerLemmas.either-key}
+use Rattle.cap_run.specs.{Descents.run_along, Run.Run, RunChanges.{counted, line_after, no_run, run_after, stepped, with_freed, with_object}}
+use Rattle.cap_run.proofs.{DescentLemmas.{along, along-fold}, MeetingLemmas.below-which, OwnerLemmas.either-key}
 
 -- an object's number is one of those handed out; it is present, and its count is that of the places that it owns
 pub record IsCounted (run : Run) (number : ℕ) (object : Object) : Type 0 where
@@ -19,7 +19,7 @@ abbrev pub AreCounted : Run → Type 0
 AreCounted run = (number : ℕ) (object : Object) → run.objects number ≡ Some object → IsCounted run number object
 
 -- the numbers of objects are among those handed out
-abbrev AreFew : Run → Type 0
+abbrev pub AreFew : Run → Type 0
 AreFew run = (number : ℕ) (object : Object) → run.objects number ≡ Some object → number ≤ run.count
 
 counted_one : (was : Option Object) (count : ℕ) (object : Object) → option_and_then (λ o. kept (with_held o count)) was ≡ Some object
@@ -58,7 +58,7 @@ added_few run added other object few is = elim (either-key run.objects (run.coun
   | inr away ↦ let low = few other object (sym away.1 ∙ is) in omega (arith, low)
 ]
 
-few_of : (run : Run) → AreCounted run → AreFew run
+pub few_of : (run : Run) → AreCounted run → AreFew run
 few_of run known number object is = (known number object is).few
 
 freed_counted : (run : Run) (owner : Option ℕ) → AreCounted run → AreCounted (with_freed run owner)
@@ -87,12 +87,15 @@ line_counted run (lines.Step step) known = stepped_counted _ (few_of run known)
 line_counted run (lines.Run step) known = run_counted run step known
 line_counted run (lines.End count) known = known
 
-pub counted_along : (run : Run) (read : List RunLine) → AreCounted run → AreCounted (along run read)
+counted_along : (run : Run) (read : List RunLine) → AreCounted run → AreCounted (along run read)
 counted_along run [] known = known
 counted_along run (line ∷ rest) known = counted_along (line_after run line) rest (line_counted run line known)
 
-pub none_counted : AreCounted no_run
+none_counted : AreCounted no_run
 none_counted number object is = absurd (none-some object is)
+
+pub all_counted : (read : List RunLine) → AreCounted (run_along read)
+all_counted read = subst AreCounted (sym (along-fold no_run read)) (counted_along no_run read none_counted)
 
 owner_is : (number : ℕ) (owner : Option ℕ) → is_owner number owner ≡ true → owner ≡ Some number
 owner_is number None is = absurd (false≢true is)

@@ -12,13 +12,12 @@ use Rattle.cap_run_log.specs.declared.lines.RunStep.TheVariants as steps
 use Rattle.cap_run.specs.declared.{asks.Asks.Asks, ends.RunRefusal.RunRefusal}
 use Rattle.cap_run.specs.declared.ends.RunRefusal.TheVariants.{AlreadyFreed, HasOwner, NoCapability, NoObject, Overlaps, StillHeld, Usual}
 use Rattle.cap_run.specs.{Choices.IsAfterHeld, Descents.run_along, HeldExtents.{IsHeldExactly, MeetsHeld, extent_by}}
-use Rattle.cap_run.specs.{ObjectSteps.{is_capability, object_refusal}, Run.Run, RunChanges.{line_after, no_run}}
+use Rattle.cap_run.specs.{ObjectSteps.{is_capability, object_refusal}, Run.Run}
 use Rattle.cap_run.specs.RunChecks.{extent_end, growth_end, is_freed, is_live, line_end, meets, number_end, object_end, widen_end}
 use Rattle.cap_run.specs.RunSteps.{or_later, step_limit}
-use Rattle.cap_run.proofs.DescentLemmas.{along, along-fold}
 use Rattle.cap_run.proofs.MeetingLemmas.{IsMet, meets-where, meets-which}
 use Rattle.cap_run.proofs.NotHeldLemmas.{NotHeld, derive_end_not, end_not, exchange_end_not, fill_not, free_not, invoke_end_not, limit_not, number_not, owner_end_not, refusal_not, root_not, usual_not}
-use Rattle.cap_run.proofs.PresentLemmas.{AreCounted, IsCounted, counted_along, held_by, none_counted}
+use Rattle.cap_run.proofs.PresentLemmas.{AreCounted, IsCounted, all_counted, held_by}
 
 never : (end : Option RunRefusal) → NotHeld end → end ≡ Some StillHeld → ⊥
 never end not_held is = subst NotHeld is not_held
@@ -210,4 +209,4 @@ module _ (asks : Asks) (run : Run) (known : AreCounted run) where
 
 pub held_exactly : (asks : Asks) (before : List RunLine) (line : RunLine) → IsHeldExactly asks (run_along before) line
 held_exactly asks before line =
-    line_held asks (run_along before) (subst AreCounted (sym (along-fold no_run before)) (counted_along no_run before none_counted)) line
+    line_held asks (run_along before) (all_counted before) line

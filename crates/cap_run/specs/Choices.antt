@@ -1,12 +1,12 @@
 -- What a judge asks decides which lines are allowed, and nothing else (this profile's own).
-use Rattle.std.specs.Prelude.{◌≡◌, ◌⊎◌, ℕ, ◌+◌, ◌<◌, ◌≤◌, true, false, IsTrue, List, [], ◌∷◌, Option, Some, None, option_map}
+use Rattle.std.specs.Prelude.{◌≡◌, ◌⊎◌, ℕ, ◌+◌, ◌<◌, ◌≤◌, true, false, IsTrue, List, [], ◌∷◌, ◌++◌, fold, length, Option, Some, None, option_map}
 use Rattle.std.specs.Option.{option_map_or}
 use Rattle.cap_machine.specs.Steps.{Access}
 use Rattle.cap_objects.specs.{declared.objects.Object.Object, Objects.{Share, top_of_extent}}
 use Rattle.cap_ops.specs.declared.refusal.Refusal.TheVariants.{LimitPassed, WrongResult}
 use Rattle.cap_run.specs.declared.{asks.Asks.Asks, ends.RunRefusal.RunRefusal}
 use Rattle.cap_run.specs.declared.ends.RunRefusal.TheVariants.{NotOwned, OwnerFreed, StillHeld, Usual}
-use Rattle.cap_run.specs.{Descents.access_of, Run.Run, RunChanges.line_after, RunChecks.line_end}
+use Rattle.cap_run.specs.{Allowed.AreAllowed, Descents.access_of, Run.Run, RunChanges.line_after, RunChecks.line_end}
 use Rattle.cap_run_log.specs.declared.lines.RunLine.{RunLine}
 use Rattle.cap_run_log.specs.declared.lines.RunLine.TheVariants as lines
 
@@ -83,3 +83,16 @@ IsOwnedAccess run line =
     → run.objects number ≡ Some object → object.freed ≡ false
     → Share access.address (access.address + access.size) object.base (top_of_extent object)
     → (owner : ℕ) × (run.owners access.authority ≡ Some owner)
+
+-- an access that touches a byte of a live object goes through a capability that this object owns
+abbrev pub IsOwnersAccess : Run → RunLine → Type 0
+IsOwnersAccess run line =
+    (access : Access) (number : ℕ) (object : Object) → access_of run line ≡ Some access → run.objects number ≡ Some object
+    → object.freed ≡ false → Share access.address (access.address + access.size) object.base (top_of_extent object)
+    → run.owners access.authority ≡ Some number
+
+-- the refusals of lines as `first_refused` tells them: none where each is allowed, and that of the line after allowed ones
+pub record IsFirstRefused (asks : Asks) (run : Run) (before after : List RunLine) (line : RunLine) : Type 0 where
+  pub none : AreAllowed asks run before → first_refused asks run before ≡ None
+  pub some : (refusal : RunRefusal) → AreAllowed asks run before → line_refusal asks (fold line_after run before) line ≡ Some refusal
+      → first_refused asks run (before ++ line ∷ after) ≡ Some (length before, refusal)

@@ -1,13 +1,13 @@
 //! Laws about runs. These functions do nothing: what they say is their contract.
 
-ghost use Rattle.std.specs.Prelude.{IsTrue, List, ◌++◌, ◌∷◌};
+ghost use Rattle.std.specs.Prelude.{IsTrue, List, ◌++◌, ◌∷◌, ◌||◌};
 ghost use Rattle.cap_machine.specs.Parents.{IsSoundState};
 ghost use Rattle.cap_run_log.specs.declared.lines.RunLine.{RunLine};
 ghost use Rattle.cap_run_log.specs.RunLines.{IsRunLineInRange};
 ghost use Rattle.cap_run.specs.declared.asks.Asks.{Asks as AsksIn};
-ghost use Rattle.cap_run.specs.Choices.{EndsByChoice, AsksNoMore, IsOwnedAccess, RefusedByChoice};
+ghost use Rattle.cap_run.specs.Choices.{EndsByChoice, AsksNoMore, IsFirstRefused, IsOwnedAccess, IsOwnersAccess, RefusedByChoice};
 ghost use Rattle.cap_run.specs.{Allowed.{AreAllowed, DescendsFromOne, IsLineAllowed, LineStaysWithin}, Descents.{LiesInRoot, StaysWithinRoots, run_along}};
-ghost use Rattle.cap_run.specs.{Erasure.AllowsErased, HeldExtents.IsHeldExactly, Holders.OwnersDescend, Run.Run, RunChanges.no_run};
+ghost use Rattle.cap_run.specs.{Erasure.AllowsErased, HeldExtents.IsHeldExactly, Holders.OwnersDescend, Run.Run, RunChanges.no_run, Safety.IsSafe};
 
 /// Where each tagged capability of a run is sound, each one after an allowed line is sound too: it is the root that the
 /// line declares, or reaches no more than what the place held before the line that it comes from. A place that the line
@@ -41,6 +41,11 @@ pub fn lines_end_by_choice()
     ensures law { (asks : AsksIn) (run : Run) (line : RunLine) → EndsByChoice asks run line }
 {}
 
+/// The first of lines that isn't allowed is the one after allowed ones, and there is none where each is allowed.
+pub fn first_refused_is_first()
+    ensures law { (asks : AsksIn) (run : Run) (before after : List RunLine) (line : RunLine) → IsFirstRefused asks run before after line }
+{}
+
 /// With a check more asked for, lines end as without it, or are refused by it at a line that is refused without it by a
 /// check after it, or from which on none is refused, or a later one.
 pub fn lines_are_refused_by_choice()
@@ -56,6 +61,13 @@ pub fn asking_less_allows_more()
 /// live object goes through a capability that an object owns.
 pub fn owned_accesses_have_owners()
     ensures law { (asks : AsksIn) (run : Run) (line : RunLine) → IsTrue asks.owned → IsLineAllowed asks run line → IsOwnedAccess run line }
+{}
+
+/// Where objects are apart, and an access through a freed object is refused if extents of freed objects aren't compared,
+/// that capability is one of the live object whose byte is touched.
+pub fn owned_accesses_are_of_owners()
+    ensures law { (asks : AsksIn) (before : List RunLine) (line : RunLine) → IsTrue asks.owned → IsTrue (asks.held || asks.used)
+        → IsSafe asks.held (run_along before) → IsLineAllowed asks (run_along before) line → IsOwnersAccess (run_along before) line }
 {}
 
 /// Without the lines of objects, lines that are each allowed in its turn are allowed, whatever is asked, and lead to the
