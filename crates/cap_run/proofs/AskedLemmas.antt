@@ -1,22 +1,22 @@
 -- What is asked of accesses.
 use Rattle.std.specs.Option.{option_map_or}
 use Rattle.std.specs.Prelude.{IfNone, IfSome}
-use Rattle.std.proofs.Common.{◌≡◌, ◌+◌, ◌&&◌, not, ℕ, Bool, true, false, Some, None, Option, length, is_none, List, [], ◌∷◌, ◌++◌, map, option_map, option_and_then, if◌then◌else◌}
+use Rattle.std.proofs.Common.{◌≡◌, ◌+◌, ◌&&◌, not, ℕ, Bool, true, false, Some, None, Option, is_none, List, [], ◌∷◌, ◌++◌, map, option_map, option_and_then, if◌then◌else◌}
 use Rattle.std.proofs.Common.{refl, sym, ap, subst, ◌∙◌}
-use Rattle.std.proofs.lemmas.{Bool.{cases_Bool, false≢true}, List.append_assoc, Option.none-some}
+use Rattle.std.proofs.lemmas.{List.append_assoc, Option.none-some}
 use Rattle.cap_log.specs.declared.kinds.Step.{Step}
 use Rattle.cap_ops.specs.{declared.refusal.Refusal.Refusal, Checks.first_of}
 use Rattle.tagmem.specs.Granules.{AreStored}
 use Rattle.cap_machine.specs.{Accounts.{Account, row_in}, declared.rules.Rules.{Rules, TheVariants.{One, TwoClear, TwoStrict}}, Helds.{Held, account_of, state_of}}
 use Rattle.cap_machine.specs.Steps.{Access, Row, clear_row, row_by, row_of}
-use Rattle.cap_objects.specs.{Counts.CountsAre, declared.{handouts.Handouts.Handouts, objects.Object.Object}, Handed.{HasRoom, RefusesExtent, held_of}, HandoutsIn.objects_of}
+use Rattle.cap_objects.specs.{declared.{handouts.Handouts.Handouts, objects.Object.Object}, Handed.{HasRoom, RefusesExtent}, HandoutsIn.objects_of}
 use Rattle.cap_objects.specs.declared.handouts.HandOutFault.TheVariants as hand
 use Rattle.cap_run.specs.declared.{asks.Asks.Asks, ends.RunRefusal.{RunRefusal, TheVariants.{NotOwned, OwnerFreed, Overlaps, StillHeld, Usual}}, specials.Specials.Specials}
-use Rattle.cap_run.specs.{Numbers.{by_number, number_at, numbered_run}, Run.Run, RunChecks.{asked_checks, extent_end, is_freed, is_live, is_unowned, meets, usual_end, uses_freed}}
+use Rattle.cap_run.specs.{Numbers.{number_at, numbered_run}, Run.Run, RunChecks.{asked_checks, extent_end, is_freed, is_live, is_unowned, meets, usual_end, uses_freed}}
 use Rattle.cap_run.specs.{RunOf.run_owners, RunSteps.or_later}
 use Rattle.cap_run.proofs.{MeetLemmas.{extent-held, extent-overlaps, extent-room, first_check, no_check, second_check}, NumberLemmas.at-number, RunNumberLemmas.{IsNumbered, index_in}}
 pub use Rattle.cap_run.proofs.UsualNumberLemmas.{asks_nothing}
-use Rattle.cap_run.proofs.UsualNumberLemmas.{account-is, last_checks, plain, usual_check}
+use Rattle.cap_run.proofs.UsualNumberLemmas.{account-is, last_checks, usual_check}
 
 -- whether the first of two checks fails
 abbrev pub overlaps : Option RunRefusal → Bool
@@ -77,7 +77,7 @@ module _ (held : Held) (specials : Specials) (h : Handouts) (index : IsNumbered 
       ap (option_and_then (number_at (objects_of h))) owner ∙ ap (option_map (λ object. object.number)) there in
       let object : run.objects o.number ≡ Some o = at-number (objects_of h) (index_in h) index slot o there in (
         ap (λ (n : Option ℕ). option_map_or (λ number. not (option_map_or is_live (run.objects number) false)) n false) number
-        ∙ ap (λ (x : Option Object). not (option_map_or is_live x false)) object ∙ twice_not o.freed,
+            ∙ ap (λ (x : Option Object). not (option_map_or is_live x false)) object ∙ twice_not o.freed,
         ap (λ (n : Option ℕ). is_none n && meets run None is_live access.address (access.address + access.size)) number,
       )
 
@@ -129,30 +129,30 @@ module _ (held : Held) (specials : Specials) (h : Handouts) (index : IsNumbered 
 pub first-append : (one two : List (Bool × RunRefusal)) → first_of (one ++ two) ≡ or_later (first_of one) (first_of two)
 first-append [] two = refl
 first-append (check ∷ checks) two = by check.0 check.1 _ (first-append checks two)
-    where
-  by : (b : Bool) (refusal : RunRefusal) (rest : Option RunRefusal) → rest ≡ or_later (first_of checks) (first_of two)
-      → (if b then Some refusal else rest) ≡ or_later (if b then Some refusal else first_of checks) (first_of two)
-  by true refusal rest is = refl
-  by false refusal rest is = is
+  where
+    by : (b : Bool) (refusal : RunRefusal) (rest : Option RunRefusal) → rest ≡ or_later (first_of checks) (first_of two)
+        → (if b then Some refusal else rest) ≡ or_later (if b then Some refusal else first_of checks) (first_of two)
+    by true refusal rest is = refl
+    by false refusal rest is = is
 
 usual_none : (checks : List (Bool × Refusal)) → first_of checks ≡ None → first_of (map usual_check checks) ≡ None
 usual_none [] is = refl
 usual_none (check ∷ checks) is = by check.0 check.1 is (λ e. usual_none checks e)
-    where
-  by : (b : Bool) (refusal : Refusal) → (if b then Some refusal else first_of checks) ≡ None → (first_of checks ≡ None → first_of (map usual_check checks) ≡ None)
-      → (if b then Some (Usual refusal) else first_of (map usual_check checks)) ≡ None
-  by true refusal is rest = absurd (none-some refusal (sym is))
-  by false refusal is rest = rest is
+  where
+    by : (b : Bool) (refusal : Refusal) → (if b then Some refusal else first_of checks) ≡ None → (first_of checks ≡ None → first_of (map usual_check checks) ≡ None)
+        → (if b then Some (Usual refusal) else first_of (map usual_check checks)) ≡ None
+    by true refusal is rest = absurd (none-some refusal (sym is))
+    by false refusal is rest = rest is
 
 usual_some : (checks : List (Bool × Refusal)) (refusal : Refusal) → first_of checks ≡ Some refusal → first_of (map usual_check checks) ≡ Some (Usual refusal)
 usual_some [] refusal is = absurd (none-some refusal is)
 usual_some (check ∷ checks) refusal is = by check.0 check.1 is (λ e. usual_some checks refusal e)
-    where
-  by : (b : Bool) (other : Refusal) → (if b then Some other else first_of checks) ≡ Some refusal
-      → (first_of checks ≡ Some refusal → first_of (map usual_check checks) ≡ Some (Usual refusal))
-      → (if b then Some (Usual other) else first_of (map usual_check checks)) ≡ Some (Usual refusal)
-  by true other is rest = ap (option_map (λ r. Usual r)) is
-  by false other is rest = rest is
+  where
+    by : (b : Bool) (other : Refusal) → (if b then Some other else first_of checks) ≡ Some refusal
+        → (first_of checks ≡ Some refusal → first_of (map usual_check checks) ≡ Some (Usual refusal))
+        → (if b then Some (Usual other) else first_of (map usual_check checks)) ≡ Some (Usual refusal)
+    by true other is rest = ap (option_map (λ r. Usual r)) is
+    by false other is rest = rest is
 
 -- the checks of a step by what is asked
 module _ (checks : List (Bool × Refusal)) (asked nothing last : List (Bool × RunRefusal)) (passes : first_of nothing ≡ None) where

@@ -1,8 +1,8 @@
 -- Present objects by their numbers after one was handed out, widened or freed.
 use Rattle.std.specs.BTreeMap as tree
 use Rattle.std.specs.Ordering.{nat_cmp}
-use Rattle.std.proofs.{Common.{◌≡◌, ◌≢◌, ◌==◌, ◌≤◌, ◌⊎◌, ◌||◌, not, nat_lt, ℕ, Bool, true, false, Some, None, Option, inl, inr}, Math.Path.fun_ext}
-use Rattle.std.proofs.Common.{if◌then◌else◌, option_and_then, option_map, slice_get, refl, sym, ap, subst, ◌∙◌, arith, ne_eqb}
+use Rattle.std.proofs.{Common.{◌≡◌, ◌≢◌, ◌==◌, ◌⊎◌, ◌||◌, not, nat_lt, ℕ, Bool, true, false, Some, None, Option, inl, inr}, Math.Path.fun_ext}
+use Rattle.std.proofs.Common.{option_and_then, option_map, slice_get, refl, sym, ap, subst, ◌∙◌, ne_eqb}
 use Rattle.std.proofs.lemmas.{Bool.{cases_Bool, cond-true, cond-false, Decides.eqb_tells}, Option.{none-some, same_Some}}
 use Rattle.cap_objects.specs.{Counts.{CountsAre, Owners, owned_by}, declared.{handouts.Handouts.Handouts, objects.Object.Object}, HandoutsIn.objects_of}
 use Rattle.cap_objects.specs.Extents.{Objects, Sets, is_present}

@@ -88,6 +88,7 @@ held_by_choice : (asks : Asks) (run : Run) (line : RunLine)
     → EndsEarlier StillHeld IsAfterHeld (line_end (record asks { held = false }) run line) (line_end (record asks { held = true }) run line)
 held_by_choice asks run lines.Version = inl refl
 held_by_choice asks run (lines.Mode mode) = inl refl
+held_by_choice asks run (lines.Plain version) = inl refl
 held_by_choice asks run (lines.Root place word) = inl refl
 held_by_choice asks run (lines.Step step) = inl refl
 held_by_choice asks run (lines.Run (steps.Derive target source result)) = inl refl
@@ -128,6 +129,7 @@ used_by_choice : (asks : Asks) (run : Run) (line : RunLine)
     → EndsEarlier OwnerFreed (IsAfterUsed asks) (line_end (record asks { used = false }) run line) (line_end (record asks { used = true }) run line)
 used_by_choice asks run lines.Version = inl refl
 used_by_choice asks run (lines.Mode mode) = inl refl
+used_by_choice asks run (lines.Plain version) = inl refl
 used_by_choice asks run (lines.Root place word) = inl refl
 used_by_choice asks run (lines.Step step) =
     let row = row_in (account_in run) step in
@@ -142,6 +144,7 @@ owned_by_choice : (asks : Asks) (run : Run) (line : RunLine)
     → EndsEarlier NotOwned IsAfterOwned (line_end (record asks { owned = false }) run line) (line_end (record asks { owned = true }) run line)
 owned_by_choice asks run lines.Version = inl refl
 owned_by_choice asks run (lines.Mode mode) = inl refl
+owned_by_choice asks run (lines.Plain version) = inl refl
 owned_by_choice asks run (lines.Root place word) = inl refl
 owned_by_choice asks run (lines.Step step) =
     let row = row_in (account_in run) step in
@@ -162,6 +165,7 @@ refused_earlier : (refusal : RunRefusal) (IsAfter : Option RunRefusal → Type 0
     → (run : Run) (line : RunLine) → EndsEarlier refusal IsAfter (line_refusal less run line) (line_refusal more run line)
 refused_earlier refusal IsAfter less more ends run lines.Version = inl refl
 refused_earlier refusal IsAfter less more ends run (lines.Mode mode) = inl refl
+refused_earlier refusal IsAfter less more ends run (lines.Plain version) = ends run (lines.Plain version)
 refused_earlier refusal IsAfter less more ends run (lines.Root place word) = ends run (lines.Root place word)
 refused_earlier refusal IsAfter less more ends run (lines.Step step) = ends run (lines.Step step)
 refused_earlier refusal IsAfter less more ends run (lines.Run step) = ends run (lines.Run step)
@@ -253,6 +257,7 @@ free_with_less less more run line asked free =
 allowed_with_less : (less more : Asks) (run : Run) (line : RunLine) → AsksNoMore less more → IsLineAllowed more run line → IsLineAllowed less run line
 allowed_with_less less more run lines.Version asked allowed = tt
 allowed_with_less less more run (lines.Mode mode) asked allowed = tt
+allowed_with_less less more run (lines.Plain version) asked allowed = allowed
 allowed_with_less less more run (lines.Root place word) asked allowed = allowed
 allowed_with_less less more run (lines.Step step) asked allowed = free_with_less less more run (lines.Step step) asked allowed
 allowed_with_less less more run (lines.Run step) asked allowed = free_with_less less more run (lines.Run step) asked allowed

@@ -133,6 +133,7 @@ all_sound asks read allowed =
 pub allowed_by : (asks : Asks) (run : Run) (line : RunLine) → line_end asks run line ≡ None → IsLineAllowed asks run line
 allowed_by asks run lines.Version free = tt
 allowed_by asks run (lines.Mode mode) free = tt
+allowed_by asks run (lines.Plain version) free = free
 allowed_by asks run (lines.Root place word) free = free
 allowed_by asks run (lines.Step step) free = free
 allowed_by asks run (lines.Run step) free = free

@@ -306,6 +306,7 @@ lead_bare asks other run steps_are gone [] sums allowed =
 lead_bare asks other run steps_are gone (lines.Version ∷ rest) sums allowed =
     one_more other run run _ steps_are steps_are _ lines.Version _ allowed.0 tt refl
     (lead_bare asks other run steps_are gone rest sums allowed.2)
+lead_bare asks other run steps_are gone (lines.Plain version ∷ rest) sums allowed = absurd (none-some (Usual Misplaced) (sym allowed.1))
 lead_bare asks other run steps_are gone (lines.Mode mode ∷ rest) sums allowed =
     one_more other run (line_after run (lines.Mode mode)) _ steps_are steps_are _ (lines.Mode mode) _ allowed.0 tt refl
     (lead_bare asks other (line_after run (lines.Mode mode)) steps_are gone rest sums allowed.2)

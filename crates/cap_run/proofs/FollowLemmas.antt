@@ -328,6 +328,7 @@ pub line_follows : (asks : Asks) (run : Run) (line : RunLine) (key : ℕ) → Al
     → handed_by run line ≡ None → Follows run ((line_after run line).state key) (line_parent run line key) ((line_after run line).owners key)
 line_follows asks run lines.Version key reach range allowed none = follows_here run key reach
 line_follows asks run (lines.Mode mode) key reach range allowed none = follows_here run key reach
+line_follows asks run (lines.Plain version) key reach range allowed none = follows_here run key reach
 line_follows asks run (lines.Root place word) key reach range allowed none =
     root_follows run reach place word key (root_free run place word allowed).untaken
 line_follows asks run (lines.Step step) key reach range allowed none = usual_follows run reach step key range

@@ -163,7 +163,7 @@ module _ (held mid : Held) (specials sp : Specials) (h mid_h : Handouts) (regist
         | inl empty ↦ empty
         | inr long ↦ absurd (none (grind (arith, nat_tests, long, b_is, t_is)))
       ] in
-      hands-out mid sp mid_h (refl, refl, refl, refl) refl 0 (sym (cond-true (is_empty cap_is.word.0) 0 1 short))
+      hands-out mid sp mid_h (refl, refl, refl, refl, refl) refl 0 (sym (cond-true (is_empty cap_is.word.0) 0 1 short))
       (adds.1.0, λ other differ. refl) refl
       (λ other. ap (λ (o : Owners). o other) mid-owners ∙ sym (unowned-put other (owner_for-empty cap_is (Some slot) short)))
 

@@ -46,6 +46,7 @@ hands asks run (lines.Run (steps.Widen at of)) register number allowed names =
     (record { unowned = unowned_by run at _ allowed; owners_are = λ key. refl; state_is = refl; parent_is = λ key. refl; steps_is = refl })
 hands asks run lines.Version register number allowed names = absurd (none-some _ names)
 hands asks run (lines.Mode mode) register number allowed names = absurd (none-some _ names)
+hands asks run (lines.Plain version) register number allowed names = absurd (none-some _ names)
 hands asks run (lines.Root place word) register number allowed names = absurd (none-some _ names)
 hands asks run (lines.Step step) register number allowed names = absurd (none-some _ names)
 hands asks run (lines.End count) register number allowed names = absurd (none-some _ names)

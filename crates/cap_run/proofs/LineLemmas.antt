@@ -315,6 +315,7 @@ pub stays_within : (asks : Asks) (run : Run) (line : RunLine) → IsRunLineInRan
     → LineStaysWithin run line
 stays_within asks run lines.Version range sound allowed key held = came run lines.Version key held (comes_here run.state key sound)
 stays_within asks run (lines.Mode mode) range sound allowed key held = came run (lines.Mode mode) key held (comes_here run.state key sound)
+stays_within asks run (lines.Plain version) range sound allowed key held = came run (lines.Plain version) key held (comes_here run.state key sound)
 stays_within asks run (lines.Root place word) range sound allowed key held = rooted asks run place word key sound allowed held
 stays_within asks run (lines.Step step) range sound allowed key held =
     came run (lines.Step step) key held (usual_comes asks run step key range sound allowed)

@@ -62,6 +62,7 @@ step_kind run (steps.FreeNumber number) = inr (record { steps_are = refl })
 kind_of : (run : Run) (line : RunLine) → IsQuiet run line ⊎ IsCounted run line
 kind_of run lines.Version = inl (record { own = λ key. refl; keeps = λ key held. held; steps_are = refl })
 kind_of run (lines.Mode mode) = inl (record { own = λ key. refl; keeps = λ key held. held; steps_are = refl })
+kind_of run (lines.Plain version) = inl (record { own = λ key. refl; keeps = λ key held. held; steps_are = refl })
 kind_of run (lines.Root place word) =
     inl (record { own = λ key. refl; keeps = λ key held. kept_if (place_key place == key) word (run.state key) held; steps_are = refl })
 kind_of run (lines.Step step) = inr (record { steps_are = refl })

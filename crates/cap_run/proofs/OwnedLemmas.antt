@@ -50,6 +50,7 @@ owned_access asks run (lines.Step step) asked allowed access number object is fe
     (record { there = there; few = few; other = refl; asked_is = ap not live; share = share }))
 owned_access asks run lines.Version asked allowed access number object is few there live share = absurd (none-some access is)
 owned_access asks run (lines.Mode mode) asked allowed access number object is few there live share = absurd (none-some access is)
+owned_access asks run (lines.Plain version) asked allowed access number object is few there live share = absurd (none-some access is)
 owned_access asks run (lines.Root place word) asked allowed access number object is few there live share = absurd (none-some access is)
 owned_access asks run (lines.Run step) asked allowed access number object is few there live share = absurd (none-some access is)
 owned_access asks run (lines.End count) asked allowed access number object is few there live share = absurd (none-some access is)

@@ -79,6 +79,7 @@ run_counted run (steps.FreeNumber number) known = freed_counted run (Some number
 
 line_counted : (run : Run) (line : RunLine) → AreCounted run → AreCounted (line_after run line)
 line_counted run lines.Version known = known
+line_counted run (lines.Plain version) known = known
 line_counted run (lines.Mode mode) known =
     λ number object is. let k = known number object is in record { few = k.few; present = k.present; held = k.held }
 line_counted run (lines.Root place word) known =

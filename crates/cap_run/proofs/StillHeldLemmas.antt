@@ -190,6 +190,7 @@ module _ (asks : Asks) (run : Run) (known : AreCounted run) where
   line_held : (line : RunLine) → IsHeldExactly asks run line
   line_held lines.Version = other_held lines.Version refl tt
   line_held (lines.Mode mode) = other_held (lines.Mode mode) refl tt
+  line_held (lines.Plain version) = other_held (lines.Plain version) refl tt
   line_held (lines.Root place word) = other_held (lines.Root place word) refl (root_not run place word)
   line_held (lines.Step step) = other_held (lines.Step step) refl (usual_not asks run step)
   line_held (lines.End count) = other_held (lines.End count) refl (end_not (count == run.steps))

@@ -100,7 +100,10 @@ unstepped-account old new same state =
     ap (λ (s : State). record (account_of new) { state = s }) state
     ∙ ap (λ (r : Rules). record (account_of new) { state = state_of old; rules = r }) same.0
     ∙ ap (λ (m : Granules). record (account_of new) {
-      state = state_of old; rules = old.rules; is_named = λ granule. is_some (map.get m granule); granules = map.len m;
+      state = state_of old;
+      rules = old.rules;
+      is_named = λ granule. is_some (map.get m granule);
+      granules = map.len m;
     }) same.1
     ∙ ap (λ (n : ℕ). record (account_of old) { origin = (account_of new).origin; limits = new.limits; roots = n; steps = new.steps }) same.2
     ∙ ap (λ (n : ℕ). record (account_of old) { origin = (account_of new).origin; limits = new.limits; steps = n }) same.3

@@ -128,5 +128,5 @@ module _ (held mid : Held) (specials sp : Specials) (mid_is : mid ≡ record hel
           state = wide-state;
           owners = λ other. ap (λ (o : Owners). o other) wide-owners
               ∙ sym (unowned-put unowned other (owner_for-empty cap_is (Some slot) short));
-          rest = wide-stepped mid sp h mid_h (refl, refl, refl, refl) count;
+          rest = wide-stepped mid sp h mid_h (refl, refl, refl, refl, refl) count;
         }

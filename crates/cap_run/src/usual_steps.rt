@@ -82,9 +82,17 @@ fn written_by<M: TaggedStore>(machine: &Machine<M>, step: &Step) -> Option<Place
         Step::Seal(step) => register_at(step.target),
         Step::Unseal(step) => register_at(step.target),
         Step::LoadCap(step) => register_at(step.target),
-        Step::StoreCap(step) => Some(Place::Granule(granule_through(machine, step.authority, step.offset))),
+        Step::StoreCap(step) => Some(Place::Granule(granule_through(
+            machine,
+            step.authority,
+            step.offset,
+        ))),
         Step::Load(_) => None,
-        Step::Store(step) => Some(Place::Granule(granule_through(machine, step.authority, step.offset))),
+        Step::Store(step) => Some(Place::Granule(granule_through(
+            machine,
+            step.authority,
+            step.offset,
+        ))),
     }
 }
 

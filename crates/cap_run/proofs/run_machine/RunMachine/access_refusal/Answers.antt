@@ -1,4 +1,4 @@
-use Rattle.std.proofs.Common.{◌≡◌, ◌+◌, ◌&&◌, Bool, ℕ, None, ap, refl, subst, sym, ◌∙◌}
+use Rattle.std.proofs.Common.{◌≡◌, ◌+◌, ◌&&◌, Bool, ℕ, None, ap, subst, sym, ◌∙◌}
 use Rattle.cap_word.specs.declared.word.Cap.{Cap}
 use Rattle.cap_ops.specs.{Accesses.{access_address, access_checks, permission_for}, Checks.first_of}
 use Rattle.cap_machine.specs.Steps.{Access, address_through}
@@ -58,10 +58,10 @@ returns-then-meets_live-clause-some g c =
     let address : c.in-Ok-may_access.address ≡ access.address =
     c.in-Ok-may_access.ensures.outcome.1 ∙ ap (λ (k : Cap). access_address k.word.0 c.args.access.offset) c.register-cap.ensures.holds in (
       subst (λ (k : Cap). first_of (access_checks k c.args.access.kind c.args.access.offset c.args.access.size) ≡ None) c.register-cap.ensures.holds
-      c.in-Ok-may_access.ensures.outcome.0,
+          c.in-Ok-may_access.ensures.outcome.0,
       asked-unowned s.machine s.specials s.objects s.objects.kept.numbered s.asks access (sym c.owner.ensures.owner ∙ c.in-None.is) c.if-not-self.false
-      (ap (λ (a : ℕ). meets run None is_live a (a + access.size)) (sym address) ∙ ap (meets run None is_live c.in-Ok-may_access.address)
-      (ap (λ (a : ℕ). a + access.size) (sym c.from.ensures) ∙ ap (λ (n : ℕ). c.from.result + n) (sym c.from-in-Ok-may_access.ensures)) ∙ sym c.meets_live.ensures ∙ c.if-meets_live.true),
+          (ap (λ (a : ℕ). meets run None is_live a (a + access.size)) (sym address) ∙ ap (meets run None is_live c.in-Ok-may_access.address)
+          (ap (λ (a : ℕ). a + access.size) (sym c.from.ensures) ∙ ap (λ (n : ℕ). c.from.result + n) (sym c.from-in-Ok-may_access.ensures)) ∙ sym c.meets_live.ensures ∙ c.if-meets_live.true),
     )
 
 pub returns-else-meets_live-clause-none : goal.returns-else-meets_live-clause-none
@@ -79,4 +79,4 @@ returns-else-meets_live-clause-none g c none =
     asked-none s.machine s.specials s.objects s.objects.kept.numbered s.asks access (sym c.owner.ensures.owner ∙ c.in-None.is)
     (ap (λ (b : Bool). s.asks.owned && b)
     (ap (λ (a : ℕ). meets run None is_live a (a + access.size)) (sym address) ∙ ap (meets run None is_live c.in-Ok-may_access.address)
-      (ap (λ (a : ℕ). a + access.size) (sym c.from.ensures) ∙ ap (λ (n : ℕ). c.from.result + n) (sym c.from-in-Ok-may_access.ensures)) ∙ sym c.meets_live.ensures ∙ c.if-meets_live.false) ∙ and_none s.asks.owned)
+    (ap (λ (a : ℕ). a + access.size) (sym c.from.ensures) ∙ ap (λ (n : ℕ). c.from.result + n) (sym c.from-in-Ok-may_access.ensures)) ∙ sym c.meets_live.ensures ∙ c.if-meets_live.false) ∙ and_none s.asks.owned)

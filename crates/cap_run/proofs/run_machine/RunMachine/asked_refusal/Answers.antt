@@ -1,10 +1,9 @@
-use Rattle.std.proofs.Common.{◌≡◌, None, Option, Some, ap, subst, sym, ◌∙◌}
-use Rattle.std.specs.Prelude.{IfNone, IfSome}
+use Rattle.std.proofs.Common.{◌≡◌, Some, ap, sym, ◌∙◌}
 use Rattle.cap_ops.specs.{Accesses.permission_for, Checks.first_of}
 use Rattle.cap_machine.specs.{Helds.state_of, Steps.{Access, address_through}}
 use Rattle.cap_run.specs.declared.ends.RunRefusal.{RunRefusal}
 use Rattle.cap_run.specs.{Numbers.numbered_run, RunChecks.usual_end}
-use Rattle.cap_run.proofs.AskedLemmas.{asked-permits, asked-refuses, asks_nothing, if-none, if-some}
+use Rattle.cap_run.proofs.AskedLemmas.{asked-permits, asked-refuses, if-none, if-some}
 use Rattle.cap_run.proofs.run_machine.RunMachine.asked_refusal.Goals as goal
 
 pub returns-in-Some-clause-some : goal.returns-in-Some-clause-some
