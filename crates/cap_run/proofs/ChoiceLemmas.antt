@@ -272,6 +272,7 @@ all_allowed_with_less less more run (line ∷ rest) asked allowed =
 not_refused : (asks : Asks) (run : Run) (line : RunLine) → IsLineAllowed asks run line → line_refusal asks run line ≡ None
 not_refused asks run lines.Version allowed = refl
 not_refused asks run (lines.Mode mode) allowed = refl
+not_refused asks run (lines.Plain version) allowed = allowed
 not_refused asks run (lines.Root place word) allowed = allowed
 not_refused asks run (lines.Step step) allowed = allowed
 not_refused asks run (lines.Run step) allowed = allowed

@@ -190,10 +190,10 @@ after_run : (run : Run) (steps_are : ℕ) (step : RunStep) → is_of_objects ste
 after_run run steps_are (steps.Derive target source result) plain =
     as_bare (run_after run (steps.Derive target source result)) _ (steps_are + 1) refl (put_none _ _ _ (λ key. refl) (no_owner _ None refl)) (λ number. refl) refl refl refl refl refl refl refl
 after_run run steps_are (steps.Exchange target source special result special_result) plain =
-    as_bare (run_after run (steps.Exchange target source special result special_result)) _ (steps_are + 1) refl (put_none _ _ _ (put_none _ _ _ (λ key. refl) (no_owner _ None refl)) (no_owner _ None refl)) (λ number. refl) refl refl refl
+    as_bare (run_after run (steps.Exchange target source special result special_result)) _ (steps_are + 1) refl (put_none _ _ _ (put_none _ _ _ (λ key. refl) (no_owner _ None refl)) (no_owner _ None refl)) (λ number. refl) refl refl refl refl
     refl refl refl
 after_run run steps_are (steps.Invoke code datum code_word datum_word) plain =
-    as_bare (run_after run (steps.Invoke code datum code_word datum_word)) _ (steps_are + 1) refl (put_none _ _ _ (put_none _ _ _ (λ key. refl) (no_owner _ None refl)) (no_owner _ None refl)) (λ number. refl) refl refl refl
+    as_bare (run_after run (steps.Invoke code datum code_word datum_word)) _ (steps_are + 1) refl (put_none _ _ _ (put_none _ _ _ (λ key. refl) (no_owner _ None refl)) (no_owner _ None refl)) (λ number. refl) refl refl refl refl
     refl refl refl
 after_run run steps_are (steps.Drop place) plain =
     as_bare (run_after run (steps.Drop place)) _ (steps_are + 1) refl (put_none _ _ _ (λ key. refl) (no_owner _ None refl)) (λ number. refl) refl refl refl refl refl refl refl

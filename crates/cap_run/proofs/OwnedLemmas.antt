@@ -60,6 +60,7 @@ freed_unused : (asks : Asks) (run : Run) (line : RunLine) (access : Access) → 
 freed_unused asks run (lines.Step step) access used allowed is = unfreed asks run step allowed access used is
 freed_unused asks run lines.Version access used allowed is = absurd (none-some access is)
 freed_unused asks run (lines.Mode mode) access used allowed is = absurd (none-some access is)
+freed_unused asks run (lines.Plain version) access used allowed is = absurd (none-some access is)
 freed_unused asks run (lines.Root place word) access used allowed is = absurd (none-some access is)
 freed_unused asks run (lines.Run step) access used allowed is = absurd (none-some access is)
 freed_unused asks run (lines.End count) access used allowed is = absurd (none-some access is)
