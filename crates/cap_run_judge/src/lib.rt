@@ -1,0 +1,16 @@
+//! The judge of run logs: how a log is judged line by line, the verdicts and their texts.
+//!
+//! Hand the bytes of a run log to a [`RunJudge`], cut anywhere. [`judge_run`] judges what a source gives,
+//! [`judge_run_bytes`] bytes in memory. [`judge_run_keeping`] returns the machine with the answer, and after a `no` the
+//! refused line.
+#![tactic(auto)]
+
+mod faults;
+mod judges;
+mod mock;
+mod verdict;
+
+pub use crate::faults::RefusedRunLine;
+pub use crate::judges::RunJudge;
+pub use crate::mock::RunMachine;
+pub use crate::verdict::RunVerdict;
