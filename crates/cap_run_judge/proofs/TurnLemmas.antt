@@ -2,9 +2,8 @@
 use Rattle.std.proofs.Common.{◌≡◌, ◌≢◌, ◌⊎◌, ℕ, ◌+◌, ◌-◌, inl, inr, true, false, Bool, List, [], ◌∷◌, ◌++◌, length, take, drop}
 use Rattle.std.proofs.Common.{refl, sym, ap, subst, ◌∙◌, arith, append-nil, append_assoc, None, Some, Option, Result, Ok, Err, IfOk, IsTrue}
 use Rattle.std.proofs.lemmas.{Grind.flat_map-append, Option.none-some}
-use Rattle.cap_word.specs.declared.word.Word.{Word}
-use Rattle.cap_log.specs.declared.kinds.Step.{Step}
-use Rattle.cap_log.specs.Parts.{Begins}
+use Rattle.cap_log.specs.{declared.lines.Line.Line, Lines.Spells, Parts.Begins}
+use Rattle.cap_log.proofs.SpellingLemmas.{one_spelling}
 use Rattle.cap_log.proofs.ElementLemmas.{AllByRecursion-append}
 use Rattle.cap_streams.specs.{FaultLines.bytes_of, Front.{IsCut, IsFront, IsFrontText, IsLine, IsTooLong}}
 use Rattle.cap_streams.proofs.FrontLemmas.{IsLine-not_cut, IsTooLong-not_cut}
@@ -133,6 +132,16 @@ pub no_line_text : (bytes text rest : List ℕ) → IsLine bytes text rest
     → ((line : RunLine) (more : List ℕ) → Begins IsRunLineInRange run_spelling 10 bytes line more → ⊥) → HasNoRunLine text
 no_line_text bytes text rest whole none line spells =
     none line rest (spells.0, whole.whole ∙ ap (λ (t : List ℕ). t ++ 10 ∷ rest) spells.1)
+
+-- a line that isn't a version line has no text of one
+pub not_version : (text : List ℕ) (line : Line) → Spells text line → ((version : ℕ) → line ≡ Line.Version version → ⊥)
+    → (version : ℕ) → Spells text (Line.Version version) → ⊥
+not_version text line spells other version is = other version (one_spelling text line (Line.Version version) spells is)
+
+-- no line is faulty
+pub clear_of : (stage : code.NextRunLine) → ((fault : RefusedRunLine) → stage ≡ stages.Refused fault → ⊥) → IsAtFault (due_of stage) → ⊥
+clear_of (stages.Refused fault) clear is = clear fault refl
+clear_of stage clear is = is
 
 -- the text of what is refused, whatever follows
 pub last_front : (stage : Stage) (rest text : List ℕ) (refusal : RunRefusal) → RefusesNext stage rest refusal → IsFrontText rest text

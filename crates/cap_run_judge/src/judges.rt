@@ -308,8 +308,11 @@ fn is_other_version(text: &[u8]) -> bool
     ensures { HasForm text.now (other_form result) }
 {
     match read_line(text) {
-        Some(Line::Version(_)) => true,
-        _ => false,
+        Some(line) => match line {
+            Line::Version(_) => true,
+            _ => false,
+        },
+        None => false,
     }
 }
 
