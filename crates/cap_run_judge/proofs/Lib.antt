@@ -1,1 +1,4 @@
 mod TurnLemmas
+mod CountLemmas
+mod EndLemmas
+mod SourceLemmas

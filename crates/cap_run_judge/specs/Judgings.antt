@@ -1,5 +1,5 @@
 -- The answer on the bytes that a source gave (this profile's own, as are all below).
-use Rattle.std.specs.Prelude.{◌≡◌, ◌≢◌, ℕ, ◌+◌, Bool, true, false, List, ◌++◌, length, Result, Err, IfOk, IfErr}
+use Rattle.std.specs.Prelude.{◌≡◌, ℕ, ◌+◌, Bool, true, false, List, ◌++◌, length, Result, IfOk, IfErr}
 use Rattle.cap_streams.specs.declared.judge_faults.JudgeFault.{JudgeFault, TheVariants.{Pull, NoMemory}}
 use Rattle.cap_streams.specs.Front.{IsCut}
 use Rattle.cap_judge.specs.Judgings.{IsLastFront}
@@ -64,9 +64,3 @@ pub record JudgedBy {S : Type 0} (asks : Asks) (gave : S → S → List ℕ → 
     (result : Result RunVerdict JudgeFault) (run : Run) (text : List ℕ) : Type 0 where
   pub judged : Judged asks gave ended old new result
   pub stops : IfOk result (StopsIn asks judged.given (ended new) run text)
-
--- an answer on all the bytes of a run log, with the same
-pub record JudgedAll (asks : Asks) (bytes : List ℕ) (result : Result RunVerdict JudgeFault) (run : Run) (text : List ℕ) : Type 0 where
-  pub answer : IsAnswerOf asks bytes true result
-  pub stops : IfOk result (StopsIn asks bytes true run text)
-  pub pulls_nothing : result ≢ Err Pull
