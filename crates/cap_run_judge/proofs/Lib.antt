@@ -2,3 +2,5 @@ mod TurnLemmas
 mod CountLemmas
 mod EndLemmas
 mod SourceLemmas
+mod TextLemmas
+mod OneVerdict

@@ -1,6 +1,7 @@
 //! The refusals of run logs by number and name, the line of a verdict, and its exit status.
 
-ghost use Rattle.std.specs.Prelude.{◌≡◌, ◌≤◌, length, take, drop};
+ghost use Rattle.std.specs.Prelude.{◌≡◌, ◌+◌, ◌≤◌, decimal, length, take, drop};
+ghost use Rattle.cap_streams.specs.Written.{Writes};
 ghost use Rattle.cap_run_judge.specs.VerdictLines.{run_refusal_name, run_refusal_number, run_verdict_line, run_verdict_status};
 
 use crate::verdict::RunVerdict;
@@ -69,11 +70,11 @@ pub fn run_verdict_text(verdict: &RunVerdict, buffer: &mut [u8; 64]) -> usize
             objects,
         } => {
             let at = put(buffer, 0, b"yes ");
-            let at = put_decimal(buffer, at, u64::from(steps));
+            let at = put_count(buffer, at, steps);
             let at = put(buffer, at, b" ");
-            let at = put_decimal(buffer, at, u64::from(roots));
+            let at = put_count(buffer, at, roots);
             let at = put(buffer, at, b" ");
-            let at = put_decimal(buffer, at, u64::from(objects));
+            let at = put_count(buffer, at, objects);
             put(buffer, at, b"\n")
         }
         RunVerdict::No { line, refusal } => {
@@ -86,6 +87,16 @@ pub fn run_verdict_text(verdict: &RunVerdict, buffer: &mut [u8; 64]) -> usize
             put(buffer, at, b"\n")
         }
     }
+}
+
+// Writes a count in decimal at an index of the buffer, and returns the index after it.
+#[tactic(auto, using(crate::proofs::TextLemmas::count_digits))]
+fn put_count(buffer: &mut [u8], at: usize, count: u32) -> usize
+    requires { at + 10 ≤ length buffer.old }
+    ensures text { Writes at (decimal count) buffer.old buffer.new result }
+    ensures fits { result ≤ at + 10 }
+{
+    put_decimal(buffer, at, u64::from(count))
 }
 
 /// The exit status of a program that answers a verdict: 0 for a `yes`, 1 for a `no`.
