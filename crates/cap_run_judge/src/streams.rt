@@ -133,9 +133,7 @@ fn take_pulled<M: TaggedStore>(judge: &mut RunJudge<M>, pulled: &mut ReadBuffer)
 }
 
 // A `yes`, or a `no` and its line.
-fn answered(
-    end: Result<RunVerdict, RefusedRunLine>,
-) -> (Result<RunVerdict, JudgeFault>, FaultLine)
+fn answered(end: Result<RunVerdict, RefusedRunLine>) -> (Result<RunVerdict, JudgeFault>, FaultLine)
     ensures { IsAnswered end result.0 (bytes_of result.1) }
 {
     match end {
