@@ -1,0 +1,4 @@
+use Rattle.cap_run_judge.proofs.mock.RunMachine.declare.Goals as goal
+
+pub returns-clause-outcome : goal.returns-clause-outcome
+returns-clause-outcome g c = ?
