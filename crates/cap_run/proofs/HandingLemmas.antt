@@ -1,8 +1,8 @@
 -- Steps that hand out objects.
 use Rattle.std.specs.FinMap as map
-use Rattle.std.proofs.{Common.{◌≡◌, ◌==◌, ◌+◌, ◌-◌, ◌<◌, ◌&&◌, not, nat_lt, ℕ, Bool, true, false, Some, None, Option, inl, inr}, Math.Path.fun_ext}
-use Rattle.std.proofs.Common.{if◌then◌else◌, is_some, MatchOption, lt-ltb, refl, sym, ap, subst, ◌∙◌, arith}
-use Rattle.std.proofs.lemmas.{Bool.{and_parts, cases_Bool, cond-true, cond-false, false≢true, lt-leb, Decides.{eqb_tells, nat_tests}}, Option.{none-some}}
+use Rattle.std.proofs.{Common.{◌≡◌, ◌==◌, ◌+◌, ◌-◌, ◌<◌, ◌≤◌, ◌&&◌, not, nat_lt, ℕ, Bool, true, false, Some, None, Option, inl, inr}, Math.Path.fun_ext}
+use Rattle.std.proofs.Common.{if◌then◌else◌, is_some, MatchOption, le-ltb, lt-ltb, refl, sym, ap, subst, ◌∙◌, arith}
+use Rattle.std.proofs.lemmas.{Bool.{and_parts, cases_Bool, cases_lt, cond-true, cond-false, false≢true, lt-leb, Decides.{eqb_tells, nat_tests}}, Option.{none-some}}
 use Rattle.cap_word.specs.declared.word.Cap.{Cap}
 use Rattle.cap_bounds.specs.Bounds.{base_of, top_of}
 use Rattle.cap_ops.specs.Permissions.{is_sealed}
@@ -36,11 +36,20 @@ extent-top number step base top some =
     let last : last_below base top ≡ top - 1 = cond-true (nat_lt base top) (top - 1) base is in
     cond-true (nat_lt base top) (last_below base top + 1) base is ∙ (let e : last_below base top + 1 ≡ top = omega (arith, last) in e)
 
+extent-until : (number step base top : ℕ) → base ≤ top → top ≤ top_of_extent (handed_out number step base top)
+extent-until number step base top holds = elim (cases_lt base top) [
+  | inl some ↦ let end = extent-top number step base top some in omega (arith, end)
+  | inr none ↦
+      let short : nat_lt base top ≡ false = le-ltb base top (omega (arith, none)) in
+      let end : top_of_extent (handed_out number step base top) ≡ base = cond-false (nat_lt base top) _ base short in
+      omega (arith, end, none)
+]
+
 -- what was handed out lies inside its object's extent
-pub within-new : (cap : Cap) (number step base top : ℕ) → is_capability cap ≡ true → base ≡ base_of cap.word.0 → top ≡ top_of cap.word.0 → base < top
+pub within-new : (cap : Cap) (number step base top : ℕ) → is_capability cap ≡ true → base ≡ base_of cap.word.0 → top ≡ top_of cap.word.0 → base ≤ top
     → IsWithin cap (handed_out number step base top)
-within-new cap number step base top capable base_is top_is some =
-    let end = extent-top number step base top some in
+within-new cap number step base top capable base_is top_is holds =
+    let end = extent-until number step base top holds in
     record {
       tagged = (and_parts cap.tag (not (is_sealed cap.word.0)) capable).0;
       from = omega (arith, base_is);

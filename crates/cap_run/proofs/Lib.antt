@@ -6,3 +6,13 @@ mod SafetyLemmas
 mod FillLemmas
 mod WideningLemmas
 mod UsualLemmas
+mod IndexedLemmas
+mod MeetLemmas
+mod ChangeLemmas
+mod ObjectNumberLemmas
+mod NumberLemmas
+mod EndLemmas
+mod AnswerLemmas
+mod RunNumberLemmas
+mod GranuleLemmas
+mod RootLemmas

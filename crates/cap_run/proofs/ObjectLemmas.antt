@@ -143,7 +143,7 @@ counts-freed owners objects after slot o step there set are n = elim (eqb_tells 
   | inr unlike ↦ ap held_of (set.1 n unlike.1) ∙ are n
 ]
 
-kept_some : (o x : Object) → kept o ≡ Some x → o ≡ x
+pub kept_some : (o x : Object) → kept o ≡ Some x → o ≡ x
 kept_some o x is = elim (cases_Bool (is_present o)) [
   | inl there ↦ same_Some o x (sym (cond-true (is_present o) (Some o) None there) ∙ is)
   | inr gone ↦ absurd (none-some x (sym (cond-false (is_present o) (Some o) None gone) ∙ is))

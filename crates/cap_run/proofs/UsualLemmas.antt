@@ -1,7 +1,7 @@
 -- Owners, their counts and what they own after a step of version 2.
 use Rattle.std.specs.FinMap as map
 use Rattle.std.proofs.Common.{◌≡◌, ◌≢◌, ◌==◌, ◌-◌, ◌<◌, ◌≤◌, ◌^◌, ℕ, Bool, true, false, IsTrue, Some, None, Option, inl, inr}
-use Rattle.std.proofs.Common.{if◌then◌else◌, nat_lt, le-ltb, lt-ltb, ne_eqb, refl, sym, ap, subst, ◌∙◌, arith, option_map, option_and_then, unwrap_or, IfSome}
+use Rattle.std.proofs.Common.{if◌then◌else◌, is_some, nat_lt, le-ltb, lt-ltb, ne_eqb, refl, sym, ap, subst, ◌∙◌, arith, option_map, option_and_then, unwrap_or, IfSome}
 use Rattle.std.specs.Option.{option_map_or}
 use Rattle.std.proofs.Math.Path.{fun_ext}
 use Rattle.std.proofs.lemmas.{Bool.{cases_lt, cond-true, cond-false}, Option.{none-some, same_Some}}
@@ -9,7 +9,7 @@ use Rattle.cap_word.specs.declared.word.Cap.{Cap}
 use Rattle.cap_bounds.specs.Bounds.{IsInside, base_of, top_of}
 use Rattle.cap_log.specs.{declared.{kinds.Step.Step, lines.Place.{Place, TheVariants.{Register, Granule}}}, Lines.{IsPlace, IsStepInRange}}
 use Rattle.tagmem.specs.Granules.{AreStored, Entry, Granules, blank}
-use Rattle.cap_machine.specs.{Accounts.Account, declared.ends.StepEnd.{StepEnd, TheVariants.{Refused, NoMemory}}}
+use Rattle.cap_machine.specs.{Accounts.Account, declared.{ends.StepEnd.{StepEnd, TheVariants.{Refused, NoMemory}}, rules.Rules.Rules}}
 use Rattle.cap_machine.specs.Helds.{EndsStep, Held, IsKept, Makes, account_of, code_in, state_of}
 use Rattle.cap_machine.specs.{Places.{IsCoded, place_at}, Runs.parent_of, States.{State, key_of}, Steps.row_of}
 use Rattle.cap_machine.proofs.AuthorityLemmas.{one_back}
@@ -18,7 +18,7 @@ use Rattle.cap_objects.specs.{Extents.Objects, Handed.{IsRecounted, held_of}}
 use Rattle.cap_objects.proofs.BelowLemmas.{below-same, counts_where}
 use Rattle.cap_run.specs.declared.specials.Specials.{Specials}
 use Rattle.cap_run.specs.{Owned.{AreWithin, IsWithin, object_by, owner_for}, Run.{first_special}, RunOf.{run_owners, run_state}}
-use Rattle.cap_run.specs.{Specials.{cap_in, label_in}, UsualSteps.{disowned, main_owners, owner_at, written_by}}
+use Rattle.cap_run.specs.{Specials.{cap_in, label_in}, RunSteps.IsUnstepped, UsualSteps.{disowned, main_owners, owner_at, written_by}}
 use Rattle.cap_run.proofs.OwnerLemmas.{counts-to, either-key, owner_for-some, within-came}
 
 pub usual-ended : (old : Held) (step : Step) (end : StepEnd) (new : Held) → EndsStep old step end new → new ≡ old
@@ -91,6 +91,18 @@ disowned-other (Some (Register n)) state owners key differ =
 at_there : (owners : Owners) (written : Option Place) (slot : ℕ) {P : Type 0} → ((key : ℕ) → owners key ≡ Some slot → P) → owner_at owners written ≡ Some slot → P
 at_there owners None slot each is = absurd (none-some slot is)
 at_there owners (Some place) slot each is = each (key_of place) is
+
+-- the account of a machine whose labels alone changed
+pub unstepped-account : (old new : Held) → IsUnstepped old new → state_of new ≡ state_of old
+    → account_of new ≡ record (account_of old) { origin = (account_of new).origin }
+unstepped-account old new same state =
+    ap (λ (s : State). record (account_of new) { state = s }) state
+    ∙ ap (λ (r : Rules). record (account_of new) { state = state_of old; rules = r }) same.0
+    ∙ ap (λ (m : Granules). record (account_of new) {
+      state = state_of old; rules = old.rules; is_named = λ granule. is_some (map.get m granule); granules = map.len m;
+    }) same.1
+    ∙ ap (λ (n : ℕ). record (account_of old) { origin = (account_of new).origin; roots = n; steps = new.steps }) same.2
+    ∙ ap (λ (n : ℕ). record (account_of old) { origin = (account_of new).origin; steps = n }) same.3
 
 module _ (old mid new : Held) (specials : Specials) (step : Step) (written : Option Place) (range : IsStepInRange step)
     (kept : IsKept old.registers old.codes old.memory) (stored : AreStored old.memory) (kept_after : IsKept mid.registers mid.codes mid.memory)

@@ -12,3 +12,4 @@ pub mod RunChanges
 pub mod RunChecks
 pub mod Numbers
 pub mod Descents
+pub mod RootSteps

@@ -55,6 +55,11 @@ abbrev pub WidenEnds : Run → Bool → ℕ → ℕ → RunEnd → Type 0
 WidenEnds old keeps register slot end = (object : Object) → old.objects slot ≡ Some object → let w = (old.state register).word.0 in
     ExtentEnds old keeps (Some slot) (min object.base (base_of w)) (max (top_of_extent object) (top_of w)) end
 
+-- the extent of the object in a slot can be widened
+abbrev pub CanWiden : Run → Bool → ℕ → ℕ → Type 0
+CanWiden old keeps register slot = (object : Object) → old.objects slot ≡ Some object → let w = (old.state register).word.0 in
+    HasRoom keeps (Some slot) old.objects (min object.base (base_of w)) (max (top_of_extent object) (top_of w))
+
 -- why `object cN K` is refused
 abbrev pub AgainEnds : Run → Bool → ℕ → ℕ → RunEnd → Type 0
 AgainEnds old keeps register number end =

@@ -14,6 +14,8 @@ use Rattle.cap_run_log.specs.declared.lines.{RunLine.RunLine, RunPlace.RunPlace,
 use Rattle.cap_run_log.specs.declared.lines.RunLine.TheVariants as lines
 use Rattle.cap_run_log.specs.declared.lines.RunStep.TheVariants as steps
 use Rattle.cap_run.specs.declared.{asks.Asks.Asks, ends.{RunEnd.RunEnd, RunRefusal.RunRefusal}}
+use Rattle.cap_machine.specs.declared.ends.StepEnd.{StepEnd}
+use Rattle.cap_machine.specs.declared.ends.StepEnd.TheVariants as step_ends
 use Rattle.cap_run.specs.declared.ends.RunEnd.TheVariants as ends
 use Rattle.cap_run.specs.declared.ends.RunRefusal.TheVariants.{AlreadyFreed, NoCapability, NoObject, NoOwner, NotOwned, Overlaps, OwnerFreed, StillHeld, Usual}
 use Rattle.cap_run.specs.{ObjectSteps.object_refusal, Run.Run, RunChanges.{account_in, granule_in, place_key}}
@@ -137,6 +139,11 @@ line_end asks run (lines.Step step) = usual_end asks run step
 line_end asks run (lines.Run step) = run_end asks run step
 line_end asks run (lines.End count) = if count == run.steps then None else Some (Usual WrongCount)
 line_end asks run line = Some (Usual Misplaced)
+
+-- how a step ends in a run that ends so in the machine without objects
+abbrev pub usual_ended : StepEnd → RunEnd
+usual_ended (step_ends.Refused refusal) = ends.Refused (Usual refusal)
+usual_ended step_ends.NoMemory = ends.NoMemory
 
 -- whether a step that only runs have may want memory: for an object, or for a granule that is named for the first time
 abbrev pub run_wants : Run → RunStep → Bool

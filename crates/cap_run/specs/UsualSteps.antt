@@ -2,7 +2,7 @@
 use Rattle.std.specs.Prelude.{◌≡◌, ℕ, Option, Some, None, option_map, option_and_then}
 use Rattle.cap_ops.specs.Checks.{first_of}
 use Rattle.cap_log.specs.declared.{kinds.Step.Step, lines.Place.{Place, TheVariants.{Register, Granule}}}
-use Rattle.cap_machine.specs.{Accounts.{step_checks}, Helds.{Held, account_of, state_of}, Runs.parent_of, States.{State, key_of}}
+use Rattle.cap_machine.specs.{Accounts.{step_checks, with_step}, Helds.{Held, account_of, state_of}, Runs.parent_of, States.{State, key_of}}
 use Rattle.cap_machine.specs.Steps.{Leads, row_of}
 use Rattle.cap_objects.specs.{Counts.{Owners, at_key}, Extents.Objects, Handed.IsRecounted}
 use Rattle.cap_run.specs.Owned.{object_by, owner_for}
@@ -30,6 +30,7 @@ disowned None state owners = owners
 -- if its bounds are empty: what is stored or not written is as it was
 pub record MakesUsual (old : Held) (objects : Objects) (step : Step) (new : Held) (after : Objects) : Type 0 where
   pub checks : first_of (step_checks (account_of old) step) ≡ None
+  pub account : account_of new ≡ record (with_step (account_of old) step) { origin = let account = account_of new in account.origin }
   pub leads : Leads old.rules (state_of old) step (state_of new)
   pub owners : (key : ℕ) → main_owners new key
       ≡ disowned (written_by old step) (state_of new) (λ k. option_and_then (main_owners old) (parent_of (state_of old) step (state_of new) k)) key

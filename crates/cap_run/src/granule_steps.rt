@@ -1,12 +1,12 @@
 //! Steps of runs on memory that no authority is needed for.
 
-ghost use Rattle.std.specs.Prelude.{◌≡◌, ◌<◌, ◌-◌, ◌^◌, ℕ, None, IsTrue, false, MatchResult, OnOk, OnErr, IfErr};
+ghost use Rattle.std.specs.Prelude.{◌≡◌, ◌<◌, ◌-◌, ◌^◌, ℕ, None, IsTrue, true, false, MatchResult, OnOk, OnErr, IfErr};
 ghost use Rattle.cap_machine.specs.{Changes.{EndsPut, is_past_limits}, Labels.untagged, Places.place_at, States.granule_key};
-ghost use Rattle.cap_run.specs.{GranuleSteps.{Counts, Fills}, Owned.object_by, RunOf.{run_of, run_owners}};
+ghost use Rattle.cap_run.specs.{GranuleSteps.{Counts, Fills}, Owned.object_by, RunOf.{run_of, run_owners, run_state}};
 
 use crate::run_machine::{RunMachine, slot_by};
 use cap_log::Place;
-use cap_machine::{Refusal, StepEnd};
+use cap_machine::StepEnd;
 use cap_objects::recount;
 use cap_word::{Cap, Word};
 use tagmem::TaggedStore;
@@ -23,6 +23,7 @@ impl<M: TaggedStore> RunMachine<M> {
             (run_of self.new.machine self.new.specials self.new.objects))
             (λ end. EndsPut self.old.machine granule end self.new.machine) }
         ensures err { OnErr result ((self.new.specials ≡ self.old.specials) × (self.new.objects ≡ self.old.objects)) }
+        ensures asks { self.new.asks ≡ self.old.asks }
     {
         let from = self.granule_owner(granule);
         let cap = Cap { tag: false, word };
@@ -43,33 +44,23 @@ impl<M: TaggedStore> RunMachine<M> {
         slot_by(self.machine.label(Place::Granule(granule)))
     }
 
-    /// The tag of a granule goes, and its word stays. A granule without a tag stays as it is, and isn't named by this. It is
-    /// refused where there are 4,294,967,295 steps (`LimitPassed`). After an error nothing has changed.
-    pub fn drop_granule(&mut self, granule: u64) -> Result<(), StepEnd>
+    // What a granule holds.
+    pub(crate) fn granule_cap(&self, granule: u64) -> Cap
         requires { granule < 2 ^ 60 }
-        ensures tagged { OnOk result (let old = run_of self.old.machine self.old.specials self.old.objects in let cap = old.state (granule_key granule) in
-            IsTrue cap.tag → Fills old granule (untagged cap) (run_of self.new.machine self.new.specials self.new.objects)) }
-        ensures untagged { OnOk result (let old = run_of self.old.machine self.old.specials self.old.objects in let cap = old.state (granule_key granule) in
-            cap.tag ≡ false → Counts old (run_of self.new.machine self.new.specials self.new.objects)) }
-        ensures end { IfErr result (λ end. EndsPut self.old.machine granule end self.new.machine) }
-        ensures err { OnErr result ((self.new.specials ≡ self.old.specials) × (self.new.objects ≡ self.old.objects)) }
+        ensures value { result ≡ run_state self.now.machine self.now.specials (granule_key granule) }
+        ensures named { IsTrue result.tag → let run = run_of self.now.machine self.now.specials self.now.objects in run.is_named granule ≡ true }
+        ensures unowned { result.tag ≡ false → run_owners self.now.machine self.now.specials (granule_key granule) ≡ None }
     {
-        let cap = self.machine.granule(granule);
-        if cap.tag {
-            return self.fill(granule, cap.word);
-        }
-        if self.step_limit().is_some() {
-            return Err(StepEnd::Refused(Refusal::LimitPassed));
-        }
-        self.count();
-        Ok(())
+        self.machine.kept();
+        self.machine.granule(granule)
     }
 
     // A step that changes nothing is counted.
-    fn count(&mut self)
+    pub(crate) fn count_step(&mut self)
         requires { self.old.machine.steps < 2 ^ 32 - 1 }
         ensures counts { Counts (run_of self.old.machine self.old.specials self.old.objects)
             (run_of self.new.machine self.new.specials self.new.objects) }
+        ensures asks { self.new.asks ≡ self.old.asks }
     {
         self.machine.count_step();
     }

@@ -10,9 +10,12 @@
 mod asks;
 mod ends;
 mod granule_steps;
+mod lines;
+mod object_lines;
 mod object_steps;
 mod puts;
 mod register_steps;
+mod roots;
 mod run_machine;
 mod specials;
 mod usual_steps;

@@ -8,7 +8,7 @@ ghost use Rattle.cap_objects.specs.{Counts.at_key, Extents.Sets, HandoutsIn.obje
 ghost use Rattle.cap_objects.specs.declared.objects.Object.{Object as ObjectIn};
 ghost use Rattle.cap_run.specs.declared.ends.RunRefusal.TheVariants.{Usual};
 ghost use Rattle.cap_ops.specs.declared.refusal.Refusal.TheVariants.{LimitPassed};
-ghost use Rattle.cap_run.specs.{ObjectSteps.{AgainEnds, ExtentEnds, FreeEnds, FreeNumberEnds, Frees, HandsOut, ObjectEnds, WidenEnds, Widens, ended, is_capability, object_refusal}, Owned.IsWithin};
+ghost use Rattle.cap_run.specs.{ObjectSteps.{AgainEnds, CanWiden, ExtentEnds, FreeEnds, FreeNumberEnds, Frees, HandsOut, ObjectEnds, WidenEnds, Widens, ended, is_capability, object_refusal}, Owned.IsWithin};
 ghost use Rattle.cap_run.specs.{RunOf.{run_of, run_owners, run_state}, RunSteps.{IsUnstepped, step_limit}};
 
 use crate::ends::{RunEnd, RunRefusal};
@@ -57,6 +57,7 @@ impl<M: TaggedStore> RunMachine<M> {
         ensures err { OnErr result ((slot : ℕ) → objects_of self.new.objects slot ≡ objects_of self.old.objects slot) }
         ensures err_rest { OnErr result ((self.new.machine ≡ self.old.machine) × (self.new.objects.count ≡ self.old.objects.count)) }
         ensures keeps { self.new.objects.keeps ≡ self.old.objects.keeps }
+        ensures asks { self.new.asks ≡ self.old.asks }
     {
         let step = self.machine.steps() + 1;
         match self.objects.hand_out(base, top, step) {
@@ -76,6 +77,8 @@ impl<M: TaggedStore> RunMachine<M> {
         requires few { self.old.machine.steps < 2 ^ 32 - 1 }
         ensures ok { OnOk result ((object : ObjectIn) → objects_of self.old.objects slot ≡ Some object
             → Sets (objects_of self.old.objects) slot (Some (widened object base top)) (objects_of self.new.objects)) }
+        ensures room { OnOk result ((object : ObjectIn) → objects_of self.old.objects slot ≡ Some object
+            → HasRoom self.old.objects.keeps (Some slot) (objects_of self.old.objects) (min object.base base) (max (top_of_extent object) top)) }
         ensures held { OnOk result (self.new.machine ≡ record self.old.machine { steps = self.old.machine.steps + 1 }) }
         ensures specials { self.new.specials ≡ self.old.specials }
         ensures fault { IfErr result (λ fault. (object : ObjectIn) → objects_of self.old.objects slot ≡ Some object
@@ -83,6 +86,7 @@ impl<M: TaggedStore> RunMachine<M> {
         ensures err { OnErr result ((other : ℕ) → objects_of self.new.objects other ≡ objects_of self.old.objects other) }
         ensures err_rest { OnErr result (self.new.machine ≡ self.old.machine) }
         ensures same { (self.new.objects.count ≡ self.old.objects.count) × (self.new.objects.keeps ≡ self.old.objects.keeps) }
+        ensures asks { self.new.asks ≡ self.old.asks }
     {
         match self.objects.widen(slot, base, top) {
             Ok(()) => {
@@ -106,6 +110,7 @@ impl<M: TaggedStore> RunMachine<M> {
             ≡ at_key (run_owners self.old.machine self.old.specials) register (Some slot) other }
         ensures rest { IsUnstepped self.old.machine self.new.machine }
         ensures same { (self.new.objects.count ≡ self.old.objects.count) × (self.new.objects.keeps ≡ self.old.objects.keeps) }
+        ensures asks { self.new.asks ≡ self.old.asks }
     {
         let cap = self.machine.register(register);
         self.objects.count_up(slot);
@@ -159,6 +164,7 @@ impl<M: TaggedStore> RunMachine<M> {
         ensures end { IfErr result (ObjectEnds (run_of self.old.machine self.old.specials self.old.objects) self.old.objects.keeps register) }
         ensures err { OnErr result (run_of self.new.machine self.new.specials self.new.objects
             ≡ run_of self.old.machine self.old.specials self.old.objects) }
+        ensures asks { self.new.asks ≡ self.old.asks }
     {
         if let Some(refusal) = self.object_refusal(register) {
             return Err(RunEnd::Refused(refusal));
@@ -191,9 +197,11 @@ impl<M: TaggedStore> RunMachine<M> {
             (run_of self.new.machine self.new.specials self.new.objects)) }
         ensures can { OnOk result (let old = run_of self.old.machine self.old.specials self.old.objects in
             (object_refusal old register ≡ None) × (step_limit old ≡ None)) }
+        ensures room { IfOk result (CanWiden (run_of self.old.machine self.old.specials self.old.objects) self.old.objects.keeps register) }
         ensures end { IfErr result (AgainEnds (run_of self.old.machine self.old.specials self.old.objects) self.old.objects.keeps register number) }
         ensures err { OnErr result (run_of self.new.machine self.new.specials self.new.objects
             ≡ run_of self.old.machine self.old.specials self.old.objects) }
+        ensures asks { self.new.asks ≡ self.old.asks }
     {
         if let Some(refusal) = self.object_refusal(register) {
             return Err(RunEnd::Refused(refusal));
@@ -217,9 +225,11 @@ impl<M: TaggedStore> RunMachine<M> {
         ensures ok { OnOk result (Widens (run_of self.old.machine self.old.specials self.old.objects) register slot
             (run_of self.new.machine self.new.specials self.new.objects)) }
         ensures few { OnOk result (step_limit (run_of self.old.machine self.old.specials self.old.objects) ≡ None) }
+        ensures room { OnOk result (CanWiden (run_of self.old.machine self.old.specials self.old.objects) self.old.objects.keeps register slot) }
         ensures end { IfErr result (WidenEnds (run_of self.old.machine self.old.specials self.old.objects) self.old.objects.keeps register slot) }
         ensures err { OnErr result (run_of self.new.machine self.new.specials self.new.objects
             ≡ run_of self.old.machine self.old.specials self.old.objects) }
+        ensures asks { self.new.asks ≡ self.old.asks }
     {
         let bounds = bounds(self.register(RunRegister::General(register)).word);
         if self.step_limit().is_some() {
@@ -228,7 +238,7 @@ impl<M: TaggedStore> RunMachine<M> {
         match self.widen_object(slot, bounds.base, bounds.top) {
             Err(fault) => Err(ended(fault)),
             Ok(()) => {
-                if u128::from(bounds.base) < bounds.top {
+                if bounds.top > u128::from(bounds.base) {
                     self.give(register, slot);
                 }
                 Ok(())
@@ -258,6 +268,7 @@ impl<M: TaggedStore> RunMachine<M> {
         requires few { self.old.machine.steps < 2 ^ 32 - 1 }
         ensures frees { Frees (run_of self.old.machine self.old.specials self.old.objects) slot
             (run_of self.new.machine self.new.specials self.new.objects) }
+        ensures asks { self.new.asks ≡ self.old.asks }
     {
         let step = self.machine.steps() + 1;
         self.objects.free(slot, step);
@@ -275,6 +286,7 @@ impl<M: TaggedStore> RunMachine<M> {
         ensures end { IfErr result (FreeNumberEnds (run_of self.old.machine self.old.specials self.old.objects) number) }
         ensures err { OnErr result (run_of self.new.machine self.new.specials self.new.objects
             ≡ run_of self.old.machine self.old.specials self.old.objects) }
+        ensures asks { self.new.asks ≡ self.old.asks }
     {
         match self.objects.live(number) {
             Err(NumberFault::NoObject) => Err(RunEnd::Refused(RunRefusal::NoObject)),
@@ -301,6 +313,7 @@ impl<M: TaggedStore> RunMachine<M> {
         ensures end { IfErr result (FreeEnds (run_of self.old.machine self.old.specials self.old.objects) register) }
         ensures err { OnErr result (run_of self.new.machine self.new.specials self.new.objects
             ≡ run_of self.old.machine self.old.specials self.old.objects) }
+        ensures asks { self.new.asks ≡ self.old.asks }
     {
         let place = RunRegister::General(register);
         if !self.register(place).tag {

@@ -76,6 +76,7 @@ impl<M: TaggedStore> RunMachine<M> {
         ensures writes { Writes (run_of self.old.machine self.old.specials self.old.objects) (register_key target) cap
             (owner_for cap (run_owners self.old.machine self.old.specials (register_key source)))
             (run_of self.new.machine self.new.specials self.new.objects) }
+        ensures asks { self.new.asks ≡ self.old.asks }
     {
         let label = label_for(cap, self.label(source));
         let from = self.owner(target);
@@ -109,6 +110,7 @@ impl<M: TaggedStore> RunMachine<M> {
             (register_key first) first_cap (owner_for first_cap (owners (register_key first_source)))
             (register_key second) second_cap (owner_for second_cap (owners (register_key second_source)))
             (run_of self.new.machine self.new.specials self.new.objects) }
+        ensures asks { self.new.asks ≡ self.old.asks }
     {
         let first_label = label_for(first_cap, self.label(first_source));
         let second_label = label_for(second_cap, self.label(second_source));

@@ -90,6 +90,7 @@ impl<M: TaggedStore> RunMachine<M> {
             (IsRefusedAs (derive_end old target source recorded)) }
         ensures err { OnErr result (run_of self.new.machine self.new.specials self.new.objects
             ≡ run_of self.old.machine self.old.specials self.old.objects) }
+        ensures asks { self.new.asks ≡ self.old.asks }
     {
         if let Some(refusal) = derived_refusal(target, self.register(source), recorded) {
             return Err(RunEnd::Refused(refusal));
@@ -120,6 +121,7 @@ impl<M: TaggedStore> RunMachine<M> {
             (IsRefusedAs (exchange_end old target source number recorded special_recorded)) }
         ensures err { OnErr result (run_of self.new.machine self.new.specials self.new.objects
             ≡ run_of self.old.machine self.old.specials self.old.objects) }
+        ensures asks { self.new.asks ≡ self.old.asks }
     {
         let general = RunRegister::General(target);
         let special = RunRegister::Special(number);
@@ -164,6 +166,7 @@ impl<M: TaggedStore> RunMachine<M> {
             (IsRefusedAs (invoke_end old code data_register code_word data_word)) }
         ensures err { OnErr result (run_of self.new.machine self.new.specials self.new.objects
             ≡ run_of self.old.machine self.old.specials self.old.objects) }
+        ensures asks { self.new.asks ≡ self.old.asks }
     {
         let code = RunRegister::General(code);
         let operand = RunRegister::General(data_register);
@@ -205,6 +208,7 @@ impl<M: TaggedStore> RunMachine<M> {
             (IsRefusedAs (step_limit old)) }
         ensures err { OnErr result (run_of self.new.machine self.new.specials self.new.objects
             ≡ run_of self.old.machine self.old.specials self.old.objects) }
+        ensures asks { self.new.asks ≡ self.old.asks }
     {
         if let Some(refusal) = self.step_limit() {
             return Err(RunEnd::Refused(refusal));

@@ -2,11 +2,12 @@
 
 ghost use Rattle.std.specs.Prelude.{◌≡◌, ◌≤◌, ◌<◌, ◌^◌, ℕ, None, IfSome};
 ghost use Rattle.std.specs.FinMap as map;
-ghost use Rattle.cap_machine.specs.{Accounts.no_account, Helds.account_of, Parents.IsSoundCap, Places.{IsCoded, place_at}};
-ghost use Rattle.cap_machine.specs.States.{untagged_null};
+ghost use Rattle.cap_machine.specs.{Parents.IsSoundCap, Places.{IsCoded, place_at}};
 ghost use Rattle.cap_objects.specs.{Counts.CountsAre, Handed.held_of, HandoutsIn.objects_of};
-ghost use Rattle.cap_run.specs.{Owned.{AreWithin, object_by}, Run.{IsSource, IsTargetOf, register_key}, RunOf.{run_of, run_owners, run_state}, Safety.IsSafe};
+ghost use Rattle.cap_run.specs.{Owned.{AreWithin, object_by}, Run.{IsSource, IsTargetOf, register_key}, RunOf.{run_owners, run_state}};
+ghost use Rattle.cap_run.specs.{Numbers.numbered_run, RunChanges.no_run, Safety.IsSafe};
 
+use crate::asks::Asks;
 use crate::specials::Specials;
 use cap_log::Place;
 use cap_machine::{Machine, Rules};
@@ -22,36 +23,71 @@ pub struct RunMachine<M: TaggedStore> {
     pub(crate) machine: Machine<M>,
     pub(crate) specials: Specials,
     pub(crate) objects: Handouts,
+    pub(crate) asks: Asks,
     ghost counted: { CountsAre (run_owners machine specials) (λ slot. held_of (objects_of objects slot)) },
     ghost within: { AreWithin (run_state machine specials) (run_owners machine specials) (objects_of objects) },
     ghost few: { objects.count ≤ machine.steps },
+    ghost asked: { objects.keeps ≡ asks.held },
 }
 
 impl<M: TaggedStore> RunMachine<M> {
-    /// A machine that holds NULL without a tag everywhere, over an empty store, and no objects. `keeps` says whether new
-    /// objects are compared with freed ones that are held.
-    pub fn new(alloc: Global, memory: M, rules: Rules, keeps: bool) -> RunMachine<M>
+    /// A machine that holds NULL without a tag everywhere, over an empty store, and no objects, by strict rules.
+    pub fn new(alloc: Global, memory: M, asks: Asks) -> RunMachine<M>
         requires { map.len (M.contents memory) ≡ 0 }
-        ensures account { account_of result.machine ≡ no_account rules }
-        ensures state { (key : ℕ) → run_state result.machine result.specials key ≡ untagged_null }
-        ensures owners { (key : ℕ) → run_owners result.machine result.specials key ≡ None }
-        ensures objects { (slot : ℕ) → objects_of result.objects slot ≡ None }
-        ensures count { result.objects.count ≡ 0 }
-        ensures keeps { result.objects.keeps ≡ keeps }
+        ensures run { numbered_run result.machine result.specials result.objects ≡ no_run }
+        ensures asks { result.asks ≡ asks }
     {
         RunMachine {
-            machine: Machine::with_rules(memory, rules),
+            machine: Machine::with_rules(memory, Rules::TwoStrict),
             specials: Specials::new(),
-            objects: Handouts::new(alloc, keeps),
+            objects: Handouts::new(alloc, asks.held),
+            asks,
         }
     }
 
     /// What is true at each moment: no address lies in the extents of two present objects, nor in what two capabilities of
     /// two of them reach. It does nothing: what it says is its contract.
     pub fn kept(&self)
-        ensures safe { IsSafe self.now.objects.keeps (run_of self.now.machine self.now.specials self.now.objects) }
+        ensures safe { IsSafe self.now.asks.held (numbered_run self.now.machine self.now.specials self.now.objects) }
     {
         self.objects.kept();
+    }
+
+    /// From now on it follows these rules. All else is as before.
+    pub fn follow(&mut self, rules: Rules)
+        ensures run { numbered_run self.new.machine self.new.specials self.new.objects
+            ≡ record (numbered_run self.old.machine self.old.specials self.old.objects) { rules = rules } }
+        ensures asks { self.new.asks ≡ self.old.asks }
+    {
+        self.machine.follow(rules);
+    }
+
+    /// How many steps were made.
+    pub fn steps(&self) -> u32
+        ensures value { result ≡ (let run = numbered_run self.now.machine self.now.specials self.now.objects in run.steps) }
+    {
+        self.machine.steps()
+    }
+
+    /// How many roots were declared.
+    pub fn roots(&self) -> u32
+        ensures value { result ≡ (let run = numbered_run self.now.machine self.now.specials self.now.objects in run.roots) }
+    {
+        self.machine.roots()
+    }
+
+    /// How many objects were handed out.
+    pub fn count(&self) -> u32
+        ensures value { result ≡ (let run = numbered_run self.now.machine self.now.specials self.now.objects in run.count) }
+    {
+        self.objects.count()
+    }
+
+    /// What is asked of freed objects, and of authorities that no object owns.
+    pub fn asks(&self) -> Asks
+        ensures value { result ≡ self.now.asks }
+    {
+        self.asks
     }
 
     /// What a register holds.

@@ -51,6 +51,7 @@ impl<M: TaggedStore> RunMachine<M> {
             (λ end. EndsStep self.old.machine step.now end self.new.machine) }
         ensures specials { self.new.specials ≡ self.old.specials }
         ensures err { OnErr result (self.new.objects ≡ self.old.objects) }
+        ensures asks { self.new.asks ≡ self.old.asks }
     {
         self.machine.kept();
         let from = owner_at(&self.machine, written);

@@ -1,4 +1,4 @@
-use Rattle.std.proofs.{Common.{refl, sym, ap, subst, arith, ◌+◌}, Math.Path.fun_ext}
+use Rattle.std.proofs.{Common.{◌∙◌, refl, sym, ap, subst, arith, ◌+◌}, Math.Path.fun_ext}
 use Rattle.cap_machine.specs.Helds.{Held}
 use Rattle.cap_objects.specs.{Counts.CountsAre, Extents.Objects, Handed.{handed_out, held_of}, HandoutsIn.objects_of}
 use Rattle.cap_run.specs.{Owned.AreWithin, RunOf.{run_owners, run_state}}
@@ -20,6 +20,7 @@ invariant_of-self g c =
           let count = c.in-Ok.ensures.count in
           let steps = ap (λ (h : Held). h.steps) c.count_step.ensures.held in
           omega (arith, s.few, count, steps);
+      asked = c.hand_out.ensures.keeps ∙ s.asked;
     }
 
 pub invariant_of-self-in-Err-1 : goal.invariant_of-self-in-Err-1
@@ -30,4 +31,5 @@ invariant_of-self-in-Err-1 g c =
       counted = subst (λ (o : Objects). CountsAre (run_owners s.machine s.specials) (λ n. held_of (o n))) (sym same) s.counted;
       within = subst (λ (o : Objects). AreWithin (run_state s.machine s.specials) (run_owners s.machine s.specials) o) (sym same) s.within;
       few = let count = c.in-Err.ensures.err_count in omega (arith, s.few, count);
+      asked = c.hand_out.ensures.keeps ∙ s.asked;
     }

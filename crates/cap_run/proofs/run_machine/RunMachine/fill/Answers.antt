@@ -14,6 +14,7 @@ invariant_of-self g c =
       counted = subst (λ (h : Held). CountsAre (run_owners h s.specials) (λ n. held_of (objects_of s.objects n))) (sym same) s.counted;
       within = subst (λ (h : Held). AreWithin (run_state h s.specials) (run_owners h s.specials) (objects_of s.objects)) (sym same) s.within;
       few = let steps = ap (λ (h : Held). h.steps) same in omega (arith, s.few, steps);
+      asked = s.asked;
     }
 
 pub recount-requires-clause-from : goal.recount-requires-clause-from
@@ -43,6 +44,7 @@ invariant_of-self-in-Ok g c =
           let count = c.recount.ensures.same.0 in
           let steps = ap (λ (a : Account). a.steps) account in
           omega (arith, s.few, count, steps);
+      asked = c.recount.ensures.same.1 ∙ s.asked;
     }
 
 pub returns-in-Ok-clause-outcome : goal.returns-in-Ok-clause-outcome

@@ -1,4 +1,4 @@
-use Rattle.std.proofs.Common.{sym, ap, subst, arith}
+use Rattle.std.proofs.Common.{◌∙◌, sym, ap, subst, arith}
 use Rattle.cap_machine.specs.Helds.{Held}
 use Rattle.cap_objects.specs.{Counts.CountsAre, Handed.held_of, HandoutsIn.objects_of}
 use Rattle.cap_run.specs.{Owned.AreWithin, RunOf.{run_owners, run_state}}
@@ -20,4 +20,5 @@ invariant_of-self g c =
           let count = c.free.ensures.rest.0 in
           let steps = ap (λ (h : Held). h.steps) c.count_step.ensures.held in
           omega (arith, s.few, count, steps);
+      asked = c.free.ensures.rest.1 ∙ s.asked;
     }

@@ -38,6 +38,7 @@ invariant_of-self g c =
           let count = c.count_up.ensures.rest.0 in
           let same = c.put_at.ensures.rest.3 in
           omega (arith, s.few, count, same);
+      asked = c.count_up.ensures.rest.1 ∙ s.asked;
     }
 
 pub returns-clause-state : goal.returns-clause-state

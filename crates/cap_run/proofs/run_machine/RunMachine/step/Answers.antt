@@ -1,9 +1,9 @@
 use Rattle.std.proofs.Common.{sym, ap, subst, ◌∙◌, arith}
-use Rattle.cap_machine.specs.{Accounts.Account, Helds.{Held, state_of}, Steps.Leads}
+use Rattle.cap_machine.specs.{Accounts.Account, Helds.{Held, account_of, state_of}, Steps.Leads}
 use Rattle.cap_objects.specs.{Counts.CountsAre, Handed.held_of, HandoutsIn.objects_of}
 use Rattle.cap_objects.proofs.BelowLemmas.{counts_few}
 use Rattle.cap_run.specs.{Owned.AreWithin, RunOf.{run_owners, run_state}}
-use Rattle.cap_run.proofs.UsualLemmas.{counts-usual, from-there, to-there, usual-ended, usual-owners, within-usual}
+use Rattle.cap_run.proofs.UsualLemmas.{unstepped-account, counts-usual, from-there, to-there, usual-ended, usual-owners, within-usual}
 use Rattle.cap_run.proofs.run_machine.RunMachine.step.Goals as goal
 
 pub invariant_of-self : goal.invariant_of-self
@@ -14,6 +14,7 @@ invariant_of-self g c =
       counted = subst (λ (h : Held). CountsAre (run_owners h s.specials) (λ n. held_of (objects_of s.objects n))) (sym same) s.counted;
       within = subst (λ (h : Held). AreWithin (run_state h s.specials) (run_owners h s.specials) (objects_of s.objects)) (sym same) s.within;
       few = let steps = ap (λ (h : Held). h.steps) same in omega (arith, s.few, steps);
+      asked = s.asked;
     }
 
 pub recount-requires-clause-from : goal.recount-requires-clause-from
@@ -51,6 +52,7 @@ invariant_of-self-2 g c =
           let made = ap (λ (a : Account). a.steps) c.in_default.ensures.outcome.account in
           let same = c.disown.ensures.rest.3 in
           omega (arith, s.few, count, made, same);
+      asked = c.recount.ensures.same.1 ∙ s.asked;
     }
 
 pub returns-clause-outcome : goal.returns-clause-outcome
@@ -59,6 +61,8 @@ returns-clause-outcome g c =
     let made = c.in_default.ensures.outcome in
     record {
       checks = made.checks;
+      account = unstepped-account c.step.new.self c.disown.new.machine c.disown.ensures.rest c.disown.ensures.state
+          ∙ ap (λ (a : Account). record a { origin = (account_of c.disown.new.machine).origin }) made.account;
       leads = subst (Leads s.machine.rules (state_of s.machine) c.args.step.now) (sym c.disown.ensures.state) made.leads;
       owners = usual-owners s.machine c.step.new.self c.disown.new.machine s.specials c.args.step.now c.args.written c.requires.range c.kept.ensures.kept c.kept.ensures.stored
           c.kept-2.ensures.kept c.in_default.ensures.outcome c.requires.written c.requires.in_range c.disown.ensures.state c.disown.ensures.owners;

@@ -2,7 +2,7 @@ use Rattle.std.proofs.Common.{◌≡◌, ℕ, Some, None, min, max, ap, sym, sub
 use Rattle.cap_word.specs.declared.word.Cap.{Cap}
 use Rattle.cap_bounds.specs.Bounds.{base_of, top_of}
 use Rattle.cap_machine.specs.States.{State}
-use Rattle.cap_objects.specs.{Counts.Owners, declared.objects.Object.Object, Handed.{RefusesExtent, widened}, HandoutsIn.objects_of, Objects.top_of_extent}
+use Rattle.cap_objects.specs.{Counts.Owners, declared.objects.Object.Object, Handed.{HasRoom, RefusesExtent, widened}, HandoutsIn.objects_of, Objects.top_of_extent}
 use Rattle.cap_run.specs.{ObjectSteps.ExtentEnds, Owned.IsWithin, RunOf.run_of, RunSteps.step_limit}
 use Rattle.cap_run.proofs.HandingLemmas.{extent-ended, none_of, refusal-none, run-same}
 use Rattle.cap_run.proofs.{ObjectLemmas.{some_and, to_some_and, widened-grows}, WideningLemmas.{wide-owners, wide-state, widens-empty, widens-long, within-wide}}
@@ -33,7 +33,7 @@ give-requires-clause-within g c =
     let set = c.in-Ok.ensures.ok o.0 o.1 in
     to_some_and (objects_of c.widen_object.new.self.objects c.args.slot) _ (widened o.0 c.bounds-bounds.result.base c.bounds-bounds.result.top) set.0
     (subst (λ (st : State). IsWithin (st c.args.register) (widened o.0 c.bounds-bounds.result.base c.bounds-bounds.result.top)) (sym (wide-state s.machine c.widen_object.new.self.machine s.specials c.widen_object.new.self.specials c.in-Ok.ensures.held c.in-Ok.ensures.specials))
-    (within-wide (old.state c.args.register) o.0 c.bounds-bounds.result.base c.bounds-bounds.result.top capable.0 base top (omega (arith, c.if-from-bounds.true))))
+    (within-wide (old.state c.args.register) o.0 c.bounds-bounds.result.base c.bounds-bounds.result.top capable.0 base top (omega (arith, c.if-bounds-from.true))))
 
 pub give-requires-clause-unowned : goal.give-requires-clause-unowned
 give-requires-clause-unowned g c =
@@ -65,8 +65,8 @@ returns-in-Err-clause-err g c =
     run-same s.machine c.widen_object.new.self.machine s.specials c.widen_object.new.self.specials s.objects c.widen_object.new.self.objects e.err_rest
     e.specials e.same.0 e.err
 
-pub returns-then-from-bounds-clause-ok : goal.returns-then-from-bounds-clause-ok
-returns-then-from-bounds-clause-ok g c =
+pub returns-then-bounds-from-clause-ok : goal.returns-then-bounds-from-clause-ok
+returns-then-bounds-from-clause-ok g c =
     let s = c.args.self.now in
     let old = run_of s.machine s.specials s.objects in
     let base : c.bounds-bounds.result.base ≡ base_of (old.state c.args.register).word.0 =
@@ -79,10 +79,10 @@ returns-then-from-bounds-clause-ok g c =
     widens-long s.machine c.widen_object.new.self.machine s.specials c.widen_object.new.self.specials c.in-Ok.ensures.held c.in-Ok.ensures.specials s.objects c.widen_object.new.self.objects
     c.args.register c.args.slot c.bounds-bounds.result.base c.bounds-bounds.result.top base top c.in-Ok.ensures.ok c.in-Ok.ensures.same.0
     c.give.new.self.machine c.give.new.self.specials c.give.new.self.objects c.give.ensures.rest c.give.ensures.same.0 capable.0
-    (omega (arith, c.if-from-bounds.true)) c.give.ensures.objects grows c.give.ensures.state c.give.ensures.owners
+    (omega (arith, c.if-bounds-from.true)) c.give.ensures.objects grows c.give.ensures.state c.give.ensures.owners
 
-pub returns-else-from-bounds-clause-ok : goal.returns-else-from-bounds-clause-ok
-returns-else-from-bounds-clause-ok g c =
+pub returns-else-bounds-from-clause-ok : goal.returns-else-bounds-from-clause-ok
+returns-else-bounds-from-clause-ok g c =
     let s = c.args.self.now in
     let old = run_of s.machine s.specials s.objects in
     let base : c.bounds-bounds.result.base ≡ base_of (old.state c.args.register).word.0 =
@@ -94,4 +94,28 @@ returns-else-from-bounds-clause-ok g c =
     λ o there. (widened-grows o c.bounds-bounds.result.base c.bounds-bounds.result.top).2 in
     widens-empty s.machine c.widen_object.new.self.machine s.specials c.widen_object.new.self.specials c.in-Ok.ensures.held c.in-Ok.ensures.specials s.objects c.widen_object.new.self.objects
     c.args.register c.args.slot c.bounds-bounds.result.base c.bounds-bounds.result.top base top c.in-Ok.ensures.ok c.in-Ok.ensures.same.0 capable.1
-    (λ some. omega (arith, some, c.if-from-bounds.false)) grows
+    (λ some. omega (arith, some, c.if-bounds-from.false)) grows
+
+pub returns-then-bounds-from-clause-room : goal.returns-then-bounds-from-clause-room
+returns-then-bounds-from-clause-room g c o there =
+    let s = c.args.self.now in
+    let old = run_of s.machine s.specials s.objects in
+    let base : c.bounds-bounds.result.base ≡ base_of (old.state c.args.register).word.0 =
+    c.bounds-bounds.ensures.base ∙ ap (λ (k : Cap). base_of k.word.0) c.register.ensures.value in
+    let top : c.bounds-bounds.result.top ≡ top_of (old.state c.args.register).word.0 =
+    c.bounds-bounds.ensures.top ∙ ap (λ (k : Cap). top_of k.word.0) c.register.ensures.value in
+    subst (λ (t : ℕ). HasRoom s.objects.keeps (Some c.args.slot) old.objects (min o.base (base_of (old.state c.args.register).word.0)) (max (top_of_extent o) t)) top
+    (subst (λ (b : ℕ). HasRoom s.objects.keeps (Some c.args.slot) old.objects (min o.base b) (max (top_of_extent o) c.bounds-bounds.result.top)) base
+    (c.in-Ok.ensures.room o there))
+
+pub returns-else-bounds-from-clause-room : goal.returns-else-bounds-from-clause-room
+returns-else-bounds-from-clause-room g c o there =
+    let s = c.args.self.now in
+    let old = run_of s.machine s.specials s.objects in
+    let base : c.bounds-bounds.result.base ≡ base_of (old.state c.args.register).word.0 =
+    c.bounds-bounds.ensures.base ∙ ap (λ (k : Cap). base_of k.word.0) c.register.ensures.value in
+    let top : c.bounds-bounds.result.top ≡ top_of (old.state c.args.register).word.0 =
+    c.bounds-bounds.ensures.top ∙ ap (λ (k : Cap). top_of k.word.0) c.register.ensures.value in
+    subst (λ (t : ℕ). HasRoom s.objects.keeps (Some c.args.slot) old.objects (min o.base (base_of (old.state c.args.register).word.0)) (max (top_of_extent o) t)) top
+    (subst (λ (b : ℕ). HasRoom s.objects.keeps (Some c.args.slot) old.objects (min o.base b) (max (top_of_extent o) c.bounds-bounds.result.top)) base
+    (c.in-Ok.ensures.room o there))

@@ -55,10 +55,11 @@ invariant_of-self g c =
           let steps = ap (λ (h : Held). h.steps) c.count_step.ensures.held in
           let same = c.put_at.ensures.rest.3 in
           omega (arith, s.few, count, steps, same);
+      asked = c.recount.ensures.same.1 ∙ s.asked;
     }
 
-pub returns : goal.returns
-returns g c =
+pub returns-clause-writes : goal.returns-clause-writes
+returns-clause-writes g c =
     let s = c.args.self.now in
     let key = register_key c.args.target in
     let from = register_key c.args.source in
@@ -69,12 +70,10 @@ returns g c =
     let held = c.count_step.ensures.held in
     let label_is : object_by (place_at c.label_for-label.result) ≡ owner = c.label_for-label.ensures.owner ∙ ap (owner_for c.args.cap) c.label.ensures.owner in
     record {
-      writes = record {
-        state = ap (λ (h : Held). run_state h specials) held ∙ c.put_at.ensures.state;
-        owners = λ other. ap (λ (h : Held). run_owners h specials other) held ∙ c.put_at.ensures.owners other
-            ∙ ap (λ (o : Option ℕ). at_key owners key o other) label_is;
-        objects = c.recount.ensures.rest;
-        rest = stepped s.machine mid c.count_step.new.self s.specials specials s.objects c.recount.new.objects c.put_at.ensures.rest held
-            c.recount.ensures.same.0;
-      };
+      state = ap (λ (h : Held). run_state h specials) held ∙ c.put_at.ensures.state;
+      owners = λ other. ap (λ (h : Held). run_owners h specials other) held ∙ c.put_at.ensures.owners other
+          ∙ ap (λ (o : Option ℕ). at_key owners key o other) label_is;
+      objects = c.recount.ensures.rest;
+      rest = stepped s.machine mid c.count_step.new.self s.specials specials s.objects c.recount.new.objects c.put_at.ensures.rest held
+          c.recount.ensures.same.0;
     }

@@ -77,10 +77,11 @@ invariant_of-self g c =
           let same = c.put_at.ensures.rest.3 in
           let same2 = c.put_at-2.ensures.rest.3 in
           omega (arith, s.few, count, steps, same, same2);
+      asked = c.recount_both.ensures.same.1 ∙ s.asked;
     }
 
-pub returns : goal.returns
-returns g c =
+pub returns-clause-writes : goal.returns-clause-writes
+returns-clause-writes g c =
     let s = c.args.self.now in
     let first = register_key c.args.first in
     let second = register_key c.args.second in
@@ -95,14 +96,12 @@ returns g c =
     let two_is : object_by (place_at c.label_for-second_label.result) ≡ two =
     c.label_for-second_label.ensures.owner ∙ ap (owner_for c.args.second_cap) c.label-2.ensures.owner in
     record {
-      writes = record {
-        state = ap (λ (h : Held). run_state h specials) held ∙ c.put_at-2.ensures.state
-            ∙ ap (λ (t : State). put t second c.args.second_cap) c.put_at.ensures.state;
-        owners = λ other. ap (λ (h : Held). run_owners h specials other) held
-            ∙ owners-both owners (run_owners c.put_at.new.machine c.put_at.new.specials) (run_owners mid specials) first second _ _ one two one_is two_is
-            c.put_at.ensures.owners c.put_at-2.ensures.owners other;
-        objects = c.recount_both.ensures.rest;
-        rest = stepped s.machine mid c.count_step.new.self s.specials specials s.objects c.recount_both.new.objects
-            (unstepped-twice s.machine c.put_at.new.machine mid c.put_at.ensures.rest c.put_at-2.ensures.rest) held c.recount_both.ensures.same.0;
-      };
+      state = ap (λ (h : Held). run_state h specials) held ∙ c.put_at-2.ensures.state
+          ∙ ap (λ (t : State). put t second c.args.second_cap) c.put_at.ensures.state;
+      owners = λ other. ap (λ (h : Held). run_owners h specials other) held
+          ∙ owners-both owners (run_owners c.put_at.new.machine c.put_at.new.specials) (run_owners mid specials) first second _ _ one two one_is two_is
+          c.put_at.ensures.owners c.put_at-2.ensures.owners other;
+      objects = c.recount_both.ensures.rest;
+      rest = stepped s.machine mid c.count_step.new.self s.specials specials s.objects c.recount_both.new.objects
+          (unstepped-twice s.machine c.put_at.new.machine mid c.put_at.ensures.rest c.put_at-2.ensures.rest) held c.recount_both.ensures.same.0;
     }

@@ -1,0 +1,140 @@
+//! What the steps that only runs have make of a run, where objects are told by their numbers.
+
+ghost use Rattle.std.specs.Prelude.{◌≡◌, ◌≤◌, ◌<◌, ◌^◌};
+ghost use Rattle.cap_log.specs.Lines.{IsTarget};
+ghost use Rattle.cap_run_log.specs.RunLines.{IsRunPlace};
+ghost use Rattle.cap_run_log.specs.declared.lines.RunPlace.TheVariants.{Granule};
+ghost use Rattle.cap_run_log.specs.declared.lines.RunStep.TheVariants.{Derive, Drop, Exchange, Fill, Invoke};
+ghost use Rattle.cap_run.specs.{Numbers.numbered_run, Run.{IsSource, IsTargetOf}, RunChanges.run_after};
+ghost use Rattle.cap_run.specs.RunChecks.{Answers, run_end, run_wants, usual_ended};
+
+use crate::ends::{RunEnd, RunRefusal};
+use crate::run_machine::RunMachine;
+use cap_machine::StepEnd;
+use cap_run_log::{RunPlace, RunRegister};
+use cap_word::{Cap, Word};
+use tagmem::TaggedStore;
+
+// How a step ends in a run that ends so in the machine without objects.
+pub(crate) fn usual_ended(end: StepEnd) -> RunEnd
+    ensures { result ≡ usual_ended end }
+{
+    match end {
+        StepEnd::Refused(refusal) => RunEnd::Refused(RunRefusal::Usual(refusal)),
+        StepEnd::NoMemory => RunEnd::NoMemory,
+    }
+}
+
+impl<M: TaggedStore> RunMachine<M> {
+    // A register gets what is derived from another one.
+    pub(crate) fn derived(
+        &mut self,
+        target: RunRegister,
+        source: RunRegister,
+        recorded: Cap,
+    ) -> Result<(), RunEnd>
+        requires target { IsTargetOf target }
+        requires source { IsSource source }
+        ensures outcome { let old = numbered_run self.old.machine self.old.specials self.old.objects in
+            let step = Derive target source recorded in
+            Answers (run_end self.old.asks old step) (run_after old step) (run_wants old step) old result
+            (numbered_run self.new.machine self.new.specials self.new.objects) }
+        ensures asks { self.new.asks ≡ self.old.asks }
+    {
+        self.derive(target, source, recorded)
+    }
+
+    // A register and a special one get what is derived from the special one and from a register.
+    pub(crate) fn exchanged(
+        &mut self,
+        target: u8,
+        source: u8,
+        number: u8,
+        recorded: Cap,
+        special_recorded: Cap,
+    ) -> Result<(), RunEnd>
+        requires target { IsTarget target }
+        requires source { source ≤ 31 }
+        requires number { number ≤ 31 }
+        ensures outcome { let old = numbered_run self.old.machine self.old.specials self.old.objects in
+            let step = Exchange target source number recorded special_recorded in
+            Answers (run_end self.old.asks old step) (run_after old step) (run_wants old step) old result
+            (numbered_run self.new.machine self.new.specials self.new.objects) }
+        ensures asks { self.new.asks ≡ self.old.asks }
+    {
+        self.exchange(target, source, number, recorded, special_recorded)
+    }
+
+    // A sealed pair is invoked.
+    pub(crate) fn invoked(
+        &mut self,
+        code: u8,
+        datum: u8,
+        code_word: Word,
+        datum_word: Word,
+    ) -> Result<(), RunEnd>
+        requires code { code ≤ 31 }
+        requires datum { datum ≤ 31 }
+        ensures outcome { let old = numbered_run self.old.machine self.old.specials self.old.objects in
+            let step = Invoke code datum code_word datum_word in
+            Answers (run_end self.old.asks old step) (run_after old step) (run_wants old step) old result
+            (numbered_run self.new.machine self.new.specials self.new.objects) }
+        ensures asks { self.new.asks ≡ self.old.asks }
+    {
+        self.invoke(code, datum, code_word, datum_word)
+    }
+
+    // A granule gets a word without a tag.
+    pub(crate) fn filled(&mut self, granule: u64, word: Word) -> Result<(), RunEnd>
+        requires { granule < 2 ^ 60 }
+        ensures outcome { let old = numbered_run self.old.machine self.old.specials self.old.objects in
+            let step = Fill granule word in
+            Answers (run_end self.old.asks old step) (run_after old step) (run_wants old step) old result
+            (numbered_run self.new.machine self.new.specials self.new.objects) }
+        ensures asks { self.new.asks ≡ self.old.asks }
+    {
+        match self.fill(granule, word) {
+            Ok(()) => Ok(()),
+            Err(end) => Err(usual_ended(end)),
+        }
+    }
+
+    // The tag of a place goes.
+    pub(crate) fn dropped(&mut self, place: RunPlace) -> Result<(), RunEnd>
+        requires { IsRunPlace place }
+        ensures outcome { let old = numbered_run self.old.machine self.old.specials self.old.objects in
+            let step = Drop place in
+            Answers (run_end self.old.asks old step) (run_after old step) (run_wants old step) old result
+            (numbered_run self.new.machine self.new.specials self.new.objects) }
+        ensures asks { self.new.asks ≡ self.old.asks }
+    {
+        match place {
+            RunPlace::General(number) => self.drop_register(RunRegister::General(number)),
+            RunPlace::Special(number) => self.drop_register(RunRegister::Special(number)),
+            RunPlace::Granule(granule) => self.dropped_granule(granule),
+        }
+    }
+
+    // The tag of a granule goes. A granule without a tag stays as it is, and isn't named by this.
+    fn dropped_granule(&mut self, granule: u64) -> Result<(), RunEnd>
+        requires { granule < 2 ^ 60 }
+        ensures outcome { let old = numbered_run self.old.machine self.old.specials self.old.objects in
+            let step = Drop (Granule granule) in
+            Answers (run_end self.old.asks old step) (run_after old step) (run_wants old step) old result
+            (numbered_run self.new.machine self.new.specials self.new.objects) }
+        ensures asks { self.new.asks ≡ self.old.asks }
+    {
+        if let Some(refusal) = self.step_limit() {
+            return Err(RunEnd::Refused(refusal));
+        }
+        let cap = self.granule_cap(granule);
+        if !cap.tag {
+            self.count_step();
+            return Ok(());
+        }
+        match self.fill(granule, cap.word) {
+            Ok(()) => Ok(()),
+            Err(end) => Err(usual_ended(end)),
+        }
+    }
+}
