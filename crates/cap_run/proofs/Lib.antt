@@ -16,3 +16,4 @@ mod AnswerLemmas
 mod RunNumberLemmas
 mod GranuleLemmas
 mod RootLemmas
+mod UsualNumberLemmas
