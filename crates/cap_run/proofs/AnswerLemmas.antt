@@ -1,10 +1,9 @@
 -- Answers of steps that hand out objects, widen them and free them, where objects are told by their numbers.
-use Rattle.std.proofs.Common.{◌≡◌, ◌⊎◌, ◌+◌, max, min, ℕ, Bool, true, false, Some, None, Option, inl, inr, length}
-use Rattle.std.proofs.Common.{if◌then◌else◌, option_and_then, IsSomeAnd, MatchOption, Result, Ok, Err, OnOk, OnErr, IfOk, IfErr}
+use Rattle.std.proofs.Common.{◌≡◌, ◌⊎◌, max, min, ℕ, Bool, true, false, Some, None, Option, inl, inr, length}
+use Rattle.std.proofs.Common.{option_and_then, MatchOption, Result, Ok, Err, OnOk, OnErr, IfErr}
 use Rattle.std.proofs.Common.{refl, sym, ap, subst, ◌∙◌}
 use Rattle.std.specs.Option.{option_map_or}
 use Rattle.std.proofs.lemmas.{Bool.{cond-true, cond-false}, Option.{none-some, same_Some}}
-use Rattle.cap_word.specs.declared.word.Cap.{Cap}
 use Rattle.cap_bounds.specs.Bounds.{base_of, top_of}
 use Rattle.cap_machine.specs.Helds.{Held}
 use Rattle.cap_objects.specs.{Counts.{CountsAre}, declared.{handouts.Handouts.Handouts, objects.Object.Object}, HandoutsIn.objects_of}
@@ -12,9 +11,9 @@ use Rattle.cap_objects.specs.{Handed.{HasRoom, IsLive, held_of}, Objects.top_of_
 use Rattle.cap_run_log.specs.declared.lines.RunStep.TheVariants as steps
 use Rattle.cap_run.specs.declared.{asks.Asks.Asks, ends.{RunEnd.{RunEnd, TheVariants.{NoMemory, Refused}}, RunRefusal.RunRefusal}, specials.Specials.Specials}
 use Rattle.cap_run.specs.declared.ends.RunRefusal.TheVariants.{AlreadyFreed, NoCapability, NoObject, NoOwner, Usual}
-use Rattle.cap_run.specs.{Numbers.{number_at, numbered, numbered_run}, Owned.AreWithin, Run.Run, RunChanges.{run_after, with_freed}}
-use Rattle.cap_run.specs.RunChecks.{Answers, extent_end, growth_end, number_end, object_end, owner_end, run_end, widen_end}
-use Rattle.cap_run.specs.ObjectSteps.{AgainEnds, CanWiden, ExtentEnds, FreeEnds, FreeNumberEnds, Frees, HandsOut, ObjectEnds, WidenEnds, Widens, object_refusal}
+use Rattle.cap_run.specs.{Numbers.{number_at, numbered_run}, Owned.AreWithin, RunChanges.{run_after, with_freed}}
+use Rattle.cap_run.specs.RunChecks.{Answers, extent_end, growth_end, number_end, owner_end, run_end}
+use Rattle.cap_run.specs.ObjectSteps.{AgainEnds, CanWiden, ExtentEnds, FreeEnds, FreeNumberEnds, Frees, HandsOut, ObjectEnds, Widens, object_refusal}
 use Rattle.cap_run.specs.{RunOf.{run_of, run_owners, run_state}, RunSteps.{or_later, step_limit}}
 use Rattle.cap_run.proofs.{NumberLemmas.{alone-at, at-number}, ChangeLemmas.number-of, RunNumberLemmas.{index_in, numbered-same}, ObjectNumberLemmas.{freed-number, handed-number, widened-by_number}}
 use Rattle.cap_run.proofs.EndLemmas.{EndsAs, answers-end, extent-ends, freed-number-end, later, live-number, number-ends, refusal-number}

@@ -1,8 +1,8 @@
 -- Present objects by their numbers after one was handed out, widened or freed.
 use Rattle.std.specs.BTreeMap as tree
 use Rattle.std.specs.Ordering.{nat_cmp}
-use Rattle.std.proofs.{Common.{◌≡◌, ◌≢◌, ◌==◌, ◌≤◌, ◌⊎◌, ◌||◌, not, nat_lt, ℕ, Bool, true, false, Some, None, Option, inl, inr}, Math.Path.fun_ext}
-use Rattle.std.proofs.Common.{if◌then◌else◌, option_and_then, option_map, slice_get, refl, sym, ap, subst, ◌∙◌, arith, ne_eqb}
+use Rattle.std.proofs.{Common.{◌≡◌, ◌≢◌, ◌==◌, ◌⊎◌, ◌||◌, not, nat_lt, ℕ, Bool, true, false, Some, None, Option, inl, inr}, Math.Path.fun_ext}
+use Rattle.std.proofs.Common.{option_and_then, option_map, slice_get, refl, sym, ap, subst, ◌∙◌, ne_eqb}
 use Rattle.std.proofs.lemmas.{Bool.{cases_Bool, cond-true, cond-false, Decides.eqb_tells}, Option.{none-some, same_Some}}
 use Rattle.cap_objects.specs.{Counts.{CountsAre, Owners, owned_by}, declared.{handouts.Handouts.Handouts, objects.Object.Object}, HandoutsIn.objects_of}
 use Rattle.cap_objects.specs.Extents.{Objects, Sets, is_present}
@@ -10,7 +10,7 @@ use Rattle.cap_objects.specs.{Handed.{AreKept, held_of, with_held}, Indexes.{IsI
 use Rattle.cap_run.specs.{Numbers.{by_number, number_at, numbered}, RunChanges.counted}
 use Rattle.cap_machine.specs.States.{put}
 use Rattle.cap_run.proofs.ObjectLemmas.{kept_some}
-use Rattle.cap_run.proofs.{IndexedLemmas.{owned-none, owned-number}, NumberLemmas.{at-number, slot-of}}
+use Rattle.cap_run.proofs.{OwnedLemmas.{owned-none, owned-number}, NumberLemmas.{at-number, slot-of}}
 
 pub kept-by : (h : Handouts) → AreKept h.keeps h.count (objects_of h) (tree.get nat_cmp h.numbers) (tree.get nat_cmp h.bases)
 kept-by h = h.kept

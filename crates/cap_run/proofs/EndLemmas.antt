@@ -1,22 +1,20 @@
 -- Why steps that hand out objects, widen and free them are refused, where objects are told by their numbers.
-use Rattle.std.proofs.Common.{◌≡◌, ◌≢◌, ◌⊎◌, ◌+◌, ◌-◌, ◌<◌, ◌≤◌, ◌&&◌, not, max, min, nat_le, nat_lt, ℕ, Bool, true, false, Some, None, Option, inl, inr, length}
-use Rattle.std.proofs.Common.{◌∷◌, [], if◌then◌else◌, option_and_then, option_map, is_some, IsTrue, IsSomeAnd, MatchOption, Result, Ok, Err, OnErr}
-use Rattle.std.proofs.Common.{lt-ltb, le-ltb, le-leb, refl, sym, ap, subst, ◌∙◌, arith}
+use Rattle.std.proofs.Common.{◌≡◌, ◌⊎◌, ◌<◌, ◌&&◌, not, nat_le, nat_lt, ℕ, Bool, true, false, Some, None, Option, inl, inr, length}
+use Rattle.std.proofs.Common.{if◌then◌else◌, option_and_then, is_some, IsTrue, Err}
+use Rattle.std.proofs.Common.{lt-ltb, le-leb, refl, sym, ap, subst, ◌∙◌, arith}
 use Rattle.std.specs.{Cmp.Derive.both_true, Option.option_map_or}
-use Rattle.std.proofs.lemmas.{Bool.{cases_Bool, cond-true, cond-false, false≢true, lt-leb}, Option.{none-some, same_Some}}
-use Rattle.cap_bounds.specs.Bounds.{base_of, top_of}
+use Rattle.std.proofs.lemmas.{Bool.{cases_Bool, lt-leb}}
 use Rattle.cap_machine.specs.{Helds.Held}
-use Rattle.cap_ops.specs.Checks.{first_of}
-use Rattle.cap_objects.specs.{Counts.{CountsAre, Owners}, declared.{handouts.Handouts.Handouts, objects.Object.Object}, HandoutsIn.objects_of}
-use Rattle.cap_objects.specs.{Extents.{AreLong, Objects}, Handed.{AreKept, HasNoLive, HasRoom, IsLive, held_of}, Objects.top_of_extent}
+use Rattle.cap_objects.specs.{Counts.{CountsAre}, declared.{handouts.Handouts.Handouts, objects.Object.Object}, HandoutsIn.objects_of}
+use Rattle.cap_objects.specs.{Handed.{HasNoLive, IsLive, held_of}}
 use Rattle.cap_objects.specs.declared.handouts.NumberFault.TheVariants as numbers
 use Rattle.cap_run.specs.declared.{asks.Asks.Asks, ends.{RunEnd.{RunEnd, TheVariants.{NoMemory, Refused}}, RunRefusal.RunRefusal}, specials.Specials.Specials}
-use Rattle.cap_run.specs.declared.ends.RunRefusal.TheVariants.{AlreadyFreed, HasOwner, NoCapability, NoObject, NoOwner, Overlaps, StillHeld, Usual}
-use Rattle.cap_run.specs.{Numbers.{by_number, number_at, numbered, numbered_run}, Run.Run, RunChecks.{Answers, extent_end, is_live, number_end, owner_end}}
-use Rattle.cap_run.specs.ObjectSteps.{ExtentEnds, FreeEnds, NumberEnds, is_capability, object_refusal}
+use Rattle.cap_run.specs.declared.ends.RunRefusal.TheVariants.{AlreadyFreed, HasOwner, NoCapability, NoObject, Overlaps, StillHeld, Usual}
+use Rattle.cap_run.specs.{Numbers.{by_number, number_at, numbered_run}, Run.Run, RunChecks.{Answers, extent_end, is_live, number_end}}
+use Rattle.cap_run.specs.ObjectSteps.{ExtentEnds, NumberEnds, is_capability, object_refusal}
 use Rattle.cap_run.specs.{RunOf.{run_of, run_owners, run_state}, RunSteps.{or_later, step_limit}}
-use Rattle.cap_run.proofs.{ChangeLemmas.number-of, MeetLemmas.{extent-held, extent-overlaps, extent-room, first_check, no_check, second_check}, NumberLemmas.{alone-at, at-number, slot-of}}
-use Rattle.cap_run.proofs.{RunNumberLemmas.index_in, ObjectLemmas.{owner-there, some_and}}
+use Rattle.cap_run.proofs.{ChangeLemmas.number-of, MeetLemmas.{extent-held, extent-overlaps, extent-room, first_check, no_check, second_check}, NumberLemmas.{at-number, slot-of}}
+use Rattle.cap_run.proofs.{RunNumberLemmas.index_in, ObjectLemmas.{owner-there}}
 
 -- what an end says of the refusal that a step ends with
 abbrev pub EndsAs : Option RunRefusal → RunEnd → Type 0
@@ -125,18 +123,18 @@ module _ (held : Held) (specials : Specials) (h : Handouts) (sized : length spec
       second_check (not (nat_lt 0 number && nat_le number h.count)) (not (option_map_or is_live (by_number (index_in h) (objects_of h) number) false))
       NoObject AlreadyFreed (ap not (both_true (lt-ltb 0 number none.0) (le-leb number h.count none.1)))
       (ap not (none_live (by_number (index_in h) (objects_of h) number) (λ o is live.
-          let at = slot-of (objects_of h) (index_in h) h.kept.numbered number o is in
-          none.2 at.0 (record { object = o; there = at.1; number = at.2; live = live }))))
+      let at = slot-of (objects_of h) (index_in h) h.kept.numbered number o is in
+      none.2 at.0 (record { object = o; there = at.1; number = at.2; live = live }))))
 
   pub no-object : (number : ℕ) → HasNoLive h.count (objects_of h) number numbers.NoObject
       → number_end (numbered_run held specials h) number ≡ Some NoObject
   no-object number none =
       first_check (not (nat_lt 0 number && nat_le number h.count)) (not (option_map_or is_live (by_number (index_in h) (objects_of h) number) false))
       NoObject AlreadyFreed (ap not (never number none))
-      where
-    never : (number : ℕ) → (number ≡ 0) ⊎ (h.count < number) → (nat_lt 0 number && nat_le number h.count) ≡ false
-    never number (inl zero_is) = ap (λ (n : ℕ). nat_lt 0 n && nat_le n h.count) zero_is
-    never number (inr past) = ap (λ (b : Bool). nat_lt 0 number && b) (lt-leb number h.count past) ∙ none_of (nat_lt 0 number)
+    where
+      never : (number : ℕ) → (number ≡ 0) ⊎ (h.count < number) → (nat_lt 0 number && nat_le number h.count) ≡ false
+      never number (inl zero_is) = ap (λ (n : ℕ). nat_lt 0 n && nat_le n h.count) zero_is
+      never number (inr past) = ap (λ (b : Bool). nat_lt 0 number && b) (lt-leb number h.count past) ∙ none_of (nat_lt 0 number)
 
   pub number-ends : (number : ℕ) (rest : Option RunRefusal) (end : RunEnd) → NumberEnds (run_of held specials h) number end
       → EndsAs (or_later (number_end (numbered_run held specials h) number) rest) end

@@ -1,8 +1,8 @@
 -- Extents that share an address with an interval, where objects are told by their numbers.
 use Rattle.std.proofs.Common.{◌≡◌, ◌≢◌, ◌+◌, ◌-◌, ◌<◌, ◌≤◌, ◌&&◌, ◌||◌, not, max, min, nat_lt, ℕ, Bool, true, false, Some, None, Option, inl, inr}
-use Rattle.std.proofs.Common.{◌∷◌, [], lt-ltb, refl, sym, ap, subst, ◌∙◌, arith}
+use Rattle.std.proofs.Common.{◌∷◌, [], lt-ltb, refl, sym, ap, ◌∙◌, arith}
 use Rattle.std.specs.{Cmp.Derive.both_true, Option.option_map_or}
-use Rattle.std.proofs.lemmas.{Bool.{and_parts, cases_Bool, cond-true, cond-false, false≢true, Decides.nat_tests}, Option.none-some}
+use Rattle.std.proofs.lemmas.{Bool.{and_parts, cases_Bool, cond-true, cond-false, false≢true, Decides.nat_tests}}
 use Rattle.cap_ops.specs.Checks.{first_of}
 use Rattle.cap_objects.specs.{Counts.{count_below, is_owner}, declared.objects.Object.Object, Objects.top_of_extent}
 use Rattle.cap_objects.specs.Extents.{AreLong, Meets, MeetsNone, Objects}

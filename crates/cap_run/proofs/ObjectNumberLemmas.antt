@@ -1,7 +1,7 @@
 -- The run by numbers after an object was handed out, widened or freed.
 use Rattle.std.specs.BTreeMap as tree
 use Rattle.std.specs.Ordering.{nat_cmp}
-use Rattle.std.proofs.{Common.{◌≡◌, ◌≢◌, ◌==◌, ◌+◌, ◌-◌, ◌≤◌, ◌<◌, ◌&&◌, not, nat_lt, max, min, ℕ, Bool, true, false, Some, None, Option, inl, inr, length}, Math.Path.fun_ext}
+use Rattle.std.proofs.{Common.{◌≡◌, ◌==◌, ◌+◌, ◌-◌, ◌&&◌, not, nat_lt, max, min, ℕ, true, Some, None, Option, inl, inr, length}, Math.Path.fun_ext}
 use Rattle.std.proofs.Common.{if◌then◌else◌, option_and_then, option_map, refl, sym, ap, subst, ◌∙◌, arith, ne_eqb, eq-eqb}
 use Rattle.std.proofs.lemmas.{Bool.{cases_Bool, cond-true, cond-false, Decides.eqb_tells}, Option.{none-some, same_Some}}
 use Rattle.cap_word.specs.declared.word.Cap.{Cap}
@@ -12,9 +12,9 @@ use Rattle.cap_objects.specs.{Extents.Objects, Handed.{IsLive, freed_in, handed_
 use Rattle.cap_objects.proofs.KeyLemmas.{choice_under}
 use Rattle.cap_run_log.specs.declared.lines.RunStep.TheVariants as steps
 use Rattle.cap_run.specs.{declared.specials.Specials.Specials, Numbers.{by_number, number_at, numbered, numbered_run}, ObjectSteps.{Frees, HandsOut, Widens, first_holders}}
-use Rattle.cap_run.specs.{Owned.{is_empty, owner_for}, Run.Run, RunChanges.{counted, run_after, with_freed}, RunOf.{run_of, run_owners, run_state}}
+use Rattle.cap_run.specs.{Owned.{is_empty, owner_for}, RunChanges.{counted, run_after, with_freed}, RunOf.{run_of, run_owners, run_state}}
 use Rattle.cap_run.proofs.{ChangeLemmas.{counted-put, kept-by, number-of, present-by, renumbered}, NumberLemmas.{alone-at, at-number}, RunNumberLemmas.run-is}
-use Rattle.cap_run.proofs.{ObjectLemmas.{kept_some, owner-there, some_and}, OwnerLemmas.either-key}
+use Rattle.cap_run.proofs.{ObjectLemmas.{kept_some, owner-there}, OwnerLemmas.either-key}
 
 -- owners by number after an object got one place more
 owners-put : (owners after : Owners) (old new : Objects) (register slot number : ℕ) (cap : Cap)

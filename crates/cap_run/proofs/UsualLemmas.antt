@@ -35,7 +35,7 @@ coded_tag true code slot coded is = refl
 coded_tag false code slot coded is = absurd (none-some slot (sym (ap (λ (c : ℕ). object_by (place_at c)) (coded.0.1 refl)) ∙ is))
 
 -- the parent of a place that isn't written is itself
-own_parent : (writes : Option (Place × Cap)) (key : ℕ) (other : Option ℕ)
+pub own_parent : (writes : Option (Place × Cap)) (key : ℕ) (other : Option ℕ)
     → ((place : Place) → option_map (λ (w : Place × Cap). w.0) writes ≡ Some place → key_of place ≢ key)
     → (if option_map_or (λ (to : Place × Cap). key_of to.0 == key) writes false then other else Some key) ≡ Some key
 own_parent None key other differ = refl
@@ -59,17 +59,17 @@ main-far held key stored far =
     ap (λ (c : ℕ). object_by (place_at c)) code
 
 -- registers and granules, and special registers, of a run
-owners-main : (held : Held) (specials : Specials) (key : ℕ) → key < first_special → run_owners held specials key ≡ main_owners held key
+pub owners-main : (held : Held) (specials : Specials) (key : ℕ) → key < first_special → run_owners held specials key ≡ main_owners held key
 owners-main held specials key low = cond-true (nat_lt key first_special) (main_owners held key) _ (lt-ltb key first_special low)
 
-owners-special : (held : Held) (specials : Specials) (key : ℕ) → first_special ≤ key
+pub owners-special : (held : Held) (specials : Specials) (key : ℕ) → first_special ≤ key
     → run_owners held specials key ≡ object_by (place_at (label_in specials (key - first_special)))
 owners-special held specials key high = cond-false (nat_lt key first_special) (main_owners held key) _ (le-ltb key first_special high)
 
-state-main : (held : Held) (specials : Specials) (key : ℕ) → key < first_special → run_state held specials key ≡ state_of held key
+pub state-main : (held : Held) (specials : Specials) (key : ℕ) → key < first_special → run_state held specials key ≡ state_of held key
 state-main held specials key low = cond-true (nat_lt key first_special) (state_of held key) _ (lt-ltb key first_special low)
 
-state-special : (held : Held) (specials : Specials) (key : ℕ) → first_special ≤ key → run_state held specials key ≡ cap_in specials (key - first_special)
+pub state-special : (held : Held) (specials : Specials) (key : ℕ) → first_special ≤ key → run_state held specials key ≡ cap_in specials (key - first_special)
 state-special held specials key high = cond-false (nat_lt key first_special) (state_of held key) _ (le-ltb key first_special high)
 
 -- disowning takes owners away alone
@@ -81,7 +81,7 @@ disowned-some (Some (Register n)) state owners key slot is = elim (either-key ow
   | inr away ↦ sym away.1 ∙ is
 ]
 
-disowned-other : (written : Option Place) (state : State) (owners : Owners) (key : ℕ) → ((place : Place) → written ≡ Some place → key_of place ≢ key)
+pub disowned-other : (written : Option Place) (state : State) (owners : Owners) (key : ℕ) → ((place : Place) → written ≡ Some place → key_of place ≢ key)
     → disowned written state owners key ≡ owners key
 disowned-other None state owners key differ = refl
 disowned-other (Some (Granule g)) state owners key differ = refl

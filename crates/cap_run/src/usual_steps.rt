@@ -1,14 +1,19 @@
 //! The steps of version 2 in a run.
 
-ghost use Rattle.std.specs.Prelude.{◌≡◌, ℕ, None, IfSome, MatchResult, OnErr};
+ghost use Rattle.std.specs.Prelude.{◌≡◌, ◌<◌, ◌^◌, ℕ, None, Some, false, IfSome, MatchResult, OnErr};
+ghost use Rattle.cap_log.specs.declared.lines.Place.TheVariants as PlaceIn;
+ghost use Rattle.cap_machine.specs.Steps.{granule_through};
+ghost use Rattle.cap_run.specs.{Numbers.numbered_run, RunChanges.usual_after, RunChecks.{Answers, usual_end, usual_wants}};
 ghost use Rattle.cap_log.specs.Lines.{IsPlace, IsStepInRange};
 ghost use Rattle.cap_machine.specs.Helds.{EndsStep, state_of};
 ghost use Rattle.cap_objects.specs.HandoutsIn.{objects_of};
 ghost use Rattle.cap_run.specs.{RunSteps.IsUnstepped, UsualSteps.{MakesUsual, disowned, main_owners, owner_at, written_by}};
 
+use crate::ends::RunEnd;
+use crate::lines::usual_ended;
 use crate::puts::is_empty;
 use crate::run_machine::{RunMachine, slot_by};
-use cap_log::{Place, Step};
+use cap_log::{Offset, Place, Register, Step, Target};
 use cap_machine::{Machine, StepEnd};
 use cap_objects::recount;
 use tagmem::TaggedStore;
@@ -40,7 +45,66 @@ fn disown<M: TaggedStore>(machine: &mut Machine<M>, written: Option<Place>)
     }
 }
 
+// The granule that an access through a register reaches.
+#[tactic(auto, unfolding(cap_ops::specs::Accesses::access_address))]
+fn granule_through<M: TaggedStore>(machine: &Machine<M>, authority: Register, offset: Offset) -> u64
+    ensures value { result ≡ granule_through (state_of machine.now) authority offset }
+    ensures in_memory { result < 2 ^ 60 }
+{
+    let word = machine.register(authority.number()).word;
+    let address = word
+        .address()
+        .wrapping_add_signed(i64::from(offset.number()));
+    address / 16
+}
+
+// A register that a step writes.
+fn register_at(target: Target) -> Option<Place>
+    ensures value { result ≡ Some (PlaceIn.Register target) }
+    ensures in_range { IfSome result IsPlace }
+{
+    Some(Place::Register(target.number()))
+}
+
+// The place that a step writes, if any.
+fn written_by<M: TaggedStore>(machine: &Machine<M>, step: &Step) -> Option<Place>
+    requires { IsStepInRange step.now }
+    ensures value { result ≡ written_by machine.now step.now }
+    ensures in_range { IfSome result IsPlace }
+{
+    match *step {
+        Step::Move(step) => register_at(step.target),
+        Step::ClearTag(step) => register_at(step.target),
+        Step::SetBounds(step) => register_at(step.target),
+        Step::SetBoundsExact(step) => register_at(step.target),
+        Step::SetAddr(step) => register_at(step.target),
+        Step::AndPerm(step) => register_at(step.target),
+        Step::Seal(step) => register_at(step.target),
+        Step::Unseal(step) => register_at(step.target),
+        Step::LoadCap(step) => register_at(step.target),
+        Step::StoreCap(step) => Some(Place::Granule(granule_through(machine, step.authority, step.offset))),
+        Step::Load(_) => None,
+        Step::Store(step) => Some(Place::Granule(granule_through(machine, step.authority, step.offset))),
+    }
+}
+
 impl<M: TaggedStore> RunMachine<M> {
+    // Makes a step of version 2, where nothing is asked of its access.
+    fn usual(&mut self, step: &Step) -> Result<(), RunEnd>
+        requires { IsStepInRange step.now }
+        ensures outcome { let old = numbered_run self.old.machine self.old.specials self.old.objects in
+            Answers (usual_end (record self.old.asks { used = false; owned = false }) old step.now) (usual_after old step.now)
+            (usual_wants old step.now) old result (numbered_run self.new.machine self.new.specials self.new.objects) }
+        ensures asks { self.new.asks ≡ self.old.asks }
+    {
+        self.machine.kept();
+        let written = written_by(&self.machine, step);
+        match self.step(step, written) {
+            Ok(()) => Ok(()),
+            Err(end) => Err(usual_ended(end)),
+        }
+    }
+
     /// Makes a step of version 2, which writes this place, if any, as the machine without objects does.
     pub fn step(&mut self, step: &Step, written: Option<Place>) -> Result<(), StepEnd>
         requires written { written ≡ written_by self.old.machine step.now }
@@ -51,6 +115,7 @@ impl<M: TaggedStore> RunMachine<M> {
             (λ end. EndsStep self.old.machine step.now end self.new.machine) }
         ensures specials { self.new.specials ≡ self.old.specials }
         ensures err { OnErr result (self.new.objects ≡ self.old.objects) }
+        ensures count { self.new.objects.count ≡ self.old.objects.count }
         ensures asks { self.new.asks ≡ self.old.asks }
     {
         self.machine.kept();

@@ -1,6 +1,5 @@
 use Rattle.cap_run.proofs.AnswerLemmas.{free-number-answers}
 use Rattle.cap_run.proofs.run_machine.RunMachine.free_by_number.Goals as goal
-use Rattle.std.proofs.Common.{rules}
 
 pub returns-clause-outcome : goal.returns-clause-outcome
 returns-clause-outcome g c =

@@ -1,5 +1,5 @@
 -- How many places an object owns, by its number and by its slot.
-use Rattle.std.proofs.Common.{◌≡◌, ◌≢◌, ◌==◌, ℕ, Bool, true, false, Some, None, Option, inl, inr, option_and_then, option_map}
+use Rattle.std.proofs.Common.{◌≡◌, ◌≢◌, ℕ, false, Some, None, Option, inl, inr, option_and_then, option_map}
 use Rattle.std.proofs.Common.{refl, sym, ap, ◌∙◌, ne_eqb}
 use Rattle.std.proofs.lemmas.{Bool.Decides.eqb_tells, Option.none-some}
 use Rattle.cap_objects.specs.{Counts.{Owners, is_owner, most_places, owned_by}, declared.objects.Object.Object, Extents.Objects, Indexes.{IsIndex, number_key}}
