@@ -2,13 +2,14 @@
 use Rattle.std.specs.Prelude.{◌≡◌, ◌≢◌, ◌⊎◌, ℕ, ◌+◌, Bool, false, IsTrue, List, [], ◌++◌, Option, None, Some, Result, Ok, Err}
 use Rattle.cap_ops.specs.declared.refusal.Refusal.TheVariants.{Misplaced, Truncated}
 use Rattle.cap_streams.specs.{declared.judge_faults.JudgeFault.JudgeFault, FaultLines.bytes_of, Front.{IsCut, IsLine, IsTooLong}}
+use Rattle.tagmem.specs.declared.store.TaggedStore.{Ghosts}
 use Rattle.cap_judge.specs.{Judgings.IsLastFront, declared.judges.Stop.Stop}
 use Rattle.cap_judge.specs.declared.judges.Stop.TheVariants as stops
 use Rattle.cap_run_log.specs.declared.lines.RunLine.{RunLine}
 use Rattle.cap_run.specs.declared.{asks.Asks.Asks, ends.{RunEnd.RunEnd, RunRefusal.{RunRefusal, TheVariants.Usual}}}
 use Rattle.cap_run.specs.declared.ends.RunEnd.TheVariants as ends
 use Rattle.cap_run.specs.{Numbers.numbered_run, Run.Run, RunChecks.line_wants}
-use Rattle.cap_run_judge.specs.declared.mock.RunMachine.{RunMachine}
+use Rattle.cap_run.specs.declared.run_machine.RunMachine.{RunMachine}
 use Rattle.cap_run_judge.specs.declared.faults.RefusedRunLine as faults
 use Rattle.cap_run_judge.specs.declared.judges.{RunJudge.RunJudge}
 use Rattle.cap_run_judge.specs.declared.judges.NextRunLine as code
@@ -18,7 +19,7 @@ use Rattle.cap_run_judge.specs.Turns.{Allows, Body, Due, Ended, First, Goes, IsS
 use Rattle.cap_run_judge.specs.{Judgings.{IsVerdictOf, StopsIn}, Verdicts.{Lacks, RefusesWhole, long_refusal}}
 
 -- the run of a machine
-abbrev pub run_in : {M : Type 0} → RunMachine M → Run
+abbrev pub run_in : {M : Type 0} {ghosts : Ghosts M} → RunMachine M ghosts → Run
 run_in machine = numbered_run machine.machine machine.specials machine.objects
 
 -- what the code's stage says
@@ -30,7 +31,7 @@ due_of stages.Ended = Ended
 due_of (stages.Refused fault) = Refused fault.line fault.refusal (bytes_of fault.text)
 
 -- how far a judge has read
-abbrev pub stage_of : {M : Type 0} → RunJudge M → Stage
+abbrev pub stage_of : {M : Type 0} {ghosts : Ghosts M} → RunJudge M ghosts → Stage
 stage_of judge = record { asks = judge.machine.asks; run = run_in judge.machine; due = due_of judge.stage }
 
 -- a line is faulty

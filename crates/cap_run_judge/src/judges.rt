@@ -15,12 +15,12 @@ ghost use Rattle.cap_run.specs.{declared.ends.RunRefusal.TheVariants.Usual, RunC
 ghost use Rattle.cap_run_judge.specs.Verdicts.{long_refusal};
 
 use crate::faults::RefusedRunLine;
-use crate::mock::RunMachine;
+use crate::mock::{make, make_usual};
 use crate::verdict::RunVerdict;
 use cap_judge::{Stop, Taken};
 use cap_log::{Line, Mode, read_line};
 use cap_machine::{Refusal, Rules};
-use cap_run::{Asks, RunEnd, RunRefusal};
+use cap_run::{Asks, RunEnd, RunMachine, RunRefusal};
 use cap_run_log::{RunLine, take_run_line};
 use cap_streams::{FaultLine, Front, front};
 use std::alloc::Global;
@@ -290,8 +290,8 @@ impl<M: TaggedStore> RunJudge<M> {
                 Err(RunEnd::Refused(usual(Refusal::Misplaced)))
             }
             RunLine::Root(place, word) => self.machine.declare(place, word),
-            RunLine::Step(step) => self.machine.make_usual(&step),
-            RunLine::Run(step) => self.machine.make(&step),
+            RunLine::Step(step) => make_usual(&mut self.machine, &step),
+            RunLine::Run(step) => make(&mut self.machine, &step),
             RunLine::End(count) => {
                 if count != self.machine.steps() {
                     return Err(RunEnd::Refused(usual(Refusal::WrongCount)));

@@ -17,7 +17,6 @@ mod verdict_lines;
 pub use crate::faults::RefusedRunLine;
 pub use crate::judges::RunJudge;
 pub use crate::laws::{one_run_verdict, stages_are_of_run_logs};
-pub use crate::mock::RunMachine;
 pub use crate::output::push_run_verdict;
 pub use crate::streams::{
     RunJudgeEnd, judge_run, judge_run_bytes, judge_run_in, judge_run_keeping,

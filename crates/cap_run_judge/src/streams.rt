@@ -9,10 +9,9 @@ ghost use Rattle.cap_run_judge.specs.Readings.{IsAnswered, StopsAt, lines_read, 
 
 use crate::faults::RefusedRunLine;
 use crate::judges::RunJudge;
-use crate::mock::RunMachine;
 use crate::verdict::RunVerdict;
 use cap_judge::Stop;
-use cap_run::Asks;
+use cap_run::{Asks, RunMachine};
 use cap_streams::{FaultLine, JudgeFault, PullFault, ReadBuffer, SliceSource, Source};
 use std::alloc::Global;
 use tagmem::{PageStore, TaggedStore};
