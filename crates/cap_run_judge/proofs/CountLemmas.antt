@@ -5,7 +5,7 @@ use Rattle.std.proofs.lemmas.Option.{none-some}
 use Rattle.cap_run_log.specs.declared.lines.{RunLine.RunLine, RunStep.RunStep}
 use Rattle.cap_run.specs.declared.{asks.Asks.Asks, ends.RunRefusal.{RunRefusal, TheVariants.{NoCapability, NoOwner}}}
 use Rattle.cap_run.specs.{Run.Run, RunChanges.{line_after, run_after, with_freed}, RunChecks.{number_end, run_end}, RunSteps.{or_later, step_limit}}
-use Rattle.cap_run_judge.specs.Turns.{Allows, Body, Due, Ended, First, Goes, OfRun, Reads, Refused, Second, Stage, next_due, refusal_by, stage_after, unread}
+use Rattle.cap_run_judge.specs.Turns.{Allows, Body, Due, Ended, First, Goes, Reads, Refused, Second, Stage, next_due, refusal_by, stage_after, unread}
 use Rattle.cap_run_judge.specs.Readings.{IsAtFault, lines_by, lines_read}
 
 -- the object that a register's owner is, freed
@@ -29,7 +29,7 @@ fresh_by run_is First = (run_is.roots ≡ 0) × (run_is.steps ≡ 0)
 fresh_by run_is Second = (run_is.roots ≡ 0) × (run_is.steps ≡ 0)
 fresh_by run_is due = Unit {0}
 
-line_counts : (asks_are : Asks) (run_is : Run) (due : Due) (line : RunLine) → fresh_by run_is due → refusal_by asks_are run_is due (OfRun line) ≡ None
+line_counts : (asks_are : Asks) (run_is : Run) (due : Due) (line : RunLine) → fresh_by run_is due → refusal_by asks_are run_is due (Some line) ≡ None
     → (lines_by (line_after run_is line) (next_due line) ≡ lines_by run_is due + 1) × fresh_by (line_after run_is line) (next_due line)
 unfolding fresh_by
 line_counts asks_are run_is First RunLine.Version fresh free = (refl, fresh)

@@ -1,31 +1,27 @@
 -- Bytes have one reading, a line at a time, that stops, and no two verdicts: each comes from such a reading.
 use Rattle.std.specs.List.{AllByRecursion}
-use Rattle.std.proofs.Common.{◌≡◌, ℕ, ◌+◌, inl, inr, List, [], ◌∷◌, ◌++◌, length, refl, sym, ap, subst, ◌∙◌, append_assoc, append-nil, arith, Some}
+use Rattle.std.proofs.Common.{◌≡◌, ℕ, ◌+◌, inl, inr, List, [], ◌∷◌, ◌++◌, length, refl, sym, ap, subst, ◌∙◌, append_assoc, append-nil, arith, Option, Some, None}
 use Rattle.std.proofs.{Common.length-append, lemmas.Option.{none-some, same_Some}}
 use Rattle.cap_ops.specs.declared.refusal.Refusal.TheVariants.{Misplaced}
 use Rattle.cap_streams.specs.Front.{IsLine, IsTooLong}
 use Rattle.cap_streams.proofs.FrontLemmas.{IsLine-same, IsLine-not_too_long, IsLine-not_cut, IsTooLong-not_cut}
+use Rattle.cap_log.specs.Parts.{ReadsAs}
 use Rattle.cap_run_log.specs.{declared.lines.RunLine.RunLine, RunLines.{IsRunLineInRange, run_spelling}}
 use Rattle.cap_run_log.proofs.Spellings.{one_run_spelling}
 use Rattle.cap_run.specs.declared.{asks.Asks.Asks, ends.RunRefusal.{RunRefusal, TheVariants.Usual}}
 use Rattle.cap_run.specs.Run.{Run}
 use Rattle.cap_run_judge.specs.declared.verdict.RunVerdict.{RunVerdict, TheVariants.{Yes, No}}
-use Rattle.cap_run_judge.specs.Turns.{Allows, Due, Ended, Form, Goes, HasForm, OfRun, OtherVersion, Formless, Reads, Stage, refusal_at, refusal_by}
+use Rattle.cap_run_judge.specs.Turns.{Allows, Due, Ended, Goes, Reads, Stage, refusal_at, refusal_by}
 use Rattle.cap_run_judge.specs.Turns.{stage_after, text_of, unread}
 use Rattle.cap_run_judge.specs.Verdicts.{IsVerdict, Refuses, RefusesCut, RefusesWhole}
 use Rattle.cap_run_judge.proofs.TurnLemmas.{IsLine-run_spelling}
 
--- a text has one form
-one_form : (text : List ℕ) (a b : Form) → HasForm text a → HasForm text b → a ≡ b
-one_form text (OfRun line) (OfRun other) h k = ap OfRun (one_run_spelling text line other h k)
-one_form text (OfRun line) OtherVersion h k = absurd (k.0 line h)
-one_form text (OfRun line) Formless h k = absurd (k.0 line h)
-one_form text OtherVersion (OfRun line) h k = absurd (h.0 line k)
-one_form text OtherVersion OtherVersion h k = refl
-one_form text OtherVersion Formless h k = absurd (k.1 h.1.0 h.1.1)
-one_form text Formless (OfRun line) h k = absurd (h.0 line k)
-one_form text Formless OtherVersion h k = absurd (h.1 k.1.0 k.1.1)
-one_form text Formless Formless h k = refl
+-- a text is that of one line at most
+one_form : (text : List ℕ) (a b : Option RunLine) → ReadsAs IsRunLineInRange run_spelling text a → ReadsAs IsRunLineInRange run_spelling text b → a ≡ b
+one_form text (Some line) (Some other) h k = ap Some (one_run_spelling text line other h k)
+one_form text (Some line) None h k = absurd (k line h.0 h.1)
+one_form text None (Some line) h k = absurd (h line k.0 k.1)
+one_form text None None h k = refl
 
 -- no line that is allowed stands at the front of the bytes
 abbrev Stops : Stage → List ℕ → Type 0
@@ -93,13 +89,13 @@ refused_stops : (stage : Stage) (rest : List ℕ) (refusal : RunRefusal) → Ref
 refused_stops stage rest refusal refused line more range allowed is =
     let whole = subst (λ (bytes : List ℕ). IsLine bytes (run_spelling line) more) (sym is) (IsLine-run_spelling line range more) in
     let found = front_refused stage rest (run_spelling line) more refusal whole refused in
-    let same = one_form (run_spelling line) (OfRun line) found.0 (range, refl) found.1 in
+    let same = one_form (run_spelling line) (Some line) found.0 (range, refl) found.1 in
     none-some refusal (sym allowed ∙ ap (refusal_at stage) same ∙ found.2)
 
 -- after the end line, too
 ended_stops : (stage : Stage) (rest : List ℕ) → stage.due ≡ Ended → Stops stage rest
 ended_stops stage rest ended line more range allowed is =
-    none-some (Usual Misplaced) (sym allowed ∙ ap (λ (d : Due). refusal_by stage.asks stage.run d (OfRun line)) ended)
+    none-some (Usual Misplaced) (sym allowed ∙ ap (λ (d : Due). refusal_by stage.asks stage.run d (Some line)) ended)
 
 -- where nothing follows the end line, nothing is refused
 nothing_refused : (asks_are : Asks) (run_is : Run) (due : Due) (refusal : RunRefusal) → due ≡ Ended

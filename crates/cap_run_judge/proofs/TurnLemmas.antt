@@ -2,7 +2,7 @@
 use Rattle.std.proofs.Common.{◌≡◌, ◌≢◌, ◌⊎◌, ℕ, ◌+◌, ◌-◌, inl, inr, true, false, Bool, List, [], ◌∷◌, ◌++◌, length, take, drop}
 use Rattle.std.proofs.Common.{refl, sym, ap, subst, ◌∙◌, arith, append-nil, append_assoc, None, Some, Option, Result, Ok, Err, IfOk, IsTrue}
 use Rattle.std.proofs.lemmas.{Grind.flat_map-append, Option.none-some}
-use Rattle.cap_log.specs.{declared.lines.Line.Line, Lines.Spells, Parts.Begins}
+use Rattle.cap_log.specs.{declared.lines.Line.Line, Lines.Spells, Parts.{Begins, ReadsAs}}
 use Rattle.cap_log.proofs.SpellingLemmas.{one_spelling}
 use Rattle.cap_log.proofs.ElementLemmas.{AllByRecursion-append}
 use Rattle.cap_streams.specs.{FaultLines.bytes_of, Front.{IsCut, IsFront, IsFrontText, IsLine, IsTooLong}}
@@ -19,7 +19,7 @@ use Rattle.cap_ops.specs.declared.refusal.Refusal.TheVariants.{Misplaced, Trunca
 use Rattle.cap_run_judge.specs.declared.{faults.RefusedRunLine.RefusedRunLine, verdict.RunVerdict.RunVerdict}
 use Rattle.cap_run_judge.specs.declared.judges.NextRunLine as code
 use Rattle.cap_run_judge.specs.declared.judges.NextRunLine.TheVariants as stages
-use Rattle.cap_run_judge.specs.Turns.{Allows, AreSafe, Body, Due, Ended, Form, Goes, HasForm, HasNoRunLine, IsSafeAt, OfRun, Reads, Refused, Stage}
+use Rattle.cap_run_judge.specs.Turns.{Allows, AreSafe, Body, Due, Ended, Goes, IsSafeAt, Reads, Refused, Stage}
 use Rattle.cap_run_judge.specs.Turns.{refusal_at, stage_after, text_of}
 use Rattle.cap_run_judge.specs.Verdicts.{Lacks}
 use Rattle.cap_run_judge.specs.Readings.{AnswersLine, EndsAs, EndsAt, EndsFor, EndsIn, Faults, IsAtFault, RefusesNext, StopsAt, Takes, due_at_end}
@@ -124,19 +124,14 @@ line_is line bytes rest is = subst (λ (b : List ℕ). IsLine b (run_spelling li
 pub ends_at : (stage : Stage) (bytes rest : List ℕ) (line : RunLine) (end : RunEnd) → Begins IsRunLineInRange run_spelling 10 bytes line rest
     → EndsFor stage line end → EndsAt stage bytes end
 ends_at stage bytes rest line (RunEnd.Refused refusal) is refused =
-    inl (run_spelling line, rest, line_is line bytes rest is, (OfRun line, (is.0, refl), refused))
+    inl (run_spelling line, rest, line_is line bytes rest is, (Some line, (is.0, refl), refused))
 ends_at stage bytes rest line RunEnd.NoMemory is names = (rest, record { line = line; begins = is; allowed = names.0; wants = names.1 })
 
 -- no line of run logs has the text of a front that none begins
 pub no_line_text : (bytes text rest : List ℕ) → IsLine bytes text rest
-    → ((line : RunLine) (more : List ℕ) → Begins IsRunLineInRange run_spelling 10 bytes line more → ⊥) → HasNoRunLine text
-no_line_text bytes text rest whole none line spells =
-    none line rest (spells.0, whole.whole ∙ ap (λ (t : List ℕ). t ++ 10 ∷ rest) spells.1)
-
--- a line that isn't a version line has no text of one
-pub not_version : (text : List ℕ) (line : Line) → Spells text line → ((version : ℕ) → line ≡ Line.Version version → ⊥)
-    → (version : ℕ) → Spells text (Line.Version version) → ⊥
-not_version text line spells other version is = other version (one_spelling text line (Line.Version version) spells is)
+    → ((line : RunLine) (more : List ℕ) → Begins IsRunLineInRange run_spelling 10 bytes line more → ⊥) → ReadsAs IsRunLineInRange run_spelling text None
+no_line_text bytes text rest whole none line range is =
+    none line rest (range, whole.whole ∙ ap (λ (t : List ℕ). t ++ 10 ∷ rest) is)
 
 -- no line is faulty
 pub clear_of : (stage : code.NextRunLine) → ((fault : RefusedRunLine) → stage ≡ stages.Refused fault → ⊥) → IsAtFault (due_of stage) → ⊥

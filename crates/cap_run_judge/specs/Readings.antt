@@ -15,7 +15,7 @@ use Rattle.cap_run_judge.specs.declared.judges.{RunJudge.RunJudge}
 use Rattle.cap_run_judge.specs.declared.judges.NextRunLine as code
 use Rattle.cap_run_judge.specs.declared.judges.NextRunLine.TheVariants as stages
 use Rattle.cap_run_judge.specs.declared.verdict.RunVerdict.{RunVerdict, TheVariants.{Yes, No}}
-use Rattle.cap_run_judge.specs.Turns.{Allows, Body, Due, Ended, First, Goes, IsSafeAt, OfRun, Refused, Second, Stage, refusal_at, stage_after}
+use Rattle.cap_run_judge.specs.Turns.{Allows, Body, Due, Ended, First, Goes, IsSafeAt, Refused, Second, Stage, refusal_at, stage_after}
 use Rattle.cap_run_judge.specs.{Judgings.{IsVerdictOf, StopsIn}, Verdicts.{Lacks, RefusesWhole, long_refusal}}
 
 -- the run of a machine
@@ -61,7 +61,7 @@ RefusesNext stage bytes refusal =
 
 -- why a line is not taken: it is refused; or nothing refuses it, and it may want memory
 abbrev pub EndsFor : Stage → RunLine → RunEnd → Type 0
-EndsFor stage line (ends.Refused refusal) = refusal_at stage (OfRun line) ≡ Some refusal
+EndsFor stage line (ends.Refused refusal) = refusal_at stage (Some line) ≡ Some refusal
 EndsFor stage line ends.NoMemory = Allows stage line × IsTrue (line_wants stage.run line)
 
 -- why what the bytes begin with is not taken

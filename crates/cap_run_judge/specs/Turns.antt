@@ -1,11 +1,10 @@
 -- A run log read a line at a time, each line allowed in its turn. All of it is this profile's own.
-use Rattle.std.specs.Prelude.{◌≡◌, ℕ, ◌+◌, Bool, true, false, List, [], ◌∷◌, ◌++◌, flat_map, Option, Some, None}
+use Rattle.std.specs.Prelude.{◌≡◌, ℕ, List, [], ◌∷◌, ◌++◌, flat_map, Option, Some, None}
 use Rattle.std.specs.List.{AllByRecursion}
 use Rattle.cap_ops.specs.declared.refusal.Refusal.TheVariants.{BadHeader, BadLine, BadMode, Misplaced}
-use Rattle.cap_log.specs.{declared.lines.Line.Line, Lines.Spells}
 use Rattle.cap_run_log.specs.declared.lines.RunLine.{RunLine}
 use Rattle.cap_run_log.specs.declared.lines.RunLine.TheVariants as lines
-use Rattle.cap_run_log.specs.RunLines.{IsRunLineInRange, SpellsRun, run_spelling}
+use Rattle.cap_run_log.specs.RunLines.{IsRunLineInRange, run_spelling}
 use Rattle.cap_run.specs.declared.{asks.Asks.Asks, ends.RunRefusal.{RunRefusal, TheVariants.Usual}}
 use Rattle.cap_run.specs.{Run.Run, RunChanges.{line_after, no_run}, RunChecks.line_end, Safety.IsSafe}
 
@@ -28,44 +27,23 @@ pub record Stage : Type 0 where
 abbrev pub unread : Asks → Stage
 unread asks_are = record { asks = asks_are; run = no_run; due = First }
 
--- what a whole line is: a line of run logs, the version line of another log, or neither
-pub data Form : Type 0 where
-  OfRun : (line : RunLine) → Form
-  OtherVersion : Form
-  Formless : Form
-
--- no line of run logs has this text
-abbrev pub HasNoRunLine : List ℕ → Type 0
-HasNoRunLine text = (line : RunLine) → SpellsRun text line → ⊥
-
--- what a line with this text is
-abbrev pub HasForm : List ℕ → Form → Type 0
-HasForm text (OfRun line) = SpellsRun text line
-HasForm text OtherVersion = HasNoRunLine text × ((version : ℕ) × Spells text (Line.Version version))
-HasForm text Formless = HasNoRunLine text × ((version : ℕ) → Spells text (Line.Version version) → ⊥)
-
--- what a line is that isn't one of run logs, by whether it is the version line of another log
-abbrev pub other_form : Bool → Form
-other_form true = OtherVersion
-other_form false = Formless
-
--- why a whole line is refused, by what the next line has to be
-abbrev pub refusal_by : Asks → Run → Due → Form → Option RunRefusal
-refusal_by asks run First (OfRun lines.Version) = None
-refusal_by asks run First form = Some (Usual BadHeader)
-refusal_by asks run Second (OfRun (lines.Mode mode)) = None
-refusal_by asks run Second form = Some (Usual BadMode)
-refusal_by asks run Body (OfRun line) = line_end asks run line
-refusal_by asks run Body Formless = Some (Usual BadLine)
-refusal_by asks run due form = Some (Usual Misplaced)
+-- why a line is refused, or bytes that no line spells, by what the next line has to be
+abbrev pub refusal_by : Asks → Run → Due → Option RunLine → Option RunRefusal
+refusal_by asks run First (Some lines.Version) = None
+refusal_by asks run First line = Some (Usual BadHeader)
+refusal_by asks run Second (Some (lines.Mode mode)) = None
+refusal_by asks run Second line = Some (Usual BadMode)
+refusal_by asks run Body (Some line) = line_end asks run line
+refusal_by asks run Body None = Some (Usual BadLine)
+refusal_by asks run due line = Some (Usual Misplaced)
 
 -- why one is refused at a stage
-abbrev pub refusal_at : Stage → Form → Option RunRefusal
-refusal_at stage form = refusal_by stage.asks stage.run stage.due form
+abbrev pub refusal_at : Stage → Option RunLine → Option RunRefusal
+refusal_at stage line = refusal_by stage.asks stage.run stage.due line
 
 -- a line that nothing refuses at a stage
 abbrev pub Allows : Stage → RunLine → Type 0
-Allows stage line = refusal_at stage (OfRun line) ≡ None
+Allows stage line = refusal_at stage (Some line) ≡ None
 
 -- what the line after it has to be
 abbrev pub next_due : RunLine → Due

@@ -1,14 +1,14 @@
 -- The verdict on the bytes of a run log. All of it is this profile's own.
-use Rattle.std.specs.Prelude.{◌≡◌, ◌≢◌, ℕ, ◌+◌, List, [], ◌++◌, length, IsTrue, Some}
+use Rattle.std.specs.Prelude.{◌≡◌, ◌≢◌, ℕ, ◌+◌, List, [], ◌++◌, length, IsTrue, Option, Some}
 use Rattle.cap_ops.specs.declared.refusal.Refusal.TheVariants.{LineTooLong, Misplaced, Truncated}
 use Rattle.cap_streams.specs.declared.judge_faults.JudgeFault.{JudgeFault, TheVariants.{Pull, NoMemory}}
 use Rattle.cap_streams.specs.Front.{FrontIs}
-use Rattle.cap_log.specs.Parts.{Begins}
+use Rattle.cap_log.specs.Parts.{Begins, ReadsAs}
 use Rattle.cap_run_log.specs.{declared.lines.RunLine.RunLine, RunLines.{IsRunLineInRange, run_spelling}}
 use Rattle.cap_run.specs.declared.{asks.Asks.Asks, ends.RunRefusal.{RunRefusal, TheVariants.Usual}}
 use Rattle.cap_run.specs.RunChecks.{line_wants}
 use Rattle.cap_run_judge.specs.declared.verdict.RunVerdict.{RunVerdict, TheVariants.{Yes, No}}
-use Rattle.cap_run_judge.specs.Turns.{Allows, Body, Due, Ended, First, Form, Goes, HasForm, Second, Stage, refusal_at, unread}
+use Rattle.cap_run_judge.specs.Turns.{Allows, Body, Due, Ended, First, Goes, Second, Stage, refusal_at, unread}
 
 -- the bytes are whole lines that lead from nothing to a stage, and a rest
 pub record IsBehind (asks : Asks) (bytes : List ℕ) (stage : Stage) (rest : List ℕ) : Type 0 where
@@ -30,7 +30,8 @@ RefusesCut due rest refusal = refusal ≡ Usual Truncated
 
 -- a whole line is refused at a stage
 abbrev pub RefusesWhole : Stage → List ℕ → RunRefusal → Type 0
-RefusesWhole stage text refusal = (form : Form) × HasForm text form × (refusal_at stage form ≡ Some refusal)
+RefusesWhole stage text refusal =
+    (line : Option RunLine) × ReadsAs IsRunLineInRange run_spelling text line × (refusal_at stage line ≡ Some refusal)
 
 -- what follows is refused at a stage: a line that is too long, cut, or refused as a whole
 abbrev pub Refuses : Stage → List ℕ → RunRefusal → Type 0

@@ -10,12 +10,11 @@ ghost use Rattle.cap_run_judge.specs.declared.faults.RefusedRunLine.{RefusedRunL
 ghost use Rattle.cap_run_judge.specs.declared.judges.NextRunLine.TheVariants.{Body, Refused as RefusedIn};
 ghost use Rattle.cap_run_judge.specs.Readings.{AnswersLine, EndsAs, EndsAt, IsAtFault, IsFaultOf, StopsAt, Takes};
 ghost use Rattle.cap_run_judge.specs.Readings.{lines_read, stage_of};
-ghost use Rattle.cap_run_judge.specs.Turns.{HasForm, HasNoRunLine, other_form, refusal_at, unread};
+ghost use Rattle.cap_run_judge.specs.Turns.{refusal_at, unread};
 ghost use Rattle.cap_run.specs.{declared.ends.RunRefusal.TheVariants.Usual, RunChanges.rules_of};
 ghost use Rattle.cap_run_judge.specs.Verdicts.{long_refusal};
 
 use crate::faults::RefusedRunLine;
-use crate::mock::{make, make_usual};
 use crate::verdict::RunVerdict;
 use cap_judge::{Stop, Taken};
 use cap_log::{Line, Mode, read_line};
@@ -162,7 +161,7 @@ impl<M: TaggedStore> RunJudge<M> {
         let refusal = match found {
             Front::Cut => return Stop::Cut,
             Front::TooLong => self.refusal_of_long(),
-            Front::Line(length) => self.refusal_of_other(is_other_version(&bytes[..length])),
+            Front::Line(_) => self.refusal_of_formless(),
         };
         self.stop(RunEnd::Refused(refusal), found, bytes)
     }
@@ -233,20 +232,14 @@ impl<M: TaggedStore> RunJudge<M> {
         }
     }
 
-    // Why a line is refused that isn't one of run logs, by whether it is the version line of another log.
-    fn refusal_of_other(&self, is_version: bool) -> RunRefusal
-        ensures { refusal_at (stage_of self.now) (other_form is_version) ≡ Some result }
+    // Why a line is refused that has no form.
+    fn refusal_of_formless(&self) -> RunRefusal
+        ensures { refusal_at (stage_of self.now) None ≡ Some result }
     {
         match self.stage {
             NextRunLine::Version => usual(Refusal::BadHeader),
             NextRunLine::Mode => usual(Refusal::BadMode),
-            NextRunLine::Body => {
-                if is_version {
-                    usual(Refusal::Misplaced)
-                } else {
-                    usual(Refusal::BadLine)
-                }
-            }
+            NextRunLine::Body => usual(Refusal::BadLine),
             NextRunLine::Ended | NextRunLine::Refused(_) => usual(Refusal::Misplaced),
         }
     }
@@ -286,12 +279,12 @@ impl<M: TaggedStore> RunJudge<M> {
         ensures { AnswersLine (stage_of self.old) line.now result (stage_of self.new) }
     {
         match *line {
-            RunLine::Version | RunLine::Mode(_) => {
+            RunLine::Version | RunLine::Plain(_) | RunLine::Mode(_) => {
                 Err(RunEnd::Refused(usual(Refusal::Misplaced)))
             }
             RunLine::Root(place, word) => self.machine.declare(place, word),
-            RunLine::Step(step) => make_usual(&mut self.machine, &step),
-            RunLine::Run(step) => make(&mut self.machine, &step),
+            RunLine::Step(step) => self.machine.make_usual(&step),
+            RunLine::Run(step) => self.machine.make(&step),
             RunLine::End(count) => {
                 if count != self.machine.steps() {
                     return Err(RunEnd::Refused(usual(Refusal::WrongCount)));
@@ -308,20 +301,6 @@ fn usual(refusal: Refusal) -> RunRefusal
     ensures { result ≡ Usual refusal }
 {
     RunRefusal::Usual(refusal)
-}
-
-// Whether a line that isn't one of run logs is the version line of another log.
-fn is_other_version(text: &[u8]) -> bool
-    requires { HasNoRunLine text.now }
-    ensures { HasForm text.now (other_form result) }
-{
-    match read_line(text) {
-        Some(line) => match line {
-            Line::Version(_) => true,
-            _ => false,
-        },
-        None => false,
-    }
 }
 
 // The rules of a mode.
