@@ -88,3 +88,10 @@ pub fn objects_own_what_descends()
 pub fn held_objects_are_met_exactly()
     ensures law { (asks : AsksIn) (before : List RunLine) (line : RunLine) → IsHeldExactly asks (run_along before) line }
 {}
+
+/// Along lines that are each allowed in its turn, at every moment objects are safe: each owned place has bounds inside the
+/// extent of its owner, and no address lies in the extents of two objects, nor in what two places of two objects reach.
+pub fn objects_are_safe()
+    ensures law { (asks : AsksIn) (before after : List RunLine) → AreAllowed asks no_run (before ++ after)
+        → IsSafe asks.held (run_along before) }
+{}
