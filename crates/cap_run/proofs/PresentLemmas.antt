@@ -77,7 +77,7 @@ run_counted run (steps.Widen register number) known = stepped_counted _ (changed
 run_counted run (steps.FreeOwner register) known = freed_counted run (run.owners register) known
 run_counted run (steps.FreeNumber number) known = freed_counted run (Some number) known
 
-line_counted : (run : Run) (line : RunLine) → AreCounted run → AreCounted (line_after run line)
+pub line_counted : (run : Run) (line : RunLine) → AreCounted run → AreCounted (line_after run line)
 line_counted run lines.Version known = known
 line_counted run (lines.Mode mode) known =
     λ number object is. let k = known number object is in record { few = k.few; present = k.present; held = k.held }
@@ -91,7 +91,7 @@ counted_along : (run : Run) (read : List RunLine) → AreCounted run → AreCoun
 counted_along run [] known = known
 counted_along run (line ∷ rest) known = counted_along (line_after run line) rest (line_counted run line known)
 
-none_counted : AreCounted no_run
+pub none_counted : AreCounted no_run
 none_counted number object is = absurd (none-some object is)
 
 pub all_counted : (read : List RunLine) → AreCounted (run_along read)
