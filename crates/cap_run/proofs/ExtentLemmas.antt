@@ -159,25 +159,25 @@ module _ (keeps : Bool) (run : Run) (apart_are : AreApart keeps run.objects) (nu
           new,
           sym (ap (put run.objects number (Some new)) of_is) ∙ cond-true (number == number) (Some new) (run.objects number) (self number),
           subst (λ (k : ℕ). IsWithin ((line_after run line).state k) new) register_is
-          (within (subst (λ (k : ℕ). ReachesSome ((line_after run line).state k)) (sym register_is) reaches)),
+              (within (subst (λ (k : ℕ). ReachesSome ((line_after run line).state k)) (sym register_is) reaches)),
         );
     apart = λ one two a b is_a is_b differ guard_a guard_b share.
         elim (either-key run.objects number (Some new) one) [
           | inl here ↦ elim (either-key run.objects number (Some new) two) [
-              | inl too ↦ absurd (differ (sym here.0 ∙ too.0))
-              | inr away ↦
-                  let a_is = same_Some new a (sym here.1 ∙ is_a) in
-                  alone two b away.0 (sym away.1 ∙ is_b) guard_b
-                  (subst (λ (o : Object). Share o.base (top_of_extent o) b.base (top_of_extent b)) (sym a_is) share)
-            ]
+            | inl too ↦ absurd (differ (sym here.0 ∙ too.0))
+            | inr away ↦
+                let a_is = same_Some new a (sym here.1 ∙ is_a) in
+                alone two b away.0 (sym away.1 ∙ is_b) guard_b
+                (subst (λ (o : Object). Share o.base (top_of_extent o) b.base (top_of_extent b)) (sym a_is) share)
+          ]
           | inr away ↦ elim (either-key run.objects number (Some new) two) [
-              | inl here ↦
-                  let b_is = same_Some new b (sym here.1 ∙ is_b) in
-                  alone one a away.0 (sym away.1 ∙ is_a) guard_a
-                  (subst (λ (o : Object). Share o.base (top_of_extent o) a.base (top_of_extent a)) (sym b_is)
-                  (share.0, share.3, share.4, share.1, share.2))
-              | inr too ↦ apart_are one two a b (sym away.1 ∙ is_a) (sym too.1 ∙ is_b) differ guard_a guard_b share
-            ]
+            | inl here ↦
+                let b_is = same_Some new b (sym here.1 ∙ is_b) in
+                alone one a away.0 (sym away.1 ∙ is_a) guard_a
+                (subst (λ (o : Object). Share o.base (top_of_extent o) a.base (top_of_extent a)) (sym b_is)
+                (share.0, share.3, share.4, share.1, share.2))
+            | inr too ↦ apart_are one two a b (sym away.1 ∙ is_a) (sym too.1 ∙ is_b) differ guard_a guard_b share
+          ]
         ];
     numbered = λ other object is. elim (either-key run.objects number (Some new) other) [
       | inl here ↦ ap (λ (o : Object). o.number) (sym (same_Some new object (sym here.1 ∙ is))) ∙ number_is ∙ here.0
@@ -193,7 +193,7 @@ no_share asks run left_out base top two b few free apart is_b guard share_is =
     (meets run left_out is_live base top, Overlaps) ∷ (asks.held && meets run left_out is_freed base top, StillHeld) ∷ []) free in
     elim (cases_Bool b.freed) [
       | inr live ↦ false≢true (sym none.0 ∙ meets-where run left_out is_live base top two b
-      (record { there = is_b; few = few two b is_b; other = apart; asked_is = ap not live; share = share_is }))
+          (record { there = is_b; few = few two b is_b; other = apart; asked_is = ap not live; share = share_is }))
       | inl freed ↦
           let met = meets-where run left_out is_freed base top two b
           (record { there = is_b; few = few two b is_b; other = apart; asked_is = freed; share = share_is }) in
@@ -281,7 +281,7 @@ module _ (asks : Asks) (run : Run) (known : AreCounted run) (apart_are : AreApar
       let made = put run.objects number (option_map (freed_in (run.steps + 1)) (run.objects number)) in (
         made,
         freed_made asks.held run apart_are numbered_are line number none (λ other.
-        ap (λ (r : Run). r.objects other) is ∙ sym (ap (λ (r : Run). counted made r.owners other) is)),
+            ap (λ (r : Run). r.objects other) is ∙ sym (ap (λ (r : Run). counted made r.owners other) is)),
       )
 
   object_made : (register : ℕ) → IsLineAllowed asks run (lines.Run (steps.Object register)) → Made (lines.Run (steps.Object register))
@@ -295,12 +295,12 @@ module _ (asks : Asks) (run : Run) (known : AreCounted run) (apart_are : AreApar
       let free = (later_none (extent_end asks run None base top) (step_limit run) later.1).0 in (
         put run.objects number (Some new),
         changed_made asks.held run apart_are numbered_are (lines.Run (steps.Object register)) register number new refl (λ other. refl)
-        (λ old is. absurd (let low = few_of run known number old is in omega (arith, low)))
-        (λ reaches. within_fresh cap number (run.steps + 1) reaches)
-        (λ two b differ is guard share.
-        no_share asks run None base top two b (few_of run known) free refl is guard
-        (share.0, share.1, fresh_in number (run.steps + 1) base top share.0 share.1 share.2, share.3, share.4))
-        refl,
+            (λ old is. absurd (let low = few_of run known number old is in omega (arith, low)))
+            (λ reaches. within_fresh cap number (run.steps + 1) reaches)
+            (λ two b differ is guard share.
+            no_share asks run None base top two b (few_of run known) free refl is guard
+            (share.0, share.1, fresh_in number (run.steps + 1) base top share.0 share.1 share.2, share.3, share.4))
+            refl,
       )
 
   widen_made : (register number : ℕ) → IsLineAllowed asks run (lines.Run (steps.Widen register number)) → Made (lines.Run (steps.Widen register number))
@@ -320,22 +320,22 @@ module _ (asks : Asks) (run : Run) (known : AreCounted run) (apart_are : AreApar
       let line = lines.Run (steps.Widen register number) in (
         put run.objects number (Some (widened o base top)),
         changed_made asks.held run apart_are numbered_are line register number (widened o base top) refl
-        (λ other. ap (λ (f : Option Object). counted (put run.objects number (option_map (λ x. widened x base top) f)) (line_after run line).owners other) found.1)
-        (λ old is.
-        let same = same_Some o old (sym found.1 ∙ is) in
-        let grown = widened-grows o base top in
-        subst (λ (x : Object). Grows x (widened o base top)) same (record { base = grown.0; top = grown.1 }))
-        (λ reaches. within_widened cap o reaches)
-        (λ two b differ is guard share.
-        no_share asks run (Some number) (min o.base base) (max (top_of_extent o) top) two b (few_of run known) free
-        (ne_eqb two number (λ same. differ (sym same))) is guard (
-          share.0,
-          (let p = share.1 in let q = wide.base in omega (arith, p, q)),
-          (let p = share.2 in let q = wide.top in omega (arith, p, q)),
-          share.3,
-          share.4,
-        ))
-        (wide.number ∙ numbered_are number o found.1),
+            (λ other. ap (λ (f : Option Object). counted (put run.objects number (option_map (λ x. widened x base top) f)) (line_after run line).owners other) found.1)
+            (λ old is.
+            let same = same_Some o old (sym found.1 ∙ is) in
+            let grown = widened-grows o base top in
+            subst (λ (x : Object). Grows x (widened o base top)) same (record { base = grown.0; top = grown.1 }))
+            (λ reaches. within_widened cap o reaches)
+            (λ two b differ is guard share.
+            no_share asks run (Some number) (min o.base base) (max (top_of_extent o) top) two b (few_of run known) free
+            (ne_eqb two number (λ same. differ (sym same))) is guard (
+              share.0,
+              (let p = share.1 in let q = wide.base in omega (arith, p, q)),
+              (let p = share.2 in let q = wide.top in omega (arith, p, q)),
+              share.3,
+              share.4,
+            ))
+            (wide.number ∙ numbered_are number o found.1),
       )
 
   pub line_made : (line : RunLine) → IsLineAllowed asks run line → Made line

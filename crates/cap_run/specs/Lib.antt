@@ -16,4 +16,5 @@ pub mod Descents
 pub mod Choices
 pub mod Holders
 pub mod HeldExtents
+pub mod OwnedAccesses
 pub mod Erasure

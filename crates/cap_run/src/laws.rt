@@ -5,9 +5,9 @@ ghost use Rattle.cap_machine.specs.Parents.{IsSoundState};
 ghost use Rattle.cap_run_log.specs.declared.lines.RunLine.{RunLine};
 ghost use Rattle.cap_run_log.specs.RunLines.{IsRunLineInRange};
 ghost use Rattle.cap_run.specs.declared.asks.Asks.{Asks as AsksIn};
-ghost use Rattle.cap_run.specs.Choices.{EndsByChoice, AsksNoMore, IsFirstRefused, IsOwnedAccess, IsOwnersAccess, RefusedByChoice};
+ghost use Rattle.cap_run.specs.Choices.{EndsByChoice, AsksNoMore, IsFirstRefused, IsOwnedAccess, RefusedByChoice};
 ghost use Rattle.cap_run.specs.{Allowed.{AreAllowed, DescendsFromOne, IsLineAllowed, LineStaysWithin}, Descents.{LiesInRoot, StaysWithinRoots, run_along}};
-ghost use Rattle.cap_run.specs.{Erasure.AllowsErased, HeldExtents.IsHeldExactly, Holders.OwnersDescend, Run.Run, RunChanges.no_run, Safety.IsSafe};
+ghost use Rattle.cap_run.specs.{Erasure.AllowsErased, HeldExtents.IsHeldExactly, Holders.OwnersDescend, OwnedAccesses.{AccessesOwn, IsOwnersAccess}, Run.Run, RunChanges.no_run, Safety.IsSafe};
 
 /// Where each tagged capability of a run is sound, each one after an allowed line is sound too: it is the root that the
 /// line declares, or reaches no more than what the place held before the line that it comes from. A place that the line
@@ -63,13 +63,6 @@ pub fn owned_accesses_have_owners()
     ensures law { (asks : AsksIn) (run : Run) (line : RunLine) → IsTrue asks.owned → IsLineAllowed asks run line → IsOwnedAccess run line }
 {}
 
-/// Where objects are apart, and an access through a freed object is refused if extents of freed objects aren't compared,
-/// that capability is one of the live object whose byte is touched.
-pub fn owned_accesses_are_of_owners()
-    ensures law { (asks : AsksIn) (before : List RunLine) (line : RunLine) → IsTrue asks.owned → IsTrue (asks.held || asks.used)
-        → IsSafe asks.held (run_along before) → IsLineAllowed asks (run_along before) line → IsOwnersAccess (run_along before) line }
-{}
-
 /// Without the lines of objects, lines that are each allowed in its turn are allowed, whatever is asked, and lead to the
 /// same run but for its objects and how many steps it has.
 pub fn lines_are_allowed_without_objects()
@@ -94,4 +87,18 @@ pub fn held_objects_are_met_exactly()
 pub fn objects_are_safe()
     ensures law { (asks : AsksIn) (before after : List RunLine) → AreAllowed asks no_run (before ++ after)
         → IsSafe asks.held (run_along before) }
+{}
+
+/// Along lines that are each allowed in its turn, each access through what an object owns lies in that object's extent and
+/// touches no byte of another object. The object is live if that is asked.
+pub fn accesses_stay_in_owners()
+    ensures law { (asks : AsksIn) (before after : List RunLine) (line : RunLine) → AreAllowed asks no_run (before ++ line ∷ after)
+        → AccessesOwn asks (run_along before) line }
+{}
+
+/// Where it is also asked that an object owns each access to a live object, each access that touches a byte of a live
+/// object goes through a capability that this very object owns.
+pub fn owned_accesses_are_of_owners()
+    ensures law { (asks : AsksIn) (before after : List RunLine) (line : RunLine) → AreAllowed asks no_run (before ++ line ∷ after)
+        → IsTrue asks.owned → IsTrue (asks.held || asks.used) → IsOwnersAccess (run_along before) line }
 {}
