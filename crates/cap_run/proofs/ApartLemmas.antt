@@ -1,25 +1,24 @@
 -- Objects are safe at each moment of allowed lines.
-use Rattle.std.proofs.Common.{◌≡◌, ◌≢◌, ◌==◌, ◌&&◌, ◌||◌, ◌+◌, ◌<◌, ◌≤◌, ◌++◌, ◌∷◌, [], ℕ, Bool, true, false, IsTrue, not, nat_lt, if◌then◌else◌, List, Option, Some, None, option_and_then, refl, sym, ap, subst, ◌∙◌, arith, ◌⊎◌, inl, inr, ne_eqb, lt-ltb}
+use Rattle.std.proofs.Common.{◌≡◌, ◌==◌, ◌||◌, ◌+◌, ◌<◌, ◌≤◌, ◌++◌, ◌∷◌, [], ℕ, Bool, true, false, not, nat_lt, if◌then◌else◌, List, Option, Some, None, option_and_then, refl, sym, ap, subst, ◌∙◌, arith, inl, inr, ne_eqb, lt-ltb}
 use Rattle.std.proofs.lemmas.{Bool.{cases_Bool, cases_lt, cond-true, cond-false, false≢true}, Option.{none-some, same_Some}}
-use Rattle.cap_word.specs.declared.word.Cap.{Cap}
 use Rattle.cap_bounds.specs.Bounds.{base_of, top_of}
 use Rattle.cap_machine.specs.{Parents.IsSoundState}
 use Rattle.cap_machine.specs.Steps.{row_of}
 use Rattle.cap_machine.proofs.StepLemmas.{parent_in}
-use Rattle.cap_objects.specs.{Counts.{Owners, is_owner, most_places, owned_by}, declared.objects.Object.Object, Extents.{Objects, is_present}}
+use Rattle.cap_objects.specs.{Counts.{is_owner, most_places, owned_by}, declared.objects.Object.Object, Extents.{Objects, is_present}}
 use Rattle.cap_objects.specs.{Handed.with_held, Indexes.kept, Objects.{Share, top_of_extent}}
 use Rattle.cap_objects.proofs.{BelowLemmas.below-where, KeyLemmas.is_owner-self}
-use Rattle.cap_run_log.specs.declared.lines.{RunLine.RunLine, RunPlace.RunPlace, RunRegister.RunRegister, RunStep.RunStep}
+use Rattle.cap_run_log.specs.declared.lines.{RunLine.RunLine, RunPlace.RunPlace, RunRegister.RunRegister}
 use Rattle.cap_run_log.specs.declared.lines.RunLine.TheVariants as lines
 use Rattle.cap_run_log.specs.declared.lines.RunPlace.TheVariants as places
 use Rattle.cap_run_log.specs.declared.lines.RunRegister.TheVariants.{General, Special}
 use Rattle.cap_run_log.specs.declared.lines.RunStep.TheVariants as steps
 use Rattle.cap_run_log.specs.RunLines.{IsRunLineInRange, IsRunPlace, IsRunRegister}
-use Rattle.cap_run.specs.{Allowed.{AreAllowed, DeclaresAt, IsLineAllowed}, declared.asks.Asks.Asks, Descents.{line_parent, run_along}, Holders.{ReachesSome, handed_by}}
+use Rattle.cap_run.specs.{Allowed.{AreAllowed, IsLineAllowed}, declared.asks.Asks.Asks, Descents.{line_parent, run_along}, Holders.{ReachesSome, handed_by}}
 use Rattle.cap_run.specs.{Owned.IsWithin, Run.{Run, first_special, register_key}, Safety.{IsGuarded, IsSafe}}
-use Rattle.cap_run.specs.RunChanges.{counted, line_after, main_of, no_run, place_key, usual_after}
+use Rattle.cap_run.specs.RunChanges.{line_after, main_of, no_run, place_key, usual_after}
 use Rattle.cap_run.proofs.DescentLemmas.{along, along-fold, allowed_parts, nothing_tagged, sound_after}
-use Rattle.cap_run.proofs.{ExtentLemmas.{AreApart, AreNumbered, Grows, IsMade, line_made}, FollowLemmas.AllReach, HolderLemmas.{OwnerFrom, owner_from, reach_after}}
+use Rattle.cap_run.proofs.{ExtentLemmas.{AreApart, AreNumbered, IsMade, line_made}, FollowLemmas.AllReach, HolderLemmas.{OwnerFrom, owner_from, reach_after}}
 use Rattle.cap_run.proofs.{LineLemmas.{hits_no_special, root_free, stays_within}, PresentLemmas.{AreCounted, line_counted, none_counted}}
 
 -- what an object owns is a place, and lies in the object's extent

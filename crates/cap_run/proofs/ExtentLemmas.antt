@@ -1,23 +1,23 @@
 -- The extents of objects after a line, before their places are counted.
-use Rattle.std.proofs.Common.{◌≡◌, ◌≢◌, ◌==◌, ◌&&◌, ◌+◌, ◌-◌, ◌<◌, ◌≤◌, ◌∷◌, [], ℕ, Bool, true, false, IsTrue, not, nat_lt, nat_le, if◌then◌else◌, min, max, List, Option, Some, None, option_map, option_and_then, refl, sym, ap, subst, ◌∙◌, arith, ◌⊎◌, inl, inr, ne_eqb, eq-eqb, lt-ltb}
-use Rattle.std.proofs.lemmas.{Bool.{and_from, cases_Bool, cond-true, cond-false, false≢true, ltb-false, Decides.nat_tests}, Option.{none-some, same_Some}}
+use Rattle.std.proofs.Common.{◌≡◌, ◌≢◌, ◌==◌, ◌&&◌, ◌+◌, ◌-◌, ◌<◌, ◌≤◌, ◌∷◌, [], ℕ, Bool, true, false, not, nat_lt, nat_le, if◌then◌else◌, min, max, Option, Some, None, option_map, option_and_then, refl, sym, ap, subst, ◌∙◌, arith, inl, inr, ne_eqb, eq-eqb, lt-ltb}
+use Rattle.std.proofs.lemmas.{Bool.{and_from, cases_Bool, cond-true, cond-false, false≢true, Decides.nat_tests}, Option.{none-some, same_Some}}
 use Rattle.std.specs.Option.{option_map_or}
 use Rattle.cap_word.specs.declared.word.Cap.{Cap}
 use Rattle.cap_bounds.specs.Bounds.{base_of, top_of}
 use Rattle.cap_ops.specs.{Checks.first_of}
 use Rattle.cap_ops.proofs.TestLemmas.{none_hold}
-use Rattle.cap_machine.specs.States.{State, put}
-use Rattle.cap_objects.specs.{Counts.{Owners, is_owner, owned_by}, declared.objects.Object.Object, Extents.{Objects, is_present}}
+use Rattle.cap_machine.specs.States.{put}
+use Rattle.cap_objects.specs.{Counts.{is_owner, owned_by}, declared.objects.Object.Object, Extents.{Objects, is_present}}
 use Rattle.cap_objects.specs.{Handed.{freed_in, handed_out, widened, with_held}, Indexes.kept, Objects.{Share, top_of_extent}}
-use Rattle.cap_run_log.specs.declared.lines.{RunLine.RunLine, RunStep.RunStep}
+use Rattle.cap_run_log.specs.declared.lines.{RunLine.RunLine}
 use Rattle.cap_run_log.specs.declared.lines.RunLine.TheVariants as lines
 use Rattle.cap_run_log.specs.declared.lines.RunStep.TheVariants as steps
-use Rattle.cap_run.specs.declared.{asks.Asks.Asks, ends.RunRefusal.RunRefusal}
+use Rattle.cap_run.specs.declared.{asks.Asks.Asks}
 use Rattle.cap_run.specs.declared.ends.RunRefusal.TheVariants.{AlreadyFreed, NoObject, Overlaps, StillHeld}
 use Rattle.cap_run.specs.{Allowed.IsLineAllowed, Holders.{ReachesSome, handed_by}, ObjectSteps.object_refusal, Owned.IsWithin, Run.Run}
-use Rattle.cap_run.specs.{RunChanges.{counted, line_after, run_after, with_freed}, RunChecks.{extent_end, growth_end, is_freed, is_live, meets, number_end}}
+use Rattle.cap_run.specs.{RunChanges.{counted, line_after, with_freed}, RunChecks.{extent_end, growth_end, is_freed, is_live, meets, number_end}}
 use Rattle.cap_run.specs.{RunSteps.{or_later, step_limit}, Safety.IsGuarded}
-use Rattle.cap_run.proofs.{LineLemmas.later_none, MeetingLemmas.{IsMet, meets-where}, ObjectLemmas.widened-grows, OwnerLemmas.either-key}
+use Rattle.cap_run.proofs.{LineLemmas.later_none, MeetingLemmas.{meets-where}, ObjectLemmas.widened-grows, OwnerLemmas.either-key}
 use Rattle.cap_run.proofs.{PresentLemmas.{AreCounted, AreFew, few_of}, WideningLemmas.{widened-base, widened-top}}
 
 -- the extents of two guarded objects share no address

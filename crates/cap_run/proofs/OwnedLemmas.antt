@@ -1,22 +1,22 @@
 -- An access that touches a byte of a live object goes through a capability that an object owns, if that is asked.
-use Rattle.std.proofs.Common.{◌≡◌, ◌&&◌, ◌||◌, ◌+◌, ◌≤◌, ◌++◌, ◌∷◌, [], ℕ, Bool, true, false, not, IsTrue, is_none, List, map, Option, Some, None, refl, sym, ap, subst, ◌∙◌, arith, ◌⊎◌, inl, inr}
-use Rattle.std.proofs.lemmas.{Bool.{and_from, false≢true, Decides.eqb_tells}, Option.none-some}
+use Rattle.std.proofs.Common.{◌≡◌, ◌&&◌, ◌||◌, ◌+◌, ◌++◌, ◌∷◌, ℕ, Bool, true, false, not, IsTrue, is_none, List, map, Option, Some, None, refl, sym, ap, subst, ◌∙◌, arith, inl, inr}
+use Rattle.std.proofs.lemmas.{Bool.{false≢true, Decides.eqb_tells}, Option.none-some}
 use Rattle.std.specs.Option.{option_map_or}
 use Rattle.cap_bounds.specs.Bounds.{IsInside}
 use Rattle.cap_ops.specs.{Checks.first_of, declared.refusal.Refusal.Refusal}
 use Rattle.cap_ops.proofs.TestLemmas.{first_of-append_free, none_hold}
 use Rattle.cap_log.specs.declared.kinds.Step.{Step}
-use Rattle.cap_machine.specs.Accounts.{named_by, row_in}
+use Rattle.cap_machine.specs.Accounts.{row_in}
 use Rattle.cap_machine.specs.Steps.{Access, Row, row_of}
 use Rattle.cap_machine.proofs.StepLemmas.{row_by-access}
-use Rattle.cap_objects.specs.{declared.objects.Object.Object, Objects.{Share, top_of_extent}}
+use Rattle.cap_objects.specs.{declared.objects.Object.Object, Objects.{top_of_extent}}
 use Rattle.cap_run_log.specs.declared.lines.RunLine.{RunLine}
 use Rattle.cap_run_log.specs.declared.lines.RunLine.TheVariants as lines
-use Rattle.cap_run.specs.declared.{asks.Asks.Asks, ends.RunRefusal.RunRefusal}
+use Rattle.cap_run.specs.declared.{asks.Asks.Asks}
 use Rattle.cap_run.specs.declared.ends.RunRefusal.TheVariants.{Usual}
-use Rattle.cap_run.specs.{Allowed.{AreAllowed, IsLineAllowed}, OwnedAccesses.{AccessesOwn, IsInOwner, IsOwnersAccess}, Choices.IsOwnedAccess, Descents.{access_of, run_along}, Run.Run, Safety.IsSafe, RunChanges.{account_in, main_of, no_run}}
+use Rattle.cap_run.specs.{Allowed.{AreAllowed, IsLineAllowed}, OwnedAccesses.{AccessesOwn, IsOwnersAccess}, Choices.IsOwnedAccess, Descents.{access_of, run_along}, Run.Run, Safety.IsSafe, RunChanges.{account_in, main_of, no_run}}
 use Rattle.cap_run.specs.RunChecks.{asked_checks, is_live, is_unowned, meets, uses_freed, usual_end}
-use Rattle.cap_run.proofs.{ChoiceLemmas.last_checks, ApartLemmas.safe_at_each, DescentLemmas.{along-fold, allowed_parts, granted_in}, MeetingLemmas.{IsMet, meets-where}, PresentLemmas.{AreFew, all_counted, few_of}}
+use Rattle.cap_run.proofs.{ChoiceLemmas.last_checks, ApartLemmas.safe_at_each, DescentLemmas.{along-fold, allowed_parts, granted_in}, MeetingLemmas.{meets-where}, PresentLemmas.{AreFew, all_counted, few_of}}
 
 module _ (asks : Asks) (run : Run) (step : Step) (free : usual_end asks run step ≡ None) where
   -- the checks of what is asked of an access

@@ -1,23 +1,23 @@
 -- An `object` line is refused as StillHeld just where it meets a freed object that a place holds.
-use Rattle.std.proofs.Common.{◌≡◌, ◌≢◌, ◌==◌, ◌&&◌, ◌+◌, ◌≤◌, ◌∷◌, [], ℕ, Bool, true, false, IsTrue, not, nat_lt, nat_le, if◌then◌else◌, is_some, min, max, List, Option, Some, None, option_map, refl, sym, ap, subst, ◌∙◌, ◌⊎◌, inl, inr, fold, ne_eqb}
-use Rattle.std.proofs.lemmas.{Bool.{and_from, and_parts, cases_Bool, false≢true}, Option.{none-some, same_Some}}
+use Rattle.std.proofs.Common.{◌≡◌, ◌==◌, ◌&&◌, ◌∷◌, [], ℕ, Bool, true, false, IsTrue, not, nat_lt, nat_le, if◌then◌else◌, is_some, min, max, List, Option, Some, None, option_map, refl, sym, ap, subst, ◌∙◌, ne_eqb}
+use Rattle.std.proofs.lemmas.{Bool.{false≢true}, Option.{none-some, same_Some}}
 use Rattle.std.specs.Option.{option_map_or}
 use Rattle.cap_bounds.specs.Bounds.{base_of, top_of}
 use Rattle.cap_ops.specs.{Checks.first_of, declared.refusal.Refusal.TheVariants.{LimitPassed}}
 use Rattle.cap_machine.specs.Accounts.{most_steps}
 use Rattle.cap_objects.specs.{Counts.is_owner, declared.objects.Object.Object, Objects.{Share, top_of_extent}}
-use Rattle.cap_run_log.specs.declared.lines.{RunLine.RunLine, RunStep.RunStep}
+use Rattle.cap_run_log.specs.declared.lines.{RunLine.RunLine}
 use Rattle.cap_run_log.specs.declared.lines.RunLine.TheVariants as lines
 use Rattle.cap_run_log.specs.declared.lines.RunStep.TheVariants as steps
 use Rattle.cap_run.specs.declared.{asks.Asks.Asks, ends.RunRefusal.RunRefusal}
 use Rattle.cap_run.specs.declared.ends.RunRefusal.TheVariants.{AlreadyFreed, HasOwner, NoCapability, NoObject, Overlaps, StillHeld, Usual}
 use Rattle.cap_run.specs.{Choices.IsAfterHeld, Descents.run_along, HeldExtents.{IsHeldExactly, MeetsHeld, extent_by}}
 use Rattle.cap_run.specs.{ObjectSteps.{is_capability, object_refusal}, Run.Run}
-use Rattle.cap_run.specs.RunChecks.{extent_end, growth_end, is_freed, is_live, line_end, meets, number_end, object_end, widen_end}
+use Rattle.cap_run.specs.RunChecks.{extent_end, growth_end, is_freed, is_live, line_end, meets, number_end}
 use Rattle.cap_run.specs.RunSteps.{or_later, step_limit}
-use Rattle.cap_run.proofs.MeetingLemmas.{IsMet, meets-where, meets-which}
+use Rattle.cap_run.proofs.MeetingLemmas.{meets-where, meets-which}
 use Rattle.cap_run.proofs.NotHeldLemmas.{NotHeld, derive_end_not, end_not, exchange_end_not, fill_not, free_not, invoke_end_not, limit_not, number_not, owner_end_not, refusal_not, root_not, usual_not}
-use Rattle.cap_run.proofs.PresentLemmas.{AreCounted, IsCounted, all_counted, held_by}
+use Rattle.cap_run.proofs.PresentLemmas.{AreCounted, all_counted, held_by}
 
 never : (end : Option RunRefusal) → NotHeld end → end ≡ Some StillHeld → ⊥
 never end not_held is = subst NotHeld is not_held
