@@ -8,6 +8,8 @@ mod FollowLemmas
 mod HolderLemmas
 mod PassLemmas
 mod PresentLemmas
+mod ExtentLemmas
+mod ApartLemmas
 mod NotHeldLemmas
 mod StillHeldLemmas
 mod ErasureLemmas

@@ -17,4 +17,5 @@ pub mod RootSteps
 pub mod Choices
 pub mod Holders
 pub mod HeldExtents
+pub mod OwnedAccesses
 pub mod Erasure
