@@ -62,6 +62,7 @@ two_missed false other there here key missed too = one_missed other here key too
 far_parent : (run : Run) (line : RunLine) (key : ℕ) → IsRunLineInRange line → most_places ≤ key → line_parent run line key ≡ Some key
 far_parent run lines.Version key range far = refl
 far_parent run (lines.Mode mode) key range far = refl
+far_parent run (lines.Plain version) key range far = refl
 far_parent run (lines.Root place word) key range far = refl
 far_parent run (lines.End count) key range far = refl
 far_parent run (lines.Step step) key range far =
@@ -90,6 +91,7 @@ handed_low run (lines.Run (steps.Widen register of)) key number range names =
     subst (λ (p : ℕ × ℕ). p.0 < most_places) (same_Some (register, of) (key, number) names) (omega (arith, range.0))
 handed_low run lines.Version key number range names = absurd (none-some _ names)
 handed_low run (lines.Mode mode) key number range names = absurd (none-some _ names)
+handed_low run (lines.Plain version) key number range names = absurd (none-some _ names)
 handed_low run (lines.Root place word) key number range names = absurd (none-some _ names)
 handed_low run (lines.Step step) key number range names = absurd (none-some _ names)
 handed_low run (lines.End count) key number range names = absurd (none-some _ names)

@@ -341,6 +341,7 @@ module _ (asks : Asks) (run : Run) (known : AreCounted run) (apart_are : AreApar
   pub line_made : (line : RunLine) → IsLineAllowed asks run line → Made line
   line_made lines.Version allowed = plain lines.Version refl (counted_itself run known)
   line_made (lines.Mode mode) allowed = plain (lines.Mode mode) refl (counted_itself run known)
+  line_made (lines.Plain version) allowed = plain (lines.Plain version) refl (counted_itself run known)
   line_made (lines.Root place word) allowed = plain (lines.Root place word) refl (counted_itself run known)
   line_made (lines.Step step) allowed = plain (lines.Step step) refl (λ number. refl)
   line_made (lines.End count) allowed = plain (lines.End count) refl (counted_itself run known)
