@@ -19,3 +19,4 @@ mod RootLemmas
 mod UsualNumberLemmas
 mod AskedLemmas
 mod AloneLemmas
+mod ToldLemmas

@@ -14,6 +14,7 @@ mod granule_steps;
 mod lines;
 mod object_lines;
 mod object_steps;
+mod owned;
 mod puts;
 mod register_steps;
 mod roots;
