@@ -17,3 +17,6 @@ mod RunNumberLemmas
 mod GranuleLemmas
 mod RootLemmas
 mod UsualNumberLemmas
+mod AskedLemmas
+mod AloneLemmas
+mod ToldLemmas

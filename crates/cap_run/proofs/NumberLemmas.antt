@@ -1,6 +1,6 @@
 -- Objects by their slots and by their numbers.
-use Rattle.std.proofs.Common.{◌≡◌, ◌==◌, ℕ, Bool, true, false, Some, None, Option, inl, inr, option_map, option_and_then}
-use Rattle.std.proofs.Common.{refl, sym, ap, subst, ◌∙◌, eq-eqb, ne_eqb}
+use Rattle.std.proofs.Common.{◌≡◌, ◌==◌, ℕ, Some, None, Option, inl, inr, option_map, option_and_then}
+use Rattle.std.proofs.Common.{refl, sym, ap, ◌∙◌, eq-eqb, ne_eqb}
 use Rattle.std.proofs.Math.Path.{fun_ext}
 use Rattle.std.proofs.lemmas.{Bool.Decides.eqb_tells, Option.{none-some, same_Some}}
 use Rattle.cap_objects.specs.Counts.{CountsAre, Owners, is_owner, most_places, owned_by}
@@ -40,10 +40,10 @@ pub owner-of : (objects : Objects) (owner : Option ℕ) (n : ℕ) → option_and
     → (slot : ℕ) × (owner ≡ Some slot) × (o : Object) × (objects slot ≡ Some o) × (o.number ≡ n)
 owner-of objects None n is = absurd (none-some n is)
 owner-of objects (Some slot) n is = let o = held-by (objects slot) n is in (slot, refl, o.0, o.1, o.2)
-    where
-  held-by : (o : Option Object) (n : ℕ) → option_map (λ object. object.number) o ≡ Some n → (x : Object) × (o ≡ Some x) × (x.number ≡ n)
-  held-by None n is = absurd (none-some n is)
-  held-by (Some x) n is = (x, refl, same_Some x.number n is)
+  where
+    held-by : (o : Option Object) (n : ℕ) → option_map (λ object. object.number) o ≡ Some n → (x : Object) × (o ≡ Some x) × (x.number ≡ n)
+    held-by None n is = absurd (none-some n is)
+    held-by (Some x) n is = (x, refl, same_Some x.number n is)
 
 -- an owner is in a slot just where it has the number of that slot
 same_owner : (objects : Objects) (n slot : ℕ)
@@ -74,11 +74,11 @@ pub numbered-by : (objects after : Objects) (owners : Owners)
     → ((key slot : ℕ) → owners key ≡ Some slot → number_at after slot ≡ number_at objects slot)
     → numbered after owners ≡ numbered objects owners
 numbered-by objects after owners same = fun_ext (λ key. at_owner (owners key) (same key))
-    where
-  at_owner : (owner : Option ℕ) → ((slot : ℕ) → owner ≡ Some slot → number_at after slot ≡ number_at objects slot)
-      → option_and_then (number_at after) owner ≡ option_and_then (number_at objects) owner
-  at_owner None known = refl
-  at_owner (Some slot) known = known slot refl
+  where
+    at_owner : (owner : Option ℕ) → ((slot : ℕ) → owner ≡ Some slot → number_at after slot ≡ number_at objects slot)
+        → option_and_then (number_at after) owner ≡ option_and_then (number_at objects) owner
+    at_owner None known = refl
+    at_owner (Some slot) known = known slot refl
 
 module _ (old new : Objects) (index after : ℕ → Option ℕ) (indexed : IsIndex number_key old index) (reindexed : IsIndex number_key new after)
     (are : IsRecounted old new) (owners : Owners) (there : (key s : ℕ) → owners key ≡ Some s → (x : Object) × (new s ≡ Some x)) where
@@ -113,10 +113,10 @@ module _ (old new : Objects) (index after : ℕ → Option ℕ) (indexed : IsInd
         let k = keyed (old slot) n (indexed.only n slot i_is) in
         let y = k.0 in
         let own : (s : ℕ) (x : Object) → new s ≡ Some x → (s ≡ slot → x.number ≡ n) × (x.number ≡ n → s ≡ slot) = λ s x is.
-            let w = was s x is in (
-              λ same. w.2 ∙ ap (λ (o : Object). o.number) (same_Some w.0 y (sym w.1 ∙ ap old same ∙ k.1)) ∙ k.2,
-              λ same. alone-at old index indexed s slot w.0 y w.1 k.1 (sym w.2 ∙ same ∙ sym k.2),
-            ) in
+        let w = was s x is in (
+          λ same. w.2 ∙ ap (λ (o : Object). o.number) (same_Some w.0 y (sym w.1 ∙ ap old same ∙ k.1)) ∙ k.2,
+          λ same. alone-at old index indexed s slot w.0 y w.1 k.1 (sym w.2 ∙ same ∙ sym k.2),
+        ) in
         let count : owned_by (numbered new owners) n ≡ held_of (new slot) = owned-number new owners n slot own there ∙ sym (counts slot) in
         let recount : Option Object → ℕ → Option Object = λ o c. option_and_then (λ object. kept (with_held object c)) o in
         let by : by_number index old n ≡ Some y = ap (option_and_then old) i_is ∙ k.1 in
@@ -125,14 +125,14 @@ module _ (old new : Objects) (index after : ℕ → Option ℕ) (indexed : IsInd
         ∙ ap (λ (o : Option Object). recount o (held_of (new slot))) (k.1 ∙ sym by)
         ∙ ap (recount (by_number index old n)) (sym count)
     by-index n None i_is = none-by (by_number after new n) refl ∙ sym (ap (λ (i : Option ℕ). option_and_then (λ object. kept (with_held object (owned_by (numbered new owners) n))) (option_and_then old i)) i_is)
-        where
-      none-by : (p : Option Object) → by_number after new n ≡ p → p ≡ None
-      none-by None by = refl
-      none-by (Some x) by =
-          let s = slot-of new after reindexed n x by in
-          let w = was s.0 x s.1 in
-          let listed = indexed.listed s.0 w.0.number (ap (option_and_then number_key) w.1) in
-          absurd (none-some s.0 (sym i_is ∙ ap index (sym s.2 ∙ w.2) ∙ listed))
+      where
+        none-by : (p : Option Object) → by_number after new n ≡ p → p ≡ None
+        none-by None by = refl
+        none-by (Some x) by =
+            let s = slot-of new after reindexed n x by in
+            let w = was s.0 x s.1 in
+            let listed = indexed.listed s.0 w.0.number (ap (option_and_then number_key) w.1) in
+            absurd (none-some s.0 (sym i_is ∙ ap index (sym s.2 ∙ w.2) ∙ listed))
 
     -- the objects after a step, by their numbers
     pub recounted-numbers : by_number after new ≡ counted (by_number index old) (numbered new owners)

@@ -1,24 +1,22 @@
 -- Roots of a run.
-use Rattle.std.specs.FinMap as finmap
-use Rattle.std.proofs.Common.{◌≡◌, ◌≢◌, ◌==◌, ◌+◌, ◌-◌, ◌<◌, ◌||◌, ◌^◌, not, nat_lt, nat_le, ℕ, Bool, true, false, IsTrue, Some, None, Option, inl, inr, is_some}
-use Rattle.std.proofs.Common.{if◌then◌else◌, refl, sym, ap, subst, ◌∙◌, arith, lt-ltb, le-ltb, ne_eqb, List, [], ◌∷◌, map, option_map, option_and_then, length}
+use Rattle.std.proofs.Common.{◌≡◌, ◌≢◌, ◌==◌, ◌+◌, ◌-◌, ◌<◌, ◌||◌, not, nat_lt, nat_le, ℕ, Bool, true, false, IsTrue, Some, None, Option}
+use Rattle.std.proofs.Common.{if◌then◌else◌, refl, sym, ap, subst, ◌∙◌, arith, lt-ltb, le-ltb, ne_eqb, List, [], ◌∷◌, map, option_map}
 use Rattle.std.specs.Prelude.{Result, Ok, Err, MatchResult}
 use Rattle.std.proofs.Math.Path.{fun_ext}
-use Rattle.std.proofs.lemmas.{Bool.{cases_lt, cond-true, cond-false, false≢true}, Option.{none-some}}
+use Rattle.std.proofs.lemmas.{Bool.{cond-true, cond-false, false≢true}, Option.{none-some}}
 use Rattle.cap_word.specs.declared.word.{Cap.Cap, Word.Word}
 use Rattle.cap_bounds.specs.Bounds.{is_sound}
 use Rattle.cap_log.specs.{declared.lines.Place.{Place, TheVariants.{Granule, Register}}, Lines.IsPlace}
-use Rattle.cap_ops.specs.{declared.refusal.Refusal.{Refusal, TheVariants.{LimitPassed, Misplaced, PlaceTaken, UnsoundRoot}}, Checks.first_of}
+use Rattle.cap_ops.specs.{declared.refusal.Refusal.{Refusal, TheVariants.{LimitPassed, PlaceTaken, UnsoundRoot}}, Checks.first_of}
 use Rattle.cap_machine.specs.{Accounts.{Account, granule_of, is_new, most_roots, passes_granule_limit, root_checks}, declared.ends.StepEnd.{StepEnd, TheVariants.{NoMemory, Refused}}}
 use Rattle.cap_machine.specs.Helds.{EndsRoot, Held, IsKept, account_of, code_in, state_of}
-use Rattle.cap_machine.specs.{Labels.{labelled, with_labelled_root}, Places.{IsCoded, place_at}, States.{State, key_of, put, tagged, untagged_null}}
-use Rattle.cap_objects.specs.{Counts.{CountsAre, Owners, is_owner, most_places}, declared.{handouts.Handouts.Handouts, objects.Object.Object}, Extents.Objects}
+use Rattle.cap_machine.specs.{Labels.{labelled, with_labelled_root}, Places.{IsCoded, place_at}, States.{State, key_of, put, tagged}}
+use Rattle.cap_objects.specs.{Counts.{CountsAre, Owners}, declared.{handouts.Handouts.Handouts}}
 use Rattle.cap_objects.specs.{Handed.held_of, HandoutsIn.objects_of}
-use Rattle.cap_objects.proofs.BelowLemmas.{below-same}
-use Rattle.cap_run_log.specs.declared.lines.{RunPlace.RunPlace, RunPlace.TheVariants.Special}
-use Rattle.cap_run.specs.declared.{ends.{RunEnd.RunEnd, RunRefusal.{RunRefusal, TheVariants.Usual}}, specials.Specials.Specials}
+use Rattle.cap_run_log.specs.declared.lines.{RunPlace.TheVariants.Special}
+use Rattle.cap_run.specs.declared.{ends.{RunRefusal.{RunRefusal, TheVariants.Usual}}, specials.Specials.Specials}
 use Rattle.cap_run.specs.{Numbers.{by_number, numbered, numbered_run}, Owned.{AreWithin, IsWithin, object_by}, RootSteps.{CountsRoot, EndsCount, count_checks}, Run.{Run, first_special, with_specials}}
-use Rattle.cap_run.specs.{RunChanges.{in_run, place_key, root_after}, RunChecks.{Answers, root_end, root_wants, usual_ended}, RunOf.{run_of, run_owners, run_state}}
+use Rattle.cap_run.specs.{RunChanges.{in_run, root_after}, RunChecks.{Answers, root_end, root_wants, usual_ended}, RunOf.{run_owners, run_state}}
 use Rattle.cap_run.specs.Specials.{cap_in, label_in}
 use Rattle.cap_run.proofs.{GranuleLemmas.put-kept, PlaceLemmas.{choice_under, with-main, with-special}, RunNumberLemmas.{index_in, run-is}, UsualLemmas.place-low}
 
@@ -109,24 +107,24 @@ module _ (held : Held) (specials : Specials) (h : Handouts) (place : Place) (wor
       let run = numbered_run held specials h in
       let none : nat_lt 0 held.steps ≡ false = ap (nat_lt 0) first in
       by place low none
-      where
-    by : (p : Place) → IsPlace p → nat_lt 0 held.steps ≡ false
-        → root_end (numbered_run held specials h) (in_run p) word ≡ option_map Usual (first_of (root_checks (account_of held) p word))
-    by (Register n) low none =
-        let run = numbered_run held specials h in
-        let limit = nat_le most_roots run.roots || passes_granule_limit (account_of held) None in
-        let checks : Bool → List (Bool × Refusal) = λ t. (t, PlaceTaken) ∷ (not (is_sound word.0), UnsoundRoot) ∷ (limit, LimitPassed) ∷ [] in
-        cond-false (nat_lt 0 held.steps) _ (first_of (map (λ (c : Bool × Refusal). (c.0, Usual c.1)) (checks (run.state n).tag))) none
-        ∙ first-usual (checks (run.state n).tag)
-        ∙ ap (λ (c : Cap). option_map Usual (first_of (checks c.tag))) (main-holds held specials n (place-low (Register n) low))
-    by (Granule g) low none =
-        let run = numbered_run held specials h in
-        let key = key_of (Granule g) in
-        let limit = nat_le most_roots run.roots || passes_granule_limit (account_of held) (Some g) in
-        let checks : Bool → List (Bool × Refusal) = λ t. (t, PlaceTaken) ∷ (not (is_sound word.0), UnsoundRoot) ∷ (limit, LimitPassed) ∷ [] in
-        cond-false (nat_lt 0 held.steps) _ (first_of (map (λ (c : Bool × Refusal). (c.0, Usual c.1)) (checks (run.state key).tag))) none
-        ∙ first-usual (checks (run.state key).tag)
-        ∙ ap (λ (c : Cap). option_map Usual (first_of (checks c.tag))) (main-holds held specials key (place-low (Granule g) low))
+    where
+      by : (p : Place) → IsPlace p → nat_lt 0 held.steps ≡ false
+          → root_end (numbered_run held specials h) (in_run p) word ≡ option_map Usual (first_of (root_checks (account_of held) p word))
+      by (Register n) low none =
+          let run = numbered_run held specials h in
+          let limit = nat_le most_roots run.roots || passes_granule_limit (account_of held) None in
+          let checks : Bool → List (Bool × Refusal) = λ t. (t, PlaceTaken) ∷ (not (is_sound word.0), UnsoundRoot) ∷ (limit, LimitPassed) ∷ [] in
+          cond-false (nat_lt 0 held.steps) _ (first_of (map (λ (c : Bool × Refusal). (c.0, Usual c.1)) (checks (run.state n).tag))) none
+          ∙ first-usual (checks (run.state n).tag)
+          ∙ ap (λ (c : Cap). option_map Usual (first_of (checks c.tag))) (main-holds held specials n (place-low (Register n) low))
+      by (Granule g) low none =
+          let run = numbered_run held specials h in
+          let key = key_of (Granule g) in
+          let limit = nat_le most_roots run.roots || passes_granule_limit (account_of held) (Some g) in
+          let checks : Bool → List (Bool × Refusal) = λ t. (t, PlaceTaken) ∷ (not (is_sound word.0), UnsoundRoot) ∷ (limit, LimitPassed) ∷ [] in
+          cond-false (nat_lt 0 held.steps) _ (first_of (map (λ (c : Bool × Refusal). (c.0, Usual c.1)) (checks (run.state key).tag))) none
+          ∙ first-usual (checks (run.state key).tag)
+          ∙ ap (λ (c : Cap). option_map Usual (first_of (checks c.tag))) (main-holds held specials key (place-low (Granule g) low))
 
   pub root-refused : (end : StepEnd) (new : Held) → held.steps ≡ 0 → EndsRoot held place word end new
       → (let run = numbered_run held specials h in
@@ -136,17 +134,17 @@ module _ (held : Held) (specials : Specials) (h : Handouts) (place : Place) (wor
       (root-end first ∙ ap (option_map Usual) is.0, ap (λ (x : Held). numbered_run x specials h) is.1)
   root-refused NoMemory new first is =
       (root-end first ∙ ap (option_map Usual) is.0, wants place is.1, ap (λ (x : Held). numbered_run x specials h) is.2)
-      where
-    wants : (p : Place) → IsTrue (is_new (account_of held) (granule_of p)) → IsTrue (root_wants (numbered_run held specials h) (in_run p))
-    wants (Register n) new_is = new_is
-    wants (Granule g) new_is = new_is
+    where
+      wants : (p : Place) → IsTrue (is_new (account_of held) (granule_of p)) → IsTrue (root_wants (numbered_run held specials h) (in_run p))
+      wants (Register n) new_is = new_is
+      wants (Granule g) new_is = new_is
 
 put-over : {A : Type 0} (told : ℕ → A) (key : ℕ) (under value : A) (other : ℕ) → put (put told key under) key value other ≡ put told key value other
 put-over told key under value other = over (key == other) value under (told other)
-    where
-  over : {A : Type 0} (b : Bool) (x y z : A) → (if b then x else (if b then y else z)) ≡ (if b then x else z)
-  over true x y z = refl
-  over false x y z = refl
+  where
+    over : {A : Type 0} (b : Bool) (x y z : A) → (if b then x else (if b then y else z)) ≡ (if b then x else z)
+    over true x y z = refl
+    over false x y z = refl
 
 or_false : (b : Bool) → (b || false) ≡ b
 or_false true = refl
@@ -309,10 +307,10 @@ main-after held new specials h (Granule n) word low unowned account =
 -- the place of a root that was taken held no tag
 pub taken-free : (account : Account) (place : Place) (word : Word) → first_of (root_checks account place word) ≡ None → (account.state (key_of place)).tag ≡ false
 taken-free account place word is = by (account.state (key_of place)).tag _ is
-    where
-  by : (b : Bool) (rest : Option Refusal) → (if b then Some PlaceTaken else rest) ≡ None → b ≡ false
-  by true rest is = absurd (none-some PlaceTaken (sym is))
-  by false rest is = refl
+  where
+    by : (b : Bool) (rest : Option Refusal) → (if b then Some PlaceTaken else rest) ≡ None → b ≡ false
+    by true rest is = absurd (none-some PlaceTaken (sym is))
+    by false rest is = refl
 
 -- what is kept where a root is put, or isn't
 pub main-kept : (held new : Held) (specials : Specials) (h : Handouts) (place : Place) (word : Word) → IsPlace place → IsKept held.registers held.codes held.memory

@@ -1,10 +1,10 @@
 -- Runs by the numbers of objects, after a step.
 use Rattle.std.specs.BTreeMap as tree
 use Rattle.std.specs.Ordering.{nat_cmp}
-use Rattle.std.proofs.Common.{◌≡◌, ◌≢◌, ◌==◌, ◌+◌, ◌&&◌, not, ℕ, Bool, true, false, Some, None, Option, option_and_then, if◌then◌else◌, length}
+use Rattle.std.proofs.Common.{◌≡◌, ◌≢◌, ◌==◌, ◌&&◌, not, ℕ, Bool, true, false, Some, None, Option, option_and_then, if◌then◌else◌, length}
 use Rattle.std.proofs.Common.{refl, sym, ap, subst, ◌∙◌}
 use Rattle.std.proofs.Math.Path.{fun_ext}
-use Rattle.std.specs.Prelude.{Result, Ok, Err, MatchResult, OnErr, option_map}
+use Rattle.std.specs.Prelude.{Result, Ok, Err, MatchResult, OnErr}
 use Rattle.std.proofs.lemmas.{Bool.{false≢true}, Option.{none-some, same_Some}}
 use Rattle.cap_word.specs.declared.word.Cap.{Cap}
 use Rattle.cap_machine.specs.{declared.rules.Rules.Rules, Helds.Held, States.{State, granule_key, put}}
@@ -33,10 +33,10 @@ run-is a b state owners objects count rules roots steps is_named granules =
 
 owner_for-none : (cap : Cap) → owner_for cap None ≡ None
 owner_for-none held = same-choice (held.tag && not (is_empty held.word.0)) None
-    where
-  same-choice : (b : Bool) (o : Option ℕ) → (if b then o else o) ≡ o
-  same-choice true o = refl
-  same-choice false o = refl
+  where
+    same-choice : (b : Bool) (o : Option ℕ) → (if b then o else o) ≡ o
+    same-choice true o = refl
+    same-choice false o = refl
 
 -- the index of a machine's objects by their numbers
 abbrev pub index_in : Handouts → ℕ → Option ℕ
@@ -63,18 +63,18 @@ numbered-put f owners key cap owner other =
 pub same-numbers : (objects : Objects) (i j : ℕ → Option ℕ) → IsIndex number_key objects i → IsIndex number_key objects j
     → by_number i objects ≡ by_number j objects
 same-numbers objects i j one two = fun_ext (λ n. by n (by_number i objects n) refl)
-    where
-  none : (n : ℕ) → by_number i objects n ≡ None → (o : Option Object) → by_number j objects n ≡ o → o ≡ None
-  none n is None by = refl
-  none n is (Some x) by =
-      let s = slot-of objects j two n x by in
-      absurd (none-some x (sym is ∙ ap (by_number i objects) (sym s.2) ∙ at-number objects i one s.0 x s.1))
+  where
+    none : (n : ℕ) → by_number i objects n ≡ None → (o : Option Object) → by_number j objects n ≡ o → o ≡ None
+    none n is None by = refl
+    none n is (Some x) by =
+        let s = slot-of objects j two n x by in
+        absurd (none-some x (sym is ∙ ap (by_number i objects) (sym s.2) ∙ at-number objects i one s.0 x s.1))
 
-  by : (n : ℕ) (o : Option Object) → by_number i objects n ≡ o → by_number i objects n ≡ by_number j objects n
-  by n None is = is ∙ sym (none n is (by_number j objects n) refl)
-  by n (Some x) is =
-      let s = slot-of objects i one n x is in
-      is ∙ sym (ap (by_number j objects) (sym s.2) ∙ at-number objects j two s.0 x s.1)
+    by : (n : ℕ) (o : Option Object) → by_number i objects n ≡ o → by_number i objects n ≡ by_number j objects n
+    by n None is = is ∙ sym (none n is (by_number j objects n) refl)
+    by n (Some x) is =
+        let s = slot-of objects i one n x is in
+        is ∙ sym (ap (by_number j objects) (sym s.2) ∙ at-number objects j two s.0 x s.1)
 
 -- runs that are the same by slots are the same by numbers
 pub numbered-same : (held new : Held) (specials sp : Specials) (h after : Handouts) → IsNumbered h → IsNumbered after
@@ -168,7 +168,7 @@ module _ (held : Held) (specials : Specials) (h : Handouts) (sized : length spec
         let w = safe.within place o.0 o.1 in (
           w.0,
           ap (by_number (index_in h) (objects_of h)) (sym (ap (λ (x : Object). x.number) (same_Some w.0 o.2 (sym w.1 ∙ o.3)) ∙ o.4))
-          ∙ at-number (objects_of h) (index_in h) index o.0 w.0 w.1,
+              ∙ at-number (objects_of h) (index_in h) index o.0 w.0 w.1,
           w.2,
           w.3,
         );

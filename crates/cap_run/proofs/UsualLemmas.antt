@@ -41,7 +41,7 @@ pub own_parent : (writes : Option (Place × Cap)) (key : ℕ) (other : Option �
 own_parent None key other differ = refl
 own_parent (Some w) key other differ = cond-false (key_of w.0 == key) other (Some key) (ne_eqb (key_of w.0) key (differ w.0 refl))
 
-under_then : (f : ℕ → Option Place) (o : Option ℕ) → object_by (option_and_then f o) ≡ option_and_then (λ k. object_by (f k)) o
+pub under_then : (f : ℕ → Option Place) (o : Option ℕ) → object_by (option_and_then f o) ≡ option_and_then (λ k. object_by (f k)) o
 under_then f None = refl
 under_then f (Some k) = refl
 
@@ -51,7 +51,7 @@ code_far : (memory : Granules) (granule : ℕ) (o : Option Entry) → AreStored 
 code_far memory granule None stored is far = refl
 code_far memory granule (Some entry) stored is far = absurd (let e = (stored granule entry is).in_memory in omega arith)
 
-main-far : (held : Held) (key : ℕ) → AreStored held.memory → first_special ≤ key → main_owners held key ≡ None
+pub main-far : (held : Held) (key : ℕ) → AreStored held.memory → first_special ≤ key → main_owners held key ≡ None
 main-far held key stored far =
     let past : nat_lt key 32 ≡ false = le-ltb key 32 (omega arith) in
     let code : code_in held key ≡ 0 =
@@ -73,7 +73,7 @@ pub state-special : (held : Held) (specials : Specials) (key : ℕ) → first_sp
 state-special held specials key high = cond-false (nat_lt key first_special) (state_of held key) _ (le-ltb key first_special high)
 
 -- disowning takes owners away alone
-disowned-some : (written : Option Place) (state : State) (owners : Owners) (key slot : ℕ) → disowned written state owners key ≡ Some slot → owners key ≡ Some slot
+pub disowned-some : (written : Option Place) (state : State) (owners : Owners) (key slot : ℕ) → disowned written state owners key ≡ Some slot → owners key ≡ Some slot
 disowned-some None state owners key slot is = is
 disowned-some (Some (Granule g)) state owners key slot is = is
 disowned-some (Some (Register n)) state owners key slot is = elim (either-key owners n (owner_for (state n) (owners n)) key) [
@@ -99,7 +99,10 @@ unstepped-account old new same state =
     ap (λ (s : State). record (account_of new) { state = s }) state
     ∙ ap (λ (r : Rules). record (account_of new) { state = state_of old; rules = r }) same.0
     ∙ ap (λ (m : Granules). record (account_of new) {
-      state = state_of old; rules = old.rules; is_named = λ granule. is_some (map.get m granule); granules = map.len m;
+      state = state_of old;
+      rules = old.rules;
+      is_named = λ granule. is_some (map.get m granule);
+      granules = map.len m;
     }) same.1
     ∙ ap (λ (n : ℕ). record (account_of old) { origin = (account_of new).origin; roots = n; steps = new.steps }) same.2
     ∙ ap (λ (n : ℕ). record (account_of old) { origin = (account_of new).origin; steps = n }) same.3

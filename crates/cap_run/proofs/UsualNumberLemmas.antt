@@ -1,22 +1,22 @@
 -- Steps of version 2, by the numbers of objects.
 use Rattle.std.specs.FinMap as finmap
 use Rattle.std.specs.Option.{option_map_or}
-use Rattle.std.specs.Prelude.{Result, Ok, Err, MatchResult, OnErr}
-use Rattle.std.proofs.Common.{◌≡◌, ◌≢◌, ◌==◌, ◌+◌, ◌-◌, ◌/◌, ◌<◌, ◌≤◌, ◌||◌, ◌&&◌, ◌^◌, not, nat_lt, nat_le, ℕ, Bool, true, false, IsTrue, Some, None, Option, inl, inr, length}
-use Rattle.std.proofs.Common.{if◌then◌else◌, refl, sym, ap, subst, ◌∙◌, arith, lt-ltb, le-ltb, ne_eqb, List, [], ◌∷◌, ◌++◌, map, option_map, option_and_then, IfSome, unwrap_or, replicate, ℤ}
+use Rattle.std.specs.Prelude.{Err}
+use Rattle.std.proofs.Common.{◌≡◌, ◌≢◌, ◌==◌, ◌-◌, ◌/◌, ◌<◌, ◌≤◌, ◌||◌, ◌&&◌, ◌^◌, not, nat_lt, nat_le, ℕ, Bool, true, false, IsTrue, Some, None, Option, inl, inr, length}
+use Rattle.std.proofs.Common.{if◌then◌else◌, refl, sym, ap, subst, ◌∙◌, arith, lt-ltb, le-ltb, List, [], ◌∷◌, ◌++◌, map, option_map, option_and_then, IfSome, unwrap_or, replicate, ℤ}
 use Rattle.std.proofs.Math.Path.{fun_ext}
-use Rattle.std.proofs.lemmas.{Bool.{cases_lt, cond-true, cond-false, false≢true}, List.{append_assoc, map-append}, Option.{none-some, same_Some}}
+use Rattle.std.proofs.lemmas.{Bool.{cases_lt, cond-true, cond-false}, List.{append_assoc, map-append}, Option.{none-some, same_Some}}
 use Rattle.cap_word.specs.{declared.word.Cap.Cap, Memory.{number_of, stored_word}, Word.null_word}
 use Rattle.cap_log.specs.{declared.{kinds.Step.{Step, TheVariants.{AndPerm, ClearTag, Load, LoadCap, Move, Seal, SetAddr, SetBounds, SetBoundsExact, Store, StoreCap, Unseal}}, lines.Place.{Place, TheVariants.{Granule, Register}}}, Lines.{IsPlace, IsStepInRange}}
 use Rattle.cap_ops.specs.{Accesses.access_address, declared.refusal.Refusal.{Refusal, TheVariants.{LimitPassed, WrongResult}}, Checks.first_of}
 use Rattle.tagmem.specs.Granules.{AreStored, Entry, Granules, blank}
 use Rattle.cap_machine.specs.Accounts.{Account, is_new, most_steps, named_by, naming, passes_granule_limit, row_in, step_checks, with_step}
 use Rattle.cap_machine.specs.{declared.ends.StepEnd.{StepEnd, TheVariants.{NoMemory, Refused}}, Helds.{EndsStep, Held, account_of, granule_cap, state_of}}
-use Rattle.cap_machine.specs.{Runs.parent_of, States.{State, key_of, untagged_null}, Steps.{Row, agrees, row_of}}
-use Rattle.cap_objects.specs.{Counts.{CountsAre, Owners, at_key}, declared.{handouts.Handouts.Handouts, objects.Object.Object}, Extents.Objects, Handed.held_of, HandoutsIn.objects_of}
-use Rattle.cap_run.specs.declared.{asks.Asks.Asks, ends.{RunEnd.RunEnd, RunRefusal.{RunRefusal, TheVariants.{NotOwned, OwnerFreed, Usual}}}, specials.Specials.Specials}
+use Rattle.cap_machine.specs.{Runs.parent_of, States.{State, key_of, untagged_null}, Steps.{agrees, row_of}}
+use Rattle.cap_objects.specs.{Counts.{CountsAre, Owners}, declared.{handouts.Handouts.Handouts}, Handed.held_of, HandoutsIn.objects_of}
+use Rattle.cap_run.specs.declared.{asks.Asks.Asks, ends.{RunRefusal.{RunRefusal, TheVariants.{NotOwned, OwnerFreed, Usual}}}, specials.Specials.Specials}
 use Rattle.cap_run.specs.{Numbers.{number_at, numbered, numbered_run}, Owned.owner_for, Run.{Run, first_special}, RunChanges.{account_in, main_of, stepped, usual_after}}
-use Rattle.cap_run.specs.{RunChecks.{Answers, asked_checks, is_unowned, uses_freed, usual_end, usual_ended, usual_wants}, RunOf.{run_owners, run_state}, Specials.cap_in, UsualSteps.{MakesUsual, disowned, main_owners, written_by}}
+use Rattle.cap_run.specs.{RunChecks.{Answers, asked_checks, is_unowned, uses_freed, usual_end, usual_ended, usual_wants}, RunOf.{run_owners, run_state}, UsualSteps.{MakesUsual, disowned, main_owners, written_by}}
 use Rattle.cap_run.proofs.{RootLemmas.first-usual, RunNumberLemmas.{IsNumbered, numbered-put, objects-after, owners-after, run-is}}
 use Rattle.cap_run.proofs.UsualLemmas.{disowned-other, own_parent, owners-main, owners-special, place-low, state-main, state-special}
 
@@ -92,18 +92,33 @@ parent-low state (StoreCap step) place range is = by_register step.source place 
 parent-low state (Load step) place range is = absurd (none-some place is)
 parent-low state (Store step) place range is = absurd (none-some place is)
 
+-- the place that a step writes is a register but c0, or a granule
+pub written-low : (held : Held) (step : Step) → IsStepInRange step → IfSome (written_by held step) IsPlace
+written-low held (Move step) range = range.0
+written-low held (ClearTag step) range = range.0
+written-low held (SetBounds step) range = range.0
+written-low held (SetBoundsExact step) range = range.0
+written-low held (SetAddr step) range = range.0
+written-low held (AndPerm step) range = range.0
+written-low held (Seal step) range = range.0
+written-low held (Unseal step) range = range.0
+written-low held (LoadCap step) range = range.0
+written-low held (StoreCap step) range = address_low (state_of held step.authority).word.0 step.offset
+written-low held (Load step) range = tt
+written-low held (Store step) range = address_low (state_of held step.authority).word.0 step.offset
+
 -- the parent of a place that a step writes, and of another
 parent_in : (writes : Option (Place × Cap)) (tag : Bool) (parent : Option Place) (key from : ℕ)
     → (if option_map_or (λ (to : Place × Cap). key_of to.0 == key) writes false then (if tag then option_map key_of parent else None) else Some key) ≡ Some from
     → key < first_special → ((place : Place) → parent ≡ Some place → key_of place < first_special) → from < first_special
 parent_in writes tag parent key from is low parents = by (option_map_or (λ (to : Place × Cap). key_of to.0 == key) writes false) tag parent is parents
-    where
-  by : (b t : Bool) (p : Option Place) → (if b then (if t then option_map key_of p else None) else Some key) ≡ Some from
-      → ((place : Place) → p ≡ Some place → key_of place < first_special) → from < first_special
-  by false t p is parents = subst (λ (k : ℕ). k < first_special) (same_Some key from is) low
-  by true true (Some place) is parents = subst (λ (k : ℕ). k < first_special) (same_Some (key_of place) from is) (parents place refl)
-  by true true None is parents = absurd (none-some from is)
-  by true false p is parents = absurd (none-some from is)
+  where
+    by : (b t : Bool) (p : Option Place) → (if b then (if t then option_map key_of p else None) else Some key) ≡ Some from
+        → ((place : Place) → p ≡ Some place → key_of place < first_special) → from < first_special
+    by false t p is parents = subst (λ (k : ℕ). k < first_special) (same_Some key from is) low
+    by true true (Some place) is parents = subst (λ (k : ℕ). k < first_special) (same_Some (key_of place) from is) (parents place refl)
+    by true true None is parents = absurd (none-some from is)
+    by true false p is parents = absurd (none-some from is)
 
 -- an owner that is taken from a register that was written
 disowned-under : (f : ℕ → Option ℕ) (written : Option Place) (state : State) (owners : Owners) (key : ℕ)
@@ -184,10 +199,10 @@ module _ (held new : Held) (specials : Specials) (h after : Handouts) (step : St
       let by : ℕ → Option ℕ = λ k. option_and_then (main_owners held) (parent_of (state_of held) step next k) in
       let numbers : ℕ → Option ℕ = numbered (objects_of h) (run_owners held specials) in
       let same : (k : ℕ) → k < first_special → option_and_then f (by k) ≡ option_and_then numbers (parent_of (state_of held) step next k) = λ k k_low.
-          then_twice (parent_of (state_of held) step next k) f (main_owners held)
-          ∙ then_same (parent_of (state_of held) step next k) (λ p. option_and_then f (main_owners held p)) numbers (λ p is.
-              ap (option_and_then f) (sym (owners-main held specials p (parent_in (row_of (state_of held) step).writes (next k).tag (row_of (state_of held) step).parent k p is k_low
-              (λ place there. parent-low (state_of held) step place range there))))) in
+      then_twice (parent_of (state_of held) step next k) f (main_owners held)
+      ∙ then_same (parent_of (state_of held) step next k) (λ p. option_and_then f (main_owners held p)) numbers (λ p is.
+      ap (option_and_then f) (sym (owners-main held specials p (parent_in (row_of (state_of held) step).writes (next k).tag (row_of (state_of held) step).parent k p is k_low
+      (λ place there. parent-low (state_of held) step place range there))))) in
       ap (option_and_then f) (owners-main new specials key near ∙ makes.owners key)
       ∙ ap (λ (s : State). option_and_then f (disowned written s (λ k. option_and_then (main_owners held) (parent_of (state_of held) step s k)) key)) next_is
       ∙ disowned-under f written next by key
@@ -201,7 +216,7 @@ module _ (held new : Held) (specials : Specials) (h after : Handouts) (step : St
       let written = written_by held step in
       let numbers : ℕ → Option ℕ = numbered (objects_of h) (run_owners held specials) in
       let differ : (place : Place) → written ≡ Some place → key_of place ≢ key = λ place is e.
-          let near = low_place written place low is in let same : key_of place ≡ key = e in omega (arith, near, far, same) in
+      let near = low_place written place low is in let same : key_of place ≡ key = e in omega (arith, near, far, same) in
       ap (option_and_then f) (owners-special new specials key far ∙ sym (owners-special held specials key far))
       ∙ sym (ap (option_and_then numbers) (own_parent (row_of (state_of held) step).writes key _ differ))
       ∙ sym (disowned-other written next (λ k. option_and_then numbers (parent_of (state_of held) step next k)) key differ)
@@ -235,7 +250,7 @@ module _ (held new : Held) (specials : Specials) (h after : Handouts) (step : St
 abbrev pub asks_nothing : Asks → Asks
 asks_nothing asks = record asks { used = false; owned = false }
 
-abbrev usual_check : Bool × Refusal → Bool × RunRefusal
+abbrev pub usual_check : Bool × Refusal → Bool × RunRefusal
 usual_check check = (check.0, Usual check.1)
 
 -- a failed check of an access that isn't asked is passed over
@@ -244,7 +259,7 @@ passed : (checks : List (Bool × RunRefusal)) (x y : RunRefusal) (one two : Bool
 passed [] x y one two rest = refl
 passed (check ∷ checks) x y one two rest = ap (λ (o : Option RunRefusal). if check.0 then Some check.1 else o) (passed checks x y one two rest)
 
-abbrev last_checks : Account → Step → List (Bool × Refusal)
+abbrev pub last_checks : Account → Step → List (Bool × Refusal)
 last_checks account step =
     let row = row_in account step in
     (not (agrees row.writes row.records), WrongResult)

@@ -3,7 +3,7 @@ use Rattle.std.specs.Prelude.{ℕ, Option, option_map, option_and_then}
 use Rattle.std.specs.Ordering.{nat_cmp}
 use Rattle.std.specs.BTreeMap as tree
 use Rattle.cap_machine.specs.Helds.{Held}
-use Rattle.cap_objects.specs.{Counts.Owners, declared.handouts.Handouts.Handouts, Extents.Objects, HandoutsIn.objects_of}
+use Rattle.cap_objects.specs.{Counts.Owners, declared.handouts.Handouts.Handouts, Extents.Objects}
 use Rattle.cap_run.specs.{declared.specials.Specials.Specials, Run.Run, RunOf.run_of}
 
 -- the number of the object in a slot

@@ -1,5 +1,5 @@
 -- Counting a root that a special register holds (this profile's own).
-use Rattle.std.specs.Prelude.{◌≡◌, ℕ, ◌+◌, Bool, not, nat_le, List, [], ◌∷◌, Some, None}
+use Rattle.std.specs.Prelude.{◌≡◌, ◌+◌, Bool, not, nat_le, List, [], ◌∷◌, Some, None}
 use Rattle.cap_word.specs.declared.word.Word.{Word}
 use Rattle.cap_bounds.specs.Bounds.{is_sound}
 use Rattle.cap_ops.specs.declared.refusal.Refusal.{Refusal, TheVariants.{LimitPassed, UnsoundRoot}}

@@ -1,5 +1,5 @@
 -- What each line makes of a run, where objects are told by their numbers (this profile's own).
-use Rattle.std.specs.Prelude.{◌≡◌, ℕ, ◌+◌, ◌-◌, ◌||◌, ◌==◌, min, max, nat_lt, Bool, false, if◌then◌else◌, Option, Some, None, option_map, option_and_then}
+use Rattle.std.specs.Prelude.{ℕ, ◌+◌, nat_lt, false, if◌then◌else◌, Option, Some, None, option_map, option_and_then}
 use Rattle.cap_word.specs.declared.word.{Cap.Cap, Word.Word}
 use Rattle.cap_bounds.specs.Bounds.{base_of, top_of}
 use Rattle.cap_log.specs.declared.{kinds.Step.Step, lines.Mode.Mode, lines.Mode.TheVariants.{Strict, Clear}}

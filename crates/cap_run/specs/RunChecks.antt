@@ -2,9 +2,9 @@
 -- profile's own).
 use Rattle.std.specs.Prelude.{◌≡◌, ℕ, ◌+◌, ◌==◌, ◌&&◌, ◌||◌, not, min, max, nat_le, nat_lt, Bool, true, false, if◌then◌else◌, is_none, List, [], ◌∷◌, ◌++◌, map, Option, Some, None}
 use Rattle.std.specs.{Prelude.{IsTrue, Result, Ok, Err}, Option.option_map_or}
-use Rattle.cap_word.specs.declared.word.{Cap.Cap, Word.Word}
+use Rattle.cap_word.specs.declared.word.{Word.Word}
 use Rattle.cap_bounds.specs.Bounds.{base_of, is_sound, top_of}
-use Rattle.cap_ops.specs.declared.refusal.Refusal.{Refusal, TheVariants.{LimitPassed, Misplaced, PlaceTaken, UnsoundRoot, WrongCount, WrongResult}}
+use Rattle.cap_ops.specs.declared.refusal.Refusal.{TheVariants.{LimitPassed, Misplaced, PlaceTaken, UnsoundRoot, WrongCount, WrongResult}}
 use Rattle.cap_ops.specs.Checks.{first_of}
 use Rattle.cap_log.specs.declared.kinds.Step.{Step}
 use Rattle.cap_machine.specs.Accounts.{is_new, most_roots, most_steps, named_by, passes_granule_limit, row_in}

@@ -15,7 +15,7 @@ impl<M: TaggedStore> RunMachine<M> {
     /// A granule gets a word without a tag: a kernel, a device or another hart wrote it. It is refused where there are
     /// 4,294,967,295 steps, or it names a granule past the limit (`LimitPassed`). `NoMemory` comes only at a granule
     /// named for the first time. After an error nothing has changed.
-    pub fn fill(&mut self, granule: u64, word: Word) -> Result<(), StepEnd>
+    pub(crate) fn fill(&mut self, granule: u64, word: Word) -> Result<(), StepEnd>
         requires { granule < 2 ^ 60 }
         ensures outcome { MatchResult result
             (λ _. (is_past_limits self.old.machine granule ≡ false)
@@ -37,7 +37,7 @@ impl<M: TaggedStore> RunMachine<M> {
     }
 
     /// The slot of the object that owns a granule, if there is one.
-    pub fn granule_owner(&self, granule: u64) -> Option<usize>
+    pub(crate) fn granule_owner(&self, granule: u64) -> Option<usize>
         requires { granule < 2 ^ 60 }
         ensures owner { result ≡ run_owners self.now.machine self.now.specials (granule_key granule) }
     {

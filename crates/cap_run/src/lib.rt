@@ -7,12 +7,14 @@
 //! ([`RunMachine::kept`]).
 #![tactic(auto)]
 
+mod asked_steps;
 mod asks;
 mod ends;
 mod granule_steps;
 mod lines;
 mod object_lines;
 mod object_steps;
+mod owned;
 mod puts;
 mod register_steps;
 mod roots;

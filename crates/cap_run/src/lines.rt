@@ -2,7 +2,7 @@
 
 ghost use Rattle.std.specs.Prelude.{◌≡◌, ◌≤◌, ◌<◌, ◌^◌};
 ghost use Rattle.cap_log.specs.Lines.{IsTarget};
-ghost use Rattle.cap_run_log.specs.RunLines.{IsRunPlace};
+ghost use Rattle.cap_run_log.specs.RunLines.{IsRunPlace, IsRunStepInRange};
 ghost use Rattle.cap_run_log.specs.declared.lines.RunPlace.TheVariants.{Granule};
 ghost use Rattle.cap_run_log.specs.declared.lines.RunStep.TheVariants.{Derive, Drop, Exchange, Fill, Invoke};
 ghost use Rattle.cap_run.specs.{Numbers.numbered_run, Run.{IsSource, IsTargetOf}, RunChanges.run_after};
@@ -11,7 +11,7 @@ ghost use Rattle.cap_run.specs.RunChecks.{Answers, run_end, run_wants, usual_end
 use crate::ends::{RunEnd, RunRefusal};
 use crate::run_machine::RunMachine;
 use cap_machine::StepEnd;
-use cap_run_log::{RunPlace, RunRegister};
+use cap_run_log::{RunPlace, RunRegister, RunStep};
 use cap_word::{Cap, Word};
 use tagmem::TaggedStore;
 
@@ -26,6 +26,48 @@ pub(crate) fn usual_ended(end: StepEnd) -> RunEnd
 }
 
 impl<M: TaggedStore> RunMachine<M> {
+    /// Makes a step that only runs have and counts it. After an error nothing has changed. It is refused for the first of
+    /// its own checks that fails, and then as `LimitPassed` where there are 4,294,967,295 steps or a granule is named past the
+    /// limit:
+    ///
+    /// - derive, exchange, invoke: a check of a derivation fails (`SourceUntagged`, `UnsoundResult`, `BeyondSource`,
+    ///   `SealChanged`), or one of an invocation (`AuthorityUntagged`, `NotInvokable`, `WrongResult`);
+    /// - drop, fill: none;
+    /// - object: `NoCapability`, `HasOwner`; with a number `NoObject`, `AlreadyFreed`; `Overlaps`, `StillHeld`;
+    /// - free: `NoCapability` and `NoOwner`, or with a number `NoObject`; `AlreadyFreed`.
+    ///
+    /// `NoMemory` comes only at an object, and at a granule named for the first time.
+    pub fn make(&mut self, step: &RunStep) -> Result<(), RunEnd>
+        requires { IsRunStepInRange step.now }
+        ensures outcome { let old = numbered_run self.old.machine self.old.specials self.old.objects in
+            Answers (run_end self.old.asks old step.now) (run_after old step.now) (run_wants old step.now) old result
+            (numbered_run self.new.machine self.new.specials self.new.objects) }
+        ensures asks { self.new.asks ≡ self.old.asks }
+    {
+        match *step {
+            RunStep::Derive(target, source, recorded) => self.derived(target, source, recorded),
+            RunStep::Exchange {
+                target,
+                source,
+                special,
+                result: recorded,
+                special_result,
+            } => self.exchanged(target, source, special, recorded, special_result),
+            RunStep::Invoke {
+                code,
+                datum,
+                code_word,
+                datum_word,
+            } => self.invoked(code, datum, code_word, datum_word),
+            RunStep::Drop(place) => self.dropped(place),
+            RunStep::Fill(granule, word) => self.filled(granule, word),
+            RunStep::Object(register) => self.hand_out(register),
+            RunStep::Widen(register, number) => self.widen(register, number),
+            RunStep::FreeOwner(register) => self.free_owner(register),
+            RunStep::FreeNumber(number) => self.free_by_number(number),
+        }
+    }
+
     // A register gets what is derived from another one.
     pub(crate) fn derived(
         &mut self,

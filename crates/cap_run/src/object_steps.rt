@@ -155,7 +155,7 @@ impl<M: TaggedStore> RunMachine<M> {
     /// register has no tag, or is sealed (`NoCapability`); it has an owner (`HasOwner`); its bounds share an address with
     /// the extent of a live object (`Overlaps`), or with that of a freed object that is held, if those are compared
     /// (`StillHeld`); there are 4,294,967,295 steps (`LimitPassed`). After an error nothing has changed.
-    pub fn object(&mut self, register: u8) -> Result<usize, RunEnd>
+    pub(crate) fn object(&mut self, register: u8) -> Result<usize, RunEnd>
         requires { IsTarget register }
         ensures ok { IfOk result (λ slot. HandsOut (run_of self.old.machine self.old.specials self.old.objects) register slot
             (run_of self.new.machine self.new.specials self.new.objects)) }
@@ -190,7 +190,7 @@ impl<M: TaggedStore> RunMachine<M> {
     /// shares an address with the extent of another live object (`Overlaps`), or with that of a freed object that is held,
     /// if those are compared (`StillHeld`); there are 4,294,967,295 steps (`LimitPassed`). After an error nothing has
     /// changed.
-    pub fn object_again(&mut self, register: u8, number: u32) -> Result<usize, RunEnd>
+    pub(crate) fn object_again(&mut self, register: u8, number: u32) -> Result<usize, RunEnd>
         requires { IsTarget register }
         ensures ok { IfOk result (λ slot. IsLive (objects_of self.old.objects) number slot
             × Widens (run_of self.old.machine self.old.specials self.old.objects) register slot
@@ -278,7 +278,7 @@ impl<M: TaggedStore> RunMachine<M> {
     /// The object with a number is freed. It is refused for the first of these: none was handed out (`NoObject`); it was
     /// freed (`AlreadyFreed`); there are 4,294,967,295 steps (`LimitPassed`). Then nothing has changed. It takes no
     /// memory.
-    pub fn free_number(&mut self, number: u32) -> Result<(), RunEnd>
+    pub(crate) fn free_number(&mut self, number: u32) -> Result<(), RunEnd>
         ensures ok { OnOk result ((slot : ℕ) × IsLive (objects_of self.old.objects) number slot
             × Frees (run_of self.old.machine self.old.specials self.old.objects) slot
             (run_of self.new.machine self.new.specials self.new.objects)) }
@@ -304,7 +304,7 @@ impl<M: TaggedStore> RunMachine<M> {
     /// The object that owns a register is freed. It is refused for the first of these: the register has no tag
     /// (`NoCapability`); it has no owner (`NoOwner`); the owner was freed (`AlreadyFreed`); there are 4,294,967,295 steps
     /// (`LimitPassed`). Then nothing has changed. A sealed capability frees, too. It takes no memory.
-    pub fn free(&mut self, register: u8) -> Result<(), RunEnd>
+    pub(crate) fn free(&mut self, register: u8) -> Result<(), RunEnd>
         requires { IsTarget register }
         ensures ok { OnOk result ((slot : ℕ) × (run_owners self.old.machine self.old.specials register ≡ Some slot)
             × Frees (run_of self.old.machine self.old.specials self.old.objects) slot

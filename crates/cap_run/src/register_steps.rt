@@ -76,7 +76,7 @@ impl<M: TaggedStore> RunMachine<M> {
     /// first of these that holds of a tagged result: its source has no tag (`SourceUntagged`); its word isn't sound
     /// (`UnsoundResult`); its bounds leave the source's, or it has a permission more (`BeyondSource`); its seal isn't
     /// kept (`SealChanged`). And of any: there are 4,294,967,295 steps (`LimitPassed`). Then nothing has changed.
-    pub fn derive(
+    pub(crate) fn derive(
         &mut self,
         target: RunRegister,
         source: RunRegister,
@@ -104,7 +104,7 @@ impl<M: TaggedStore> RunMachine<M> {
 
     /// c`target` gets what is derived from scr`number`, and scr`number` what is derived from c`source`, both as they were
     /// before: a jump and link, or CSpecialRW. The checks of the first come first.
-    pub fn exchange(
+    pub(crate) fn exchange(
         &mut self,
         target: u8,
         source: u8,
@@ -151,7 +151,7 @@ impl<M: TaggedStore> RunMachine<M> {
     }
 
     /// PCC gets the code, and c31 the data, of a sealed pair, both without their seals (CInvoke).
-    pub fn invoke(
+    pub(crate) fn invoke(
         &mut self,
         code: u8,
         data_register: u8,
@@ -201,7 +201,7 @@ impl<M: TaggedStore> RunMachine<M> {
     }
 
     /// The tag of a register goes, and its word stays: a revoker's work.
-    pub fn drop_register(&mut self, register: RunRegister) -> Result<(), RunEnd>
+    pub(crate) fn drop_register(&mut self, register: RunRegister) -> Result<(), RunEnd>
         requires { IsTargetOf register }
         ensures outcome { let old = run_of self.old.machine self.old.specials self.old.objects in MatchResult result
             (λ _. (step_limit old ≡ None) × Dropped old (register_key register) (run_of self.new.machine self.new.specials self.new.objects))

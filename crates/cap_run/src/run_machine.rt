@@ -122,7 +122,7 @@ impl<M: TaggedStore> RunMachine<M> {
 
     /// The slot of the object that owns a register, if there is one.
     #[inline(always)]
-    pub fn owner(&self, register: RunRegister) -> Option<usize>
+    pub(crate) fn owner(&self, register: RunRegister) -> Option<usize>
         requires { IsSource register }
         ensures owner { result ≡ run_owners self.now.machine self.now.specials (register_key register) }
     {

@@ -1,6 +1,6 @@
 //! The steps of version 2 in a run.
 
-ghost use Rattle.std.specs.Prelude.{◌≡◌, ◌<◌, ◌^◌, ℕ, None, Some, false, IfSome, MatchResult, OnErr};
+ghost use Rattle.std.specs.Prelude.{◌≡◌, ◌<◌, ◌^◌, ℕ, None, Some, false, IfNone, IfSome, MatchResult, OnErr};
 ghost use Rattle.cap_log.specs.declared.lines.Place.TheVariants as PlaceIn;
 ghost use Rattle.cap_machine.specs.Steps.{granule_through};
 ghost use Rattle.cap_run.specs.{Numbers.numbered_run, RunChanges.usual_after, RunChecks.{Answers, usual_end, usual_wants}};
@@ -9,7 +9,7 @@ ghost use Rattle.cap_machine.specs.Helds.{EndsStep, state_of};
 ghost use Rattle.cap_objects.specs.HandoutsIn.{objects_of};
 ghost use Rattle.cap_run.specs.{RunSteps.IsUnstepped, UsualSteps.{MakesUsual, disowned, main_owners, owner_at, written_by}};
 
-use crate::ends::RunEnd;
+use crate::ends::{RunEnd, RunRefusal};
 use crate::lines::usual_ended;
 use crate::puts::is_empty;
 use crate::run_machine::{RunMachine, slot_by};
@@ -82,13 +82,55 @@ fn written_by<M: TaggedStore>(machine: &Machine<M>, step: &Step) -> Option<Place
         Step::Seal(step) => register_at(step.target),
         Step::Unseal(step) => register_at(step.target),
         Step::LoadCap(step) => register_at(step.target),
-        Step::StoreCap(step) => Some(Place::Granule(granule_through(machine, step.authority, step.offset))),
+        Step::StoreCap(step) => Some(Place::Granule(granule_through(
+            machine,
+            step.authority,
+            step.offset,
+        ))),
         Step::Load(_) => None,
-        Step::Store(step) => Some(Place::Granule(granule_through(machine, step.authority, step.offset))),
+        Step::Store(step) => Some(Place::Granule(granule_through(
+            machine,
+            step.authority,
+            step.offset,
+        ))),
     }
 }
 
 impl<M: TaggedStore> RunMachine<M> {
+    /// Makes a step of version 2 and counts it. It is refused for the first of these: a check of its operation or access
+    /// fails, where in clear mode those of operations on registers don't refuse it; if that is asked, a freed object owns
+    /// the authority of its access (`OwnerFreed`), or none does and it touches a byte of a live object (`NotOwned`); the
+    /// line records another result than the machine's (`WrongResult`); there are 4,294,967,295 steps, or it names a granule
+    /// past the limit (`LimitPassed`). `NoMemory` comes only at a granule named for the first time. After an error nothing
+    /// has changed.
+    pub fn make_usual(&mut self, step: &Step) -> Result<(), RunEnd>
+        requires { IsStepInRange step.now }
+        ensures outcome { let old = numbered_run self.old.machine self.old.specials self.old.objects in
+            Answers (usual_end self.old.asks old step.now) (usual_after old step.now) (usual_wants old step.now) old result
+            (numbered_run self.new.machine self.new.specials self.new.objects) }
+        ensures asks { self.new.asks ≡ self.old.asks }
+    {
+        if let Some(refusal) = self.asked_if(step) {
+            return Err(RunEnd::Refused(refusal));
+        }
+        self.usual(step)
+    }
+
+    // Why what is asked refuses a step that its own checks permit: nothing, where nothing is asked.
+    #[inline(always)]
+    fn asked_if(&self, step: &Step) -> Option<RunRefusal>
+        requires { IsStepInRange step.now }
+        ensures some { IfSome result (λ refusal.
+            usual_end self.now.asks (numbered_run self.now.machine self.now.specials self.now.objects) step.now ≡ Some refusal) }
+        ensures none { IfNone result (let run = numbered_run self.now.machine self.now.specials self.now.objects in
+            usual_end self.now.asks run step.now ≡ usual_end (record self.now.asks { used = false; owned = false }) run step.now) }
+    {
+        if !self.asks.used && !self.asks.owned {
+            return None;
+        }
+        self.asked_refusal(step)
+    }
+
     // Makes a step of version 2, where nothing is asked of its access.
     fn usual(&mut self, step: &Step) -> Result<(), RunEnd>
         requires { IsStepInRange step.now }
@@ -98,15 +140,48 @@ impl<M: TaggedStore> RunMachine<M> {
         ensures asks { self.new.asks ≡ self.old.asks }
     {
         self.machine.kept();
-        let written = written_by(&self.machine, step);
-        match self.step(step, written) {
+        match self.step_with_owners(step) {
             Ok(()) => Ok(()),
             Err(end) => Err(usual_ended(end)),
         }
     }
 
+    // Makes a step as the machine without objects does, with the owners that places then have.
+    #[inline(always)]
+    fn step_with_owners(&mut self, step: &Step) -> Result<(), StepEnd>
+        requires { IsStepInRange step.now }
+        ensures outcome { MatchResult result
+            (λ _. MakesUsual self.old.machine (objects_of self.old.objects) step.now self.new.machine (objects_of self.new.objects))
+            (λ end. EndsStep self.old.machine step.now end self.new.machine) }
+        ensures specials { self.new.specials ≡ self.old.specials }
+        ensures err { OnErr result (self.new.objects ≡ self.old.objects) }
+        ensures count { self.new.objects.count ≡ self.old.objects.count }
+        ensures asks { self.new.asks ≡ self.old.asks }
+    {
+        if self.objects.count() == 0 {
+            return self.step_alone(step);
+        }
+        let written = written_by(&self.machine, step);
+        self.step(step, written)
+    }
+
+    // The same where no object was handed out, so that no place has an owner.
+    #[inline(always)]
+    fn step_alone(&mut self, step: &Step) -> Result<(), StepEnd>
+        requires none { self.old.objects.count ≡ 0 }
+        requires range { IsStepInRange step.now }
+        ensures outcome { MatchResult result
+            (λ _. MakesUsual self.old.machine (objects_of self.old.objects) step.now self.new.machine (objects_of self.new.objects))
+            (λ end. EndsStep self.old.machine step.now end self.new.machine) }
+        ensures rest { (self.new.specials ≡ self.old.specials) × (self.new.objects ≡ self.old.objects) }
+        ensures asks { self.new.asks ≡ self.old.asks }
+    {
+        self.machine.kept();
+        self.machine.step(step)
+    }
+
     /// Makes a step of version 2, which writes this place, if any, as the machine without objects does.
-    pub fn step(&mut self, step: &Step, written: Option<Place>) -> Result<(), StepEnd>
+    pub(crate) fn step(&mut self, step: &Step, written: Option<Place>) -> Result<(), StepEnd>
         requires written { written ≡ written_by self.old.machine step.now }
         requires in_range { IfSome written IsPlace }
         requires range { IsStepInRange step.now }

@@ -1,12 +1,11 @@
-use Rattle.std.proofs.Common.{Bool, ℕ, None, option_map, ◌≡◌, ◌+◌, false, ap, arith, subst, sym, ◌∙◌}
+use Rattle.std.proofs.Common.{option_map, ◌≡◌, ◌+◌, false, ap, arith, subst, sym, ◌∙◌}
 use Rattle.cap_word.specs.declared.word.Cap.{Cap}
-use Rattle.cap_machine.specs.{Accounts.Account, Helds.{Held, account_of}}
-use Rattle.cap_objects.specs.{Counts.CountsAre, Handed.held_of, HandoutsIn.objects_of}
+use Rattle.cap_machine.specs.{Accounts.Account}
 use Rattle.std.specs.Prelude.{Err}
 use Rattle.cap_run_log.specs.declared.lines.RunPlace.TheVariants.{Special}
 use Rattle.cap_run.specs.declared.ends.RunEnd.{RunEnd}
 use Rattle.cap_run.specs.{Numbers.numbered_run, RunChanges.root_after, RunChecks.{Answers, root_end, root_wants}}
-use Rattle.cap_run.specs.{Owned.AreWithin, Run.first_special, RunOf.{run_owners, run_state}, Specials.cap_in}
+use Rattle.cap_run.specs.{Run.first_special, Specials.cap_in}
 use Rattle.cap_run.specs.declared.ends.RunRefusal.TheVariants.{Usual}
 use Rattle.cap_run.proofs.RootLemmas.{ended-account, same-counted, same-within, root-counted, root-within, special-after, special-end, special-owners, special-refused, special-state, special-unowned}
 use Rattle.cap_run.proofs.run_machine.RunMachine.declare_special.Goals as goal
@@ -46,7 +45,7 @@ returns-in-Ok-clause-outcome g c =
     let none : (cap_in s.specials c.args.number).tag ≡ false = ap (λ (k : Cap). k.tag) (sym c.cap.ensures.value) ∙ c.if-cap.false in (
       special-end s.machine s.specials s.objects c.args.number c.args.word c.requires.first none ∙ ap (option_map Usual) counts.checks,
       special-after s.machine c.count_root.new.machine s.specials c.put.new.self s.objects c.args.number c.args.word c.put.ensures.caps c.put.ensures.labels counts
-      (special-unowned s.machine s.specials c.args.number (s.specials.coded c.args.number) none),
+          (special-unowned s.machine s.specials c.args.number (s.specials.coded c.args.number) none),
     )
 
 pub returns-in-Err-clause-outcome : goal.returns-in-Err-clause-outcome

@@ -1,7 +1,7 @@
 use Rattle.std.proofs.Common.{None, subst, sym}
 use Rattle.std.specs.Prelude.{false}
 use Rattle.cap_machine.specs.Labels.{untagged}
-use Rattle.cap_run.specs.{Numbers.numbered_run, Run.{first_special, register_key}, RunChanges.run_after, RunChecks.Answers, RunOf.run_state, RunSteps.step_limit}
+use Rattle.cap_run.specs.{Numbers.numbered_run, Run.{register_key}, RunChanges.run_after, RunChecks.Answers, RunOf.run_state, RunSteps.step_limit}
 use Rattle.cap_run_log.specs.declared.lines.{RunPlace.RunPlace, RunRegister.TheVariants.{General, Special}, RunStep.TheVariants.Drop}
 use Rattle.cap_run_log.specs.declared.lines.RunPlace.TheVariants as places
 use Rattle.cap_run.proofs.RunNumberLemmas.{answers, numbered-same, on-err, writes-numbered}

@@ -1,5 +1,5 @@
 use Rattle.std.specs.Prelude.{false}
-use Rattle.cap_run.specs.{Numbers.numbered_run, Run.{first_special, register_key}, RunChanges.run_after, RunOf.run_owners, RunSteps.exchange_end}
+use Rattle.cap_run.specs.{Numbers.numbered_run, Run.{register_key}, RunChanges.run_after, RunOf.run_owners, RunSteps.exchange_end}
 use Rattle.cap_run_log.specs.declared.lines.{RunRegister.TheVariants.Special, RunStep.TheVariants.Exchange}
 use Rattle.cap_run.proofs.RunNumberLemmas.{answers, both-numbered, numbered-same, on-err}
 use Rattle.cap_run.proofs.run_machine.RunMachine.exchanged.Goals as goal

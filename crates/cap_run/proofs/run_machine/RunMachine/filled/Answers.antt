@@ -1,4 +1,4 @@
-use Rattle.std.proofs.Common.{Some, None, Option}
+use Rattle.std.proofs.Common.{Some, None}
 use Rattle.std.proofs.lemmas.Bool.{cond-false}
 use Rattle.cap_run.specs.{Numbers.numbered_run, RunChecks.passes_limit}
 use Rattle.cap_run.proofs.RunNumberLemmas.{fills-numbered}
@@ -10,5 +10,5 @@ returns-in-Ok-clause-outcome g c =
     let n = c.fill.new.self in (
       cond-false (passes_limit (numbered_run s.machine s.specials s.objects) (Some c.args.granule)) _ None c.in-Ok.ensures.outcome.0,
       fills-numbered s.machine n.machine s.specials n.specials s.objects n.objects n.specials.sized.1 n.counted s.objects.kept.numbered n.objects.kept.numbered
-      c.args.granule _ c.in-Ok.ensures.outcome.1,
+          c.args.granule _ c.in-Ok.ensures.outcome.1,
     )

@@ -1,7 +1,7 @@
 use Rattle.std.proofs.Common.{ap, arith, subst, sym}
 use Rattle.cap_machine.specs.Helds.{Held}
 use Rattle.cap_objects.specs.{Counts.CountsAre, Handed.held_of, HandoutsIn.objects_of}
-use Rattle.cap_run.specs.{Numbers.numbered_run, Owned.AreWithin, RunOf.{run_owners, run_state}}
+use Rattle.cap_run.specs.{Owned.AreWithin, RunOf.{run_owners, run_state}}
 use Rattle.cap_run.proofs.run_machine.RunMachine.follow.Goals as goal
 
 pub invariant_of-self : goal.invariant_of-self

@@ -1,4 +1,4 @@
-use Rattle.std.proofs.Common.{IsTrue, false, ◌≡◌, subst, sym, ap, ◌∙◌}
+use Rattle.std.proofs.Common.{IsTrue, false, ◌≡◌, subst, sym, ◌∙◌}
 use Rattle.cap_word.specs.declared.word.Cap.{Cap}
 use Rattle.cap_run.proofs.GranuleLemmas.{granule-named, granule-unowned, run-granule}
 use Rattle.cap_run.proofs.run_machine.RunMachine.granule_cap.Goals as goal
