@@ -15,7 +15,6 @@ ghost use Rattle.cap_run.specs.{declared.ends.RunRefusal.TheVariants.Usual, RunC
 ghost use Rattle.cap_run_judge.specs.Verdicts.{long_refusal};
 
 use crate::faults::RefusedRunLine;
-use crate::mock::{make, make_usual};
 use crate::verdict::RunVerdict;
 use cap_judge::{Stop, Taken};
 use cap_log::{Line, Mode, read_line};
@@ -290,8 +289,8 @@ impl<M: TaggedStore> RunJudge<M> {
                 Err(RunEnd::Refused(usual(Refusal::Misplaced)))
             }
             RunLine::Root(place, word) => self.machine.declare(place, word),
-            RunLine::Step(step) => make_usual(&mut self.machine, &step),
-            RunLine::Run(step) => make(&mut self.machine, &step),
+            RunLine::Step(step) => self.machine.make_usual(&step),
+            RunLine::Run(step) => self.machine.make(&step),
             RunLine::End(count) => {
                 if count != self.machine.steps() {
                     return Err(RunEnd::Refused(usual(Refusal::WrongCount)));

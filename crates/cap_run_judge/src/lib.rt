@@ -8,7 +8,6 @@
 mod faults;
 mod judges;
 mod laws;
-mod mock;
 mod output;
 mod streams;
 mod verdict;

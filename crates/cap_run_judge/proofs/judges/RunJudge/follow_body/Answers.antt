@@ -13,11 +13,11 @@ returns-in-Root g c =
 pub returns-in-Step : goal.returns-in-Step
 returns-in-Step g c =
     rw (c.requires.body, c.in-Step.is, c.make_usual.ensures.asks)
-    (body_answers c.args.self.now.machine.asks (run_in c.args.self.now.machine) (run_in c.make_usual.new.machine) (RunLine.Step c.in-Step.step) c.make_usual.result refl
+    (body_answers c.args.self.now.machine.asks (run_in c.args.self.now.machine) (run_in c.make_usual.new.self) (RunLine.Step c.in-Step.step) c.make_usual.result refl
     c.make_usual.ensures.outcome)
 
 pub returns-in-Run : goal.returns-in-Run
 returns-in-Run g c =
     rw (c.requires.body, c.in-Run.is, c.make.ensures.asks)
-    (body_answers c.args.self.now.machine.asks (run_in c.args.self.now.machine) (run_in c.make.new.machine) (RunLine.Run c.in-Run.step) c.make.result refl
+    (body_answers c.args.self.now.machine.asks (run_in c.args.self.now.machine) (run_in c.make.new.self) (RunLine.Run c.in-Run.step) c.make.result refl
     c.make.ensures.outcome)
