@@ -34,3 +34,4 @@ mod RootLemmas
 mod UsualNumberLemmas
 mod AskedLemmas
 mod AloneLemmas
+mod ToldLemmas

@@ -15,6 +15,7 @@ mod laws;
 mod lines;
 mod object_lines;
 mod object_steps;
+mod owned;
 mod puts;
 mod register_steps;
 mod roots;
