@@ -12,7 +12,7 @@ pub stop-requires : goal.stop-requires
 stop-requires g c =
     let old = stage_of c.args.self.now in
     let bytes = c.args.bytes.now in
-    let answer = c.in-Err.ensures.answers in
+    let answer = c.in-Err.ensures in
     record {
       found = c.front.ensures.found;
       clear = subst (λ (s : Stage). IsAtFault s.due → ⊥) (sym answer.1) (clear_of c.args.self.now.stage c.in_default.not-Refused);
@@ -23,6 +23,6 @@ stop-requires g c =
 pub returns-in-Err : goal.returns-in-Err
 returns-in-Err g c = record {
   ok = tt;
-  err = subst (λ (s : Stage). StopsAt s [] c.args.bytes.now c.stop.result (stage_of c.stop.new.self)) c.in-Err.ensures.answers.1
+  err = subst (λ (s : Stage). StopsAt s [] c.args.bytes.now c.stop.result (stage_of c.stop.new.self)) c.in-Err.ensures.1
       c.stop.ensures.stops;
 }
