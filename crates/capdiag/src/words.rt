@@ -34,7 +34,7 @@ pub enum Order<'a> {
     },
 }
 
-// An order with an option that it doesn't have yet.
+// An order with an option, if it wasn't given before.
 fn once<'a>(is_given: bool, order: Order<'a>) -> Result<Order<'a>, Complaint>
     ensures value { result ≡ once is_given order.entry }
 {
@@ -82,21 +82,21 @@ fn with_option<'a>(order: Order<'a>, word: &str) -> Result<Order<'a>, Complaint>
     }
 }
 
-// Whether a word is an operand.
+// Whether a word is an operand: once the options have ended each is.
 fn is_taken(is_ended: bool, word: &str) -> bool
     ensures value { result ≡ is_taken is_ended word.now }
 {
     is_ended || word == "-" || is_operand(word)
 }
 
-/// How far the words after a command were read.
-#[derive(Debug, Clone, Copy, PartialEq, Eq)]
+// What is asked for by the words that were read.
+#[derive(Clone, Copy)]
 struct Asked<'a> {
     // Whether `--` ended the options.
     is_ended: bool,
-    // The order without its file.
+    // The order, which doesn't have its file yet.
     order: Order<'a>,
-    // The operand.
+    // The operand, if there is one.
     operand: Option<&'a str>,
 }
 
@@ -166,7 +166,7 @@ fn is_help(words: &[&str]) -> bool
     }
 }
 
-// What the words after a command ask for.
+// What a command and the words after it ask for.
 fn after_command<'a>(order: Order<'a>, words: &[&'a str]) -> Result<Asked<'a>, Wrong<'a>>
     ensures value { after_command order.entry (map (λ word. word.now) words.now) ≡ read_of result }
 {
@@ -185,7 +185,7 @@ fn after_command<'a>(order: Order<'a>, words: &[&'a str]) -> Result<Asked<'a>, W
     with_words(start, words)
 }
 
-// What is asked for by an option that is the only word.
+// What an option in place of a command asks for: no other word stands beside it.
 fn alone<'a>(order: Order<'a>, option: &'a str, words: &[&'a str]) -> Result<Asked<'a>, Wrong<'a>>
     ensures value { alone order.entry option.now (map (λ word. word.now) words.now) ≡ read_of result }
 {
@@ -202,7 +202,7 @@ fn alone<'a>(order: Order<'a>, option: &'a str, words: &[&'a str]) -> Result<Ask
     })
 }
 
-// What all words ask for.
+// What the words ask for.
 fn read_all<'a>(words: &[&'a str]) -> Result<Asked<'a>, Wrong<'a>>
     ensures value { read_words (map (λ word. word.now) words.now) ≡ read_of result }
 {
