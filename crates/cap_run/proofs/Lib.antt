@@ -6,7 +6,7 @@ mod SafetyLemmas
 mod FillLemmas
 mod WideningLemmas
 mod UsualLemmas
-mod IndexedLemmas
+mod OwnedLemmas
 mod MeetLemmas
 mod ChangeLemmas
 mod ObjectNumberLemmas
