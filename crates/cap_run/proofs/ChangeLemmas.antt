@@ -10,7 +10,7 @@ use Rattle.cap_objects.specs.{Handed.{AreKept, held_of, with_held}, Indexes.{IsI
 use Rattle.cap_run.specs.{Numbers.{by_number, number_at, numbered}, RunChanges.counted}
 use Rattle.cap_machine.specs.States.{put}
 use Rattle.cap_run.proofs.ObjectLemmas.{kept_some}
-use Rattle.cap_run.proofs.{OwnedLemmas.{owned-none, owned-number}, NumberLemmas.{at-number, slot-of}}
+use Rattle.cap_run.proofs.{IndexedLemmas.{owned-none, owned-number}, NumberLemmas.{at-number, slot-of}}
 
 pub kept-by : (h : Handouts) → AreKept h.keeps h.count (objects_of h) (tree.get nat_cmp h.numbers) (tree.get nat_cmp h.bases)
 kept-by h = h.kept

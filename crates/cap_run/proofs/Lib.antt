@@ -6,7 +6,7 @@ mod SafetyLemmas
 mod FillLemmas
 mod WideningLemmas
 mod UsualLemmas
-mod OwnedLemmas
+mod IndexedLemmas
 mod MeetLemmas
 mod ChangeLemmas
 mod ObjectNumberLemmas
