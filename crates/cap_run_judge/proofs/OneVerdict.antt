@@ -1,9 +1,9 @@
 -- Bytes have one reading, a line at a time, that stops, and no two verdicts: each comes from such a reading.
 use Rattle.std.specs.List.{AllByRecursion}
-use Rattle.std.proofs.Common.{◌≡◌, ℕ, ◌+◌, inl, inr, List, [], ◌∷◌, ◌++◌, length, refl, sym, ap, subst, ◌∙◌, append_assoc, append-nil, arith, Some}
+use Rattle.std.proofs.Common.{◌≡◌, ℕ, ◌+◌, inl, inr, List, [], ◌∷◌, ◌++◌, length, refl, sym, ap, subst, ◌∙◌, append_assoc, append-nil, arith}
 use Rattle.std.proofs.{Common.length-append, lemmas.Option.{none-some, same_Some}}
 use Rattle.cap_ops.specs.declared.refusal.Refusal.TheVariants.{Misplaced}
-use Rattle.cap_streams.specs.Front.{IsLine, IsTooLong}
+use Rattle.cap_streams.specs.Front.{IsLine}
 use Rattle.cap_streams.proofs.FrontLemmas.{IsLine-same, IsLine-not_too_long, IsLine-not_cut, IsTooLong-not_cut}
 use Rattle.cap_run_log.specs.{declared.lines.RunLine.RunLine, RunLines.{IsRunLineInRange, run_spelling}}
 use Rattle.cap_run_log.proofs.Spellings.{one_run_spelling}

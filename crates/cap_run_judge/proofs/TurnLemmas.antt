@@ -1,29 +1,28 @@
 -- What lines lead to, and where a judge of run logs stops.
-use Rattle.std.proofs.Common.{◌≡◌, ◌≢◌, ◌⊎◌, ℕ, ◌+◌, ◌-◌, inl, inr, true, false, Bool, List, [], ◌∷◌, ◌++◌, length, take, drop}
-use Rattle.std.proofs.Common.{refl, sym, ap, subst, ◌∙◌, arith, append-nil, append_assoc, None, Some, Option, Result, Ok, Err, IfOk, IsTrue}
-use Rattle.std.proofs.lemmas.{Grind.flat_map-append, Option.none-some}
+use Rattle.std.proofs.Common.{◌≡◌, ◌≢◌, ℕ, ◌+◌, ◌-◌, inl, inr, false, List, [], ◌∷◌, ◌++◌, length, take, drop}
+use Rattle.std.proofs.Common.{refl, sym, ap, subst, ◌∙◌, append-nil, append_assoc, Result, Ok, Err, IfOk}
+use Rattle.std.proofs.lemmas.{Grind.flat_map-append}
 use Rattle.cap_log.specs.{declared.lines.Line.Line, Lines.Spells, Parts.Begins}
 use Rattle.cap_log.proofs.SpellingLemmas.{one_spelling}
 use Rattle.cap_log.proofs.ElementLemmas.{AllByRecursion-append}
-use Rattle.cap_streams.specs.{FaultLines.bytes_of, Front.{IsCut, IsFront, IsFrontText, IsLine, IsTooLong}}
+use Rattle.cap_streams.specs.{FaultLines.bytes_of, Front.{IsCut, IsFrontText, IsLine}}
 use Rattle.cap_streams.proofs.FrontLemmas.{IsLine-not_cut, IsTooLong-not_cut}
 use Rattle.cap_judge.specs.{declared.judges.Stop.Stop, Judgings.IsLastFront}
 use Rattle.cap_judge.proofs.TurnLemmas.{cut_text, front_count}
-use Rattle.cap_run_log.specs.declared.lines.{RunLine.RunLine, RunPlace.RunPlace, RunStep.RunStep}
-use Rattle.cap_run_log.specs.RunLines.{IsRunLineInRange, SpellsRun, run_spelling}
+use Rattle.cap_run_log.specs.declared.lines.{RunLine.RunLine}
+use Rattle.cap_run_log.specs.RunLines.{IsRunLineInRange, run_spelling}
 use Rattle.cap_run_log.proofs.Spellings.{run_spelling-plain, run_spelling-short}
 use Rattle.cap_run.specs.declared.{asks.Asks.Asks, ends.{RunEnd.RunEnd, RunRefusal.{RunRefusal, TheVariants.Usual}}}
-use Rattle.cap_run.specs.{Run.Run, RunChanges.{line_after, root_after, run_after, usual_after}}
-use Rattle.cap_run.specs.RunChecks.{Answers, line_end, line_wants, root_end, root_wants, run_end, run_wants, usual_end, usual_wants}
+use Rattle.cap_run.specs.{Run.Run, RunChanges.{line_after}}
+use Rattle.cap_run.specs.RunChecks.{Answers, line_end, line_wants}
 use Rattle.cap_ops.specs.declared.refusal.Refusal.TheVariants.{Misplaced, Truncated}
-use Rattle.cap_run_judge.specs.declared.{faults.RefusedRunLine.RefusedRunLine, verdict.RunVerdict.RunVerdict}
+use Rattle.cap_run_judge.specs.declared.{faults.RefusedRunLine.RefusedRunLine}
 use Rattle.cap_run_judge.specs.declared.judges.NextRunLine as code
 use Rattle.cap_run_judge.specs.declared.judges.NextRunLine.TheVariants as stages
-use Rattle.cap_run_judge.specs.Turns.{Allows, AreSafe, Body, Due, Ended, Form, Goes, HasForm, HasNoRunLine, IsSafeAt, OfRun, Reads, Refused, Stage}
-use Rattle.cap_run_judge.specs.Turns.{refusal_at, stage_after, text_of}
-use Rattle.cap_run_judge.specs.Verdicts.{Lacks}
-use Rattle.cap_run_judge.specs.Readings.{AnswersLine, EndsAs, EndsAt, EndsFor, EndsIn, Faults, IsAtFault, RefusesNext, StopsAt, Takes, due_at_end}
-use Rattle.cap_run_judge.specs.Readings.{due_of, lines_by, lines_read, refused_at}
+use Rattle.cap_run_judge.specs.Turns.{AreSafe, Body, Ended, Goes, HasNoRunLine, IsSafeAt, OfRun, Reads, Refused, Stage}
+use Rattle.cap_run_judge.specs.Turns.{stage_after, text_of}
+use Rattle.cap_run_judge.specs.Readings.{AnswersLine, EndsAs, EndsAt, EndsFor, IsAtFault, RefusesNext, StopsAt, Takes, due_at_end}
+use Rattle.cap_run_judge.specs.Readings.{due_of, lines_by, lines_read}
 
 -- Lines that are read
 

@@ -1,5 +1,5 @@
 -- A run log read a line at a time, each line allowed in its turn. All of it is this profile's own.
-use Rattle.std.specs.Prelude.{◌≡◌, ℕ, ◌+◌, Bool, true, false, List, [], ◌∷◌, ◌++◌, flat_map, Option, Some, None}
+use Rattle.std.specs.Prelude.{◌≡◌, ℕ, Bool, true, false, List, [], ◌∷◌, ◌++◌, flat_map, Option, Some, None}
 use Rattle.std.specs.List.{AllByRecursion}
 use Rattle.cap_ops.specs.declared.refusal.Refusal.TheVariants.{BadHeader, BadLine, BadMode, Misplaced}
 use Rattle.cap_log.specs.{declared.lines.Line.Line, Lines.Spells}
