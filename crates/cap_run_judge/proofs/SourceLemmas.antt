@@ -8,7 +8,7 @@ use Rattle.cap_run.specs.{declared.asks.Asks.Asks, Run.Run}
 use Rattle.cap_run_judge.specs.declared.{faults.RefusedRunLine.RefusedRunLine, verdict.RunVerdict.{RunVerdict, TheVariants.{Yes, No}}}
 use Rattle.cap_run_judge.specs.Turns.{Goes, Stage, text_of, unread}
 use Rattle.cap_run_judge.specs.Verdicts.{IsVerdict, MayLackMemory, NoVerdictIn}
-use Rattle.cap_run_judge.specs.Judgings.{BeginsLog, IsAnswerOf, IsVerdictOf, JudgedBy}
+use Rattle.cap_run_judge.specs.Judgings.{IsAnswerOf, IsVerdictOf, JudgedBy}
 use Rattle.cap_run_judge.specs.Readings.{EndsAs, EndsIn, EndsWith, IsAnswered, lines_read}
 use Rattle.cap_run_judge.proofs.{CountLemmas.count_read, TurnLemmas.goes_on}
 

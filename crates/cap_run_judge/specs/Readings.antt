@@ -1,5 +1,5 @@
 -- What a judge of run logs has read of the bytes that it was handed (this profile's own, as are all below).
-use Rattle.std.specs.Prelude.{◌≡◌, ◌≢◌, ◌⊎◌, ℕ, ◌+◌, Bool, false, IsTrue, List, [], ◌++◌, Option, None, Some, Result, Ok, Err}
+use Rattle.std.specs.Prelude.{◌≡◌, ◌⊎◌, ℕ, ◌+◌, Bool, false, IsTrue, List, [], Option, None, Some, Result, Ok, Err}
 use Rattle.cap_ops.specs.declared.refusal.Refusal.TheVariants.{Misplaced, Truncated}
 use Rattle.cap_streams.specs.{declared.judge_faults.JudgeFault.JudgeFault, FaultLines.bytes_of, Front.{IsCut, IsLine, IsTooLong}}
 use Rattle.tagmem.specs.declared.store.TaggedStore.{Ghosts}

@@ -1,4 +1,4 @@
-use Rattle.std.proofs.Common.{◌≡◌, [], inl, refl, rules, subst, sym}
+use Rattle.std.proofs.Common.{[], inl, refl, rules, subst, sym}
 use Rattle.cap_run_judge.specs.{Readings.{EndsAt, IsAtFault, StopsAt, stage_of}, Turns.Stage}
 use Rattle.cap_run_judge.proofs.TurnLemmas.{clear_of, ends_at, goes_none}
 use Rattle.cap_run_judge.proofs.judges.RunJudge.take_next.Goals as goal
