@@ -9,7 +9,7 @@ use Rattle.cap_run.specs.declared.ends.RunRefusal.TheVariants.{Usual}
 use Rattle.cap_run.specs.Run.{Run}
 use Rattle.cap_run.proofs.{ApartLemmas.safe_at_each, DescentLemmas.{allowed_by, lie_in_roots, stay_within_roots}, OneRootLemmas.descend_from_one, OwnedLemmas.accesses_own}
 use Rattle.cap_run_judge.specs.Turns.{Due, Reads, Stage, refusal_by, stage_after}
-use Rattle.cap_run_judge.specs.Verdicts.{IsGuarded}
+use Rattle.cap_run_judge.specs.Verdicts.{IsRunGuarded}
 
 -- a line that nothing refuses is allowed in the run
 line_allowed : (asks_are : Asks) (run_is : Run) (due : Due) (line : RunLine) → refusal_by asks_are run_is due (Some line) ≡ None
@@ -27,7 +27,7 @@ read_allowed from to [] range reads = tt
 read_allowed from to (line ∷ lines) range reads =
     (range.0, line_allowed from.asks from.run from.due line reads.0, read_allowed (stage_after from line) to lines range.1 reads.1)
 
-pub guarded_by : (asks : Asks) (lines : List RunLine) → AreAllowed asks no_run lines → IsGuarded asks lines
+pub guarded_by : (asks : Asks) (lines : List RunLine) → AreAllowed asks no_run lines → IsRunGuarded asks lines
 guarded_by asks lines allowed = record {
   roots = λ before after is. stay_within_roots asks before after (subst (AreAllowed asks no_run) is allowed);
   one_root = λ before after is. descend_from_one asks before after (subst (AreAllowed asks no_run) is allowed);
