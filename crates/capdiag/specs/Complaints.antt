@@ -3,7 +3,8 @@
 use Rattle.std.specs.Prelude.{ℕ, List, [], ◌++◌, take, codes}
 use Rattle.cap_texts.specs.ShownBytes.{shown}
 use Rattle.capdiag.specs.declared.complaints.Complaint.{Complaint}
-use Rattle.capdiag.specs.declared.complaints.Complaint.TheVariants.{NoCommand, UnknownCommand, UnknownOption, SecondFile, Twice, Alone}
+use Rattle.capdiag.specs.declared.complaints.Complaint.TheVariants.{NoCommand, UnknownCommand, UnknownOption, NoValue}
+use Rattle.capdiag.specs.declared.complaints.Complaint.TheVariants.{UnknownValue, SecondFile, Twice, Alone}
 use Rattle.capdiag.specs.declared.complaints.Unopened.{Unopened}
 use Rattle.capdiag.specs.declared.complaints.Unopened.TheVariants.{Missing, Denied, Directory, Through, Long, Circle, Other}
 
@@ -16,6 +17,8 @@ abbrev pub front_text : Complaint → List ℕ
 front_text NoCommand = codes "no command"
 front_text UnknownCommand = codes "unknown command "
 front_text UnknownOption = codes "unknown option "
+front_text NoValue = codes "held, used or both is missing after "
+front_text UnknownValue = codes "--freed takes held, used or both, not "
 front_text SecondFile = codes "one file at most: "
 front_text Twice = codes "given twice: "
 front_text Alone = codes "other words beside "

@@ -5,7 +5,7 @@ use Rattle.capdiag.specs.Orders as orders
 
 -- what is asked for
 abbrev pub asked_of : Asked → orders.Asked
-asked_of asked = (asked.is_ended, asked.order, option_map (λ word. word.now) asked.operand)
+asked_of asked = (asked.due, asked.order, option_map (λ word. word.now) asked.operand)
 
 -- what was read
 abbrev pub read_of : Result Asked Wrong → orders.Read

@@ -18,6 +18,10 @@ pub enum Complaint {
     UnknownCommand,
     /// A word is no option of its command.
     UnknownOption,
+    /// The value of an option is missing.
+    NoValue,
+    /// A word is no value of the option before it.
+    UnknownValue,
     /// A word names a second file.
     SecondFile,
     /// An option is given twice.
@@ -85,6 +89,8 @@ fn put_subject(buffer: &mut [u8], at: usize, complaint: Complaint, word: &str) -
         Complaint::NoCommand => at,
         Complaint::UnknownCommand
         | Complaint::UnknownOption
+        | Complaint::NoValue
+        | Complaint::UnknownValue
         | Complaint::SecondFile
         | Complaint::Twice
         | Complaint::Alone => put_quoted(buffer, at, word),
@@ -152,6 +158,8 @@ fn front_text(complaint: Complaint) -> &'static [u8]
         Complaint::NoCommand => b"no command",
         Complaint::UnknownCommand => b"unknown command ",
         Complaint::UnknownOption => b"unknown option ",
+        Complaint::NoValue => b"held, used or both is missing after ",
+        Complaint::UnknownValue => b"--freed takes held, used or both, not ",
         Complaint::SecondFile => b"one file at most: ",
         Complaint::Twice => b"given twice: ",
         Complaint::Alone => b"other words beside ",

@@ -86,7 +86,7 @@ fn open(rt: &HostRuntime, path: &str) -> Result<File, Unopened> {
 // Whether an order judges a log.
 fn reads_log(order: Order) -> bool {
     match order {
-        Order::Why { .. } | Order::Heap { .. } => true,
+        Order::Why { .. } | Order::Heap { .. } | Order::Run { .. } => true,
         Order::Help | Order::Version => false,
     }
 }
@@ -94,7 +94,7 @@ fn reads_log(order: Order) -> bool {
 // The file that an order names.
 pub(crate) fn file_of<'a>(order: Order<'a>) -> Option<&'a str> {
     match order {
-        Order::Why { file, .. } | Order::Heap { file, .. } => file,
+        Order::Why { file, .. } | Order::Heap { file, .. } | Order::Run { file, .. } => file,
         Order::Help | Order::Version => None,
     }
 }

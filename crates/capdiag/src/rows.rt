@@ -24,7 +24,25 @@ pub const ROWS: &str = r#"
 2 - / - why
 ! capdiag: unknown option '-'; see capdiag --help
 
-2 why a b / why a --origins b c / heap a -- b / heap -- - b
+2 run --origins / run log --freed used --origins
+! capdiag: unknown option '--origins'; see capdiag --help
+
+2 run --freed / run log --freed / run --owned --freed
+! capdiag: held, used or both is missing after '--freed'; see capdiag --help
+
+2 run --freed log / run --owned --freed log held
+! capdiag: --freed takes held, used or both, not 'log'; see capdiag --help
+
+2 run --freed -- / run --freed -- held
+! capdiag: --freed takes held, used or both, not '--'; see capdiag --help
+
+2 run --freed held --freed held / run --freed both log --freed / run --freed used --freed --owned
+! capdiag: given twice: '--freed'; see capdiag --help
+
+2 run --owned log --owners --why --owned
+! capdiag: given twice: '--owned'; see capdiag --help
+
+2 why a b / run --freed used a b / run a --why b / run --owned -- a b / why a --origins b c / heap a -- b / heap -- - b
 ! capdiag: one file at most: 'b'; see capdiag --help
 
 2 why log - / heap - -
@@ -90,6 +108,10 @@ pub const ROWS: &str = r#"
 3 why -- --origins / why --origins -- --origins
 | capcheck 1 / end 0
 ! capdiag: cannot open '--origins': no such file
+
+3 run gone / run --freed used gone / run gone --freed both --why / run --owned gone --owners / run -- gone
+| run 1 / mode strict / end 0
+! capdiag: cannot open 'gone': no such file
 
 3 why ''
 | capcheck 1 / end 0

@@ -1,8 +1,9 @@
 //! The words after the program's name.
 
 ghost use Rattle.std.specs.Prelude.{◌≡◌, IfErr, IfOk, Ok, map, option_map};
-ghost use Rattle.capdiag.specs.Orders.{Asks, IsComplaint, HasFile, after_command, alone, file_of, is_taken, is_help, once};
-ghost use Rattle.capdiag.specs.Orders.{read_words, with_option, with_word, with_words, without_file};
+ghost use Rattle.capdiag.specs.Orders.{Asks, HasFile, IsComplaint, after_command, after_option, alone, at_end, file_of, has_value, is_help};
+ghost use Rattle.capdiag.specs.Orders.{is_taken, once, read_words, takes_value, with_operand, with_option, with_value, with_word, with_words};
+ghost use Rattle.capdiag.specs.Orders.{without_file};
 ghost use Rattle.capdiag.specs.Readings.{asked_of, read_of};
 
 use crate::complaints::{Complaint, Wrong};
@@ -32,6 +33,31 @@ pub enum Order<'a> {
         /// The file's name, which is not `-`.
         file: Option<&'a str>,
     },
+    /// `run [--freed held|used|both] [--owned] [--owners] [--why] [FILE]`: judge the file, or standard input where no
+    /// file is named, as a run log.
+    Run {
+        /// What is asked of freed objects, where `--freed` says it.
+        freed: Option<Freed>,
+        /// Whether an access without owner may touch no live object.
+        owned: bool,
+        /// Whether after a `yes` the objects and the owners are asked for.
+        owners: bool,
+        /// Whether after a `no` the report is asked for.
+        why: bool,
+        /// The file's name, which is not `-`.
+        file: Option<&'a str>,
+    },
+}
+
+/// What is asked of freed objects.
+#[derive(Debug, Clone, Copy, PartialEq, Eq)]
+pub enum Freed {
+    /// `held`: no place holds an object whose memory is handed out again.
+    Held,
+    /// `used`: no access goes through a capability of a freed object.
+    Used,
+    /// `both` of these.
+    Both,
 }
 
 // An order with an option, if it wasn't given before.
@@ -78,68 +104,202 @@ fn with_option<'a>(order: Order<'a>, word: &str) -> Result<Order<'a>, Complaint>
             ),
             _ => Err(Complaint::UnknownOption),
         },
+        Order::Run {
+            freed,
+            owned,
+            owners,
+            why,
+            file,
+        } => match word {
+            "--owned" => once(
+                owned,
+                Order::Run {
+                    freed,
+                    owned: true,
+                    owners,
+                    why,
+                    file,
+                },
+            ),
+            "--owners" => once(
+                owners,
+                Order::Run {
+                    freed,
+                    owned,
+                    owners: true,
+                    why,
+                    file,
+                },
+            ),
+            "--why" => once(
+                why,
+                Order::Run {
+                    freed,
+                    owned,
+                    owners,
+                    why: true,
+                    file,
+                },
+            ),
+            _ => Err(Complaint::UnknownOption),
+        },
         Order::Help | Order::Version => Err(Complaint::UnknownOption),
     }
 }
 
-// Whether a word is an operand: once the options have ended each is.
-fn is_taken(is_ended: bool, word: &str) -> bool
-    ensures value { result ≡ is_taken is_ended word.now }
+// Whether a word is an option of the order that takes a value.
+fn takes_value(order: Order<'_>, word: &str) -> bool
+    ensures value { result ≡ takes_value order.entry word.now }
 {
-    is_ended || word == "-" || is_operand(word)
+    match order {
+        Order::Run { .. } => word == "--freed",
+        Order::Help | Order::Version | Order::Why { .. } | Order::Heap { .. } => false,
+    }
+}
+
+// Whether an order has the value of its option.
+fn has_value(order: Order<'_>) -> bool
+    ensures value { result ≡ has_value order.entry }
+{
+    match order {
+        Order::Run { freed, .. } => freed.is_some(),
+        Order::Help | Order::Version | Order::Why { .. } | Order::Heap { .. } => false,
+    }
+}
+
+// An order with the value of its option.
+fn with_value<'a>(order: Order<'a>, word: &str) -> Result<Order<'a>, Complaint>
+    ensures value { result ≡ with_value order.entry word.now }
+{
+    let Order::Run {
+        owned,
+        owners,
+        why,
+        file,
+        ..
+    } = order
+    else {
+        return Err(Complaint::UnknownValue);
+    };
+    let freed = match word {
+        "held" => Freed::Held,
+        "used" => Freed::Used,
+        "both" => Freed::Both,
+        _ => return Err(Complaint::UnknownValue),
+    };
+    Ok(Order::Run {
+        freed: Some(freed),
+        owned,
+        owners,
+        why,
+        file,
+    })
+}
+
+// Whether a word is an operand before the options have ended.
+fn is_taken(word: &str) -> bool
+    ensures value { result ≡ is_taken word.now }
+{
+    word == "-" || is_operand(word)
+}
+
+// What the next word is.
+#[derive(Clone, Copy)]
+enum Due {
+    // An option, or the file.
+    Any,
+    // The value of the option before it.
+    Value,
+    // The file, since the options have ended.
+    File,
 }
 
 // What is asked for by the words that were read.
 #[derive(Clone, Copy)]
 struct Asked<'a> {
-    // Whether `--` ended the options.
-    is_ended: bool,
+    // What the next word is.
+    due: Due,
     // The order, which doesn't have its file yet.
     order: Order<'a>,
     // The operand, if there is one.
     operand: Option<&'a str>,
 }
 
+// What is asked for with one operand more.
+fn with_operand<'a>(asked: Asked<'a>, word: &'a str) -> Result<Asked<'a>, Wrong<'a>>
+    ensures value { with_operand (asked_of asked.entry) word.now ≡ read_of result }
+{
+    match asked.operand {
+        Some(_) => Err(Wrong {
+            complaint: Complaint::SecondFile,
+            word,
+        }),
+        None => Ok(Asked {
+            operand: Some(word),
+            ..asked
+        }),
+    }
+}
+
+// What is asked for after an option.
+fn after_option<'a>(
+    asked: Asked<'a>,
+    word: &'a str,
+    more: Result<Order<'a>, Complaint>,
+) -> Result<Asked<'a>, Wrong<'a>>
+    ensures value { after_option (asked_of asked.entry) word.now more.entry ≡ read_of result }
+{
+    match more {
+        Ok(order) => Ok(Asked { order, ..asked }),
+        Err(complaint) => Err(Wrong { complaint, word }),
+    }
+}
+
 // What is asked for with one word more.
 fn with_word<'a>(asked: Asked<'a>, word: &'a str) -> Result<Asked<'a>, Wrong<'a>>
     ensures value { with_word (asked_of asked.entry) word.now ≡ read_of result }
 {
-    let Asked {
-        is_ended,
-        order,
-        operand,
-    } = asked;
-    if is_taken(is_ended, word) {
-        return match operand {
-            Some(_) => Err(Wrong {
-                complaint: Complaint::SecondFile,
+    let order = asked.order;
+    let any = Asked {
+        due: Due::Any,
+        ..asked
+    };
+    match asked.due {
+        Due::Value => after_option(any, word, with_value(order, word)),
+        Due::File => with_operand(asked, word),
+        Due::Any if is_taken(word) => with_operand(asked, word),
+        Due::Any => match word {
+            "--" => Ok(Asked {
+                due: Due::File,
+                ..asked
+            }),
+            "--help" => Err(Wrong {
+                complaint: Complaint::Alone,
                 word,
             }),
-            None => Ok(Asked {
-                is_ended,
-                order,
-                operand: Some(word),
-            }),
-        };
-    }
-    match word {
-        "--" => Ok(Asked {
-            is_ended: true,
-            order,
-            operand,
-        }),
-        "--help" => Err(Wrong {
-            complaint: Complaint::Alone,
-            word,
-        }),
-        _ => match with_option(order, word) {
-            Ok(order) => Ok(Asked {
-                is_ended,
-                order,
-                operand,
-            }),
-            Err(complaint) => Err(Wrong { complaint, word }),
+            _ if takes_value(order, word) => after_option(
+                Asked {
+                    due: Due::Value,
+                    ..asked
+                },
+                word,
+                once(has_value(order), order),
+            ),
+            _ => after_option(any, word, with_option(order, word)),
         },
+    }
+}
+
+// What is asked for where the words end.
+fn at_end<'a>(asked: Asked<'a>) -> Result<Asked<'a>, Wrong<'a>>
+    ensures value { at_end (asked_of asked.entry) ≡ read_of result }
+{
+    match asked.due {
+        Due::Value => Err(Wrong {
+            complaint: Complaint::NoValue,
+            word: "--freed",
+        }),
+        Due::Any | Due::File => Ok(asked),
     }
 }
 
@@ -148,7 +308,7 @@ fn with_words<'a>(asked: Asked<'a>, words: &[&'a str]) -> Result<Asked<'a>, Wron
     ensures value { with_words (Ok (asked_of asked.entry)) (map (λ word. word.now) words.now) ≡ read_of result }
 {
     let Some((word, words)) = words.split_first() else {
-        return Ok(asked);
+        return at_end(asked);
     };
     match with_word(asked, word) {
         Ok(asked) => with_words(asked, words),
@@ -171,13 +331,13 @@ fn after_command<'a>(order: Order<'a>, words: &[&'a str]) -> Result<Asked<'a>, W
     ensures value { after_command order.entry (map (λ word. word.now) words.now) ≡ read_of result }
 {
     let start = Asked {
-        is_ended: false,
+        due: Due::Any,
         order,
         operand: None,
     };
     if is_help(words) {
         return Ok(Asked {
-            is_ended: false,
+            due: Due::Any,
             order: Order::Help,
             operand: None,
         });
@@ -191,7 +351,7 @@ fn alone<'a>(order: Order<'a>, option: &'a str, words: &[&'a str]) -> Result<Ask
 {
     if words.is_empty() {
         return Ok(Asked {
-            is_ended: false,
+            due: Due::Any,
             order,
             operand: None,
         });
@@ -228,6 +388,16 @@ fn read_all<'a>(words: &[&'a str]) -> Result<Asked<'a>, Wrong<'a>>
             },
             words,
         ),
+        "run" => after_command(
+            Order::Run {
+                freed: None,
+                owned: false,
+                owners: false,
+                why: false,
+                file: None,
+            },
+            words,
+        ),
         "--help" => alone(Order::Help, command, words),
         "--version" => alone(Order::Version, command, words),
         word if is_operand(word) => Err(Wrong {
@@ -253,6 +423,19 @@ fn order_of<'a>(asked: Asked<'a>) -> Order<'a>
     match asked.order {
         Order::Why { origins, .. } => Order::Why { origins, file },
         Order::Heap { report, why, .. } => Order::Heap { report, why, file },
+        Order::Run {
+            freed,
+            owned,
+            owners,
+            why,
+            ..
+        } => Order::Run {
+            freed,
+            owned,
+            owners,
+            why,
+            file,
+        },
         order => order,
     }
 }
