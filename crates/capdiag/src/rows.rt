@@ -39,7 +39,7 @@ pub const ROWS: &str = r#"
 2 run --freed held --freed held / run --freed both log --freed / run --freed used --freed --owned
 ! capdiag: given twice: '--freed'; see capdiag --help
 
-2 run --owned log --owners --why --owned
+2 run --owned log --owners --owned
 ! capdiag: given twice: '--owned'; see capdiag --help
 
 2 why a b / run --freed used a b / run a --why b / run --owned -- a b / why a --origins b c / heap a -- b / heap -- - b
@@ -109,7 +109,7 @@ pub const ROWS: &str = r#"
 | capcheck 1 / end 0
 ! capdiag: cannot open '--origins': no such file
 
-3 run gone / run --freed used gone / run gone --freed both --why / run --owned gone --owners / run -- gone
+3 run gone / run --freed used gone / run gone --freed both / run --owned gone --owners / run -- gone
 | run 1 / mode strict / end 0
 ! capdiag: cannot open 'gone': no such file
 

@@ -33,8 +33,8 @@ pub enum Order<'a> {
         /// The file's name, which is not `-`.
         file: Option<&'a str>,
     },
-    /// `run [--freed held|used|both] [--owned] [--owners] [--why] [FILE]`: judge the file, or standard input where no
-    /// file is named, as a run log.
+    /// `run [--freed held|used|both] [--owned] [--owners] [FILE]`: judge the file, or standard input where no file is
+    /// named, as a run log.
     Run {
         /// What is asked of freed objects, where `--freed` says it.
         freed: Option<Freed>,
@@ -42,8 +42,6 @@ pub enum Order<'a> {
         owned: bool,
         /// Whether after a `yes` the objects and the owners are asked for.
         owners: bool,
-        /// Whether after a `no` the report is asked for.
-        why: bool,
         /// The file's name, which is not `-`.
         file: Option<&'a str>,
     },
@@ -108,7 +106,6 @@ fn with_option<'a>(order: Order<'a>, word: &str) -> Result<Order<'a>, Complaint>
             freed,
             owned,
             owners,
-            why,
             file,
         } => match word {
             "--owned" => once(
@@ -117,7 +114,6 @@ fn with_option<'a>(order: Order<'a>, word: &str) -> Result<Order<'a>, Complaint>
                     freed,
                     owned: true,
                     owners,
-                    why,
                     file,
                 },
             ),
@@ -127,17 +123,6 @@ fn with_option<'a>(order: Order<'a>, word: &str) -> Result<Order<'a>, Complaint>
                     freed,
                     owned,
                     owners: true,
-                    why,
-                    file,
-                },
-            ),
-            "--why" => once(
-                why,
-                Order::Run {
-                    freed,
-                    owned,
-                    owners,
-                    why: true,
                     file,
                 },
             ),
@@ -174,7 +159,6 @@ fn with_value<'a>(order: Order<'a>, word: &str) -> Result<Order<'a>, Complaint>
     let Order::Run {
         owned,
         owners,
-        why,
         file,
         ..
     } = order
@@ -191,7 +175,6 @@ fn with_value<'a>(order: Order<'a>, word: &str) -> Result<Order<'a>, Complaint>
         freed: Some(freed),
         owned,
         owners,
-        why,
         file,
     })
 }
@@ -393,7 +376,6 @@ fn read_all<'a>(words: &[&'a str]) -> Result<Asked<'a>, Wrong<'a>>
                 freed: None,
                 owned: false,
                 owners: false,
-                why: false,
                 file: None,
             },
             words,
@@ -427,13 +409,11 @@ fn order_of<'a>(asked: Asked<'a>) -> Order<'a>
             freed,
             owned,
             owners,
-            why,
             ..
         } => Order::Run {
             freed,
             owned,
             owners,
-            why,
             file,
         },
         order => order,
