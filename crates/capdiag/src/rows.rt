@@ -71,18 +71,17 @@ pub const ROWS: &str = r#"
 ! capdiag: unknown command 'h\xc3\xa4p'; see capdiag --help
 
 # how it is used
-0 --help / why --help / heap --help
+0 --help / why --help / heap --help / run --help
 = usage: capdiag why [--origins] [FILE]
 =        capdiag heap [--report] [--why] [FILE]
+=        capdiag run [--freed held|used|both] [--owned] [--owners] [FILE]
 =        capdiag --help | --version
 =
 = Judge a log, from FILE or standard input. See capdiag(1), docs/FORMAT.md.
 =
-=   why        the log of a machine: the verdict, after a no the diagnosis
-=   --origins  after a yes, the root of each tagged capability at the end
-=   heap       the log of an allocator: the verdict
-=   --report   after a yes, what exact bounds would cost
-=   --why      after a no, the diagnosis
+=   why   the log of a machine: the verdict, after a no the diagnosis
+=   heap  the log of an allocator: the verdict
+=   run   the run log of a program: the verdict
 =
 = Exit status: 0 yes, 1 no, 2 wrong arguments, 3 failed input, output or memory.
 
