@@ -32,3 +32,4 @@ mod RootLemmas
 mod UsualNumberLemmas
 mod AskedLemmas
 mod AloneLemmas
+mod StepLineLemmas

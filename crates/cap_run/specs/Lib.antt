@@ -18,3 +18,4 @@ pub mod Choices
 pub mod Holders
 pub mod HeldExtents
 pub mod Erasure
+pub mod StepLines
