@@ -208,7 +208,7 @@ begins bytes stage is clear = record {
 }
 
 -- the text of a front, whether the source has ended or not
-ended_front : (rest : List ℕ) (ended : Bool) (text : List ℕ) → IsLastFront rest false text → IsLastFront rest ended text
+pub ended_front : (rest : List ℕ) (ended : Bool) (text : List ℕ) → IsLastFront rest false text → IsLastFront rest ended text
 ended_front rest ended text (inl long) = inl long
 ended_front rest ended text (inr (inl cut)) = absurd (false≢true cut.1.1)
 ended_front rest ended text (inr (inr line)) = inr (inr line)

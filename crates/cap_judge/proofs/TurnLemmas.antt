@@ -127,7 +127,7 @@ stops_after first old new front rest stop so_far stops =
     subst (λ (f : List ℕ). StopsAt first f rest stop new) (append-nil front) (stops_later first old new front [] rest stop so_far stops)
 
 -- how much of some bytes a front is
-front_count : (bytes front rest : List ℕ) → bytes ≡ front ++ rest
+pub front_count : (bytes front rest : List ℕ) → bytes ≡ front ++ rest
     → (take (length bytes - length rest) bytes ≡ front) × (drop (length bytes - length rest) bytes ≡ rest)
 front_count bytes front rest split =
     let count : length bytes - length rest ≡ length front = omega (arith, ap length split, length-append front rest) in (
@@ -338,7 +338,7 @@ memory_why (Err fault) X said is = said.1
 -- Where the bytes end
 
 -- the text of a front that is cut
-cut_text : (rest text : List ℕ) → IsCut rest → IsFrontText rest text → text ≡ rest
+pub cut_text : (rest text : List ℕ) → IsCut rest → IsFrontText rest text → text ≡ rest
 cut_text rest text cut (inl long) = absurd (IsTooLong-not_cut rest long.0 cut)
 cut_text rest text cut (inr (inl is)) = is.1
 cut_text rest text cut (inr (inr whole)) = absurd (IsLine-not_cut rest whole.0 whole.1 whole.2 cut)
@@ -406,7 +406,7 @@ refuses_more stage rest after refusal (inl (text, more, line, whole, is, refused
     inl (text, more ++ after, line, IsLine-more rest text more after whole, is, refused)
 refuses_more stage rest after refusal (inr long) = inr (IsTooLong-more rest after long.0, long.1)
 
-front_more : (rest after text : List ℕ) → IsLastFront rest false text → IsLastFront (rest ++ after) false text
+pub front_more : (rest after text : List ℕ) → IsLastFront rest false text → IsLastFront (rest ++ after) false text
 front_more rest after text (inl long) = inl (IsTooLong-more rest after long.0, long.1 ∙ sym (take-append-le 96 rest after long.0.0))
 front_more rest after text (inr (inl cut)) = absurd (false≢true cut.1.1)
 front_more rest after text (inr (inr whole)) = inr (inr (whole.0, whole.1 ++ after, IsLine-more rest whole.0 whole.1 after whole.2, whole.3))

@@ -64,7 +64,7 @@ module _ (held new : Held) (specials sp : Specials) (h after : Handouts) (sized 
   free-number-answers number (Err NoMemory) ok can end err = absurd end
 
   module _ (within : AreWithin (run_state held specials) (run_owners held specials) (objects_of h)) where
-    -- an owned register: it is tagged, and its owner by number
+    -- what refuses to free the owner of a register is what refuses to free its number
     owned : (register slot : ℕ) (o : Object) → run_owners held specials register ≡ Some slot → objects_of h slot ≡ Some o
         → owner_end (numbered_run held specials h) register
         ≡ or_later (number_end (numbered_run held specials h) o.number) (step_limit (numbered_run held specials h))

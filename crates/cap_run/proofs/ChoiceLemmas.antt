@@ -1,8 +1,7 @@
 -- What is asked decides which lines are allowed, and nothing else.
-use Rattle.std.proofs.Common.{◌≡◌, ◌&&◌, ◌+◌, ◌<◌, ◌++◌, ◌∷◌, [], ℕ, Bool, true, false, IsTrue, not, if◌then◌else◌, List, map, Option, Some, None, option_map, fold, length, refl, sym, ap, subst, ◌∙◌, arith, ◌⊎◌, inl, inr}
+use Rattle.std.proofs.Common.{◌≡◌, ◌&&◌, ◌+◌, ◌++◌, ◌∷◌, [], ℕ, Bool, true, false, not, if◌then◌else◌, List, map, Option, Some, None, option_map, fold, length, refl, sym, ap, ◌∙◌, arith, inl, inr}
 use Rattle.std.proofs.lemmas.{Bool.{false≢true}, Option.none-some}
 use Rattle.std.specs.Option.{option_map_or}
-use Rattle.cap_bounds.specs.Bounds.{base_of, top_of}
 use Rattle.cap_ops.specs.{Checks.first_of, declared.refusal.Refusal.{Refusal, TheVariants.{LimitPassed, WrongResult}}}
 use Rattle.cap_log.specs.declared.kinds.Step.{Step}
 use Rattle.cap_machine.specs.Accounts.{named_by, row_in}
@@ -16,7 +15,7 @@ use Rattle.cap_run.specs.declared.ends.RunRefusal.TheVariants.{NotOwned, Overlap
 use Rattle.cap_run.specs.{Allowed.{AreAllowed, IsLineAllowed}, Choices.{AsksNoMore, EndsByChoice, EndsEarlier, IsAfterHeld, IsAfterOwned, IsAfterUsed}}
 use Rattle.cap_run.specs.Choices.{IsFirstRefused, IsRefusedFrom, RefusedByChoice, RefusedEarlier, first_refused, line_refusal}
 use Rattle.cap_run.specs.{ObjectSteps.object_refusal, Run.Run, RunChanges.{account_in, line_after}, RunSteps.{or_later, step_limit}}
-use Rattle.cap_run.specs.RunChecks.{asked_checks, extent_end, growth_end, is_freed, is_live, is_unowned, line_end, meets, number_end, passes_limit, usual_end, uses_freed}
+use Rattle.cap_run.specs.RunChecks.{asked_checks, extent_end, growth_end, is_freed, is_live, is_unowned, line_end, meets, number_end, passes_limit, uses_freed}
 
 same : (refusal : RunRefusal) (IsAfter : Option RunRefusal → Type 0) (end : Option RunRefusal) → EndsEarlier refusal IsAfter end end
 same refusal IsAfter end = inl refl

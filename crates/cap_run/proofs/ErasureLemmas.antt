@@ -1,9 +1,9 @@
 -- Lines are allowed without those of objects, and lead to the same run without objects.
-use Rattle.std.proofs.Common.{◌≡◌, ◌==◌, ◌&&◌, ◌||◌, ◌+◌, ◌-◌, ◌≤◌, ◌++◌, ◌∷◌, [], ℕ, Bool, true, false, not, nat_lt, nat_le, if◌then◌else◌, is_none, List, map, Option, Some, None, option_and_then, refl, sym, ap, subst, ◌∙◌, arith, ◌⊎◌, inl, inr, eq-eqb, eqb-true, le-ltb, le-leb, leb-true}
+use Rattle.std.proofs.Common.{◌≡◌, ◌==◌, ◌&&◌, ◌||◌, ◌+◌, ◌-◌, ◌≤◌, ◌++◌, ◌∷◌, [], ℕ, Bool, true, false, not, nat_lt, nat_le, if◌then◌else◌, List, map, Option, Some, None, option_and_then, refl, sym, ap, subst, ◌∙◌, arith, inl, inr, eq-eqb, eqb-true, le-ltb, le-leb, leb-true}
 use Rattle.std.proofs.Math.Path.{fun_ext}
 use Rattle.std.proofs.lemmas.{Bool.{cases_Bool, false≢true, ltb-false}, Option.none-some}
 use Rattle.std.specs.Option.{option_map_or}
-use Rattle.cap_word.specs.declared.word.{Cap.Cap, Word.Word}
+use Rattle.cap_word.specs.declared.word.{Word.Word}
 use Rattle.cap_bounds.specs.Bounds.{is_sound}
 use Rattle.cap_ops.specs.{Checks.first_of, declared.refusal.Refusal.{Refusal, TheVariants.{LimitPassed, Misplaced, PlaceTaken, UnsoundRoot, WrongCount, WrongResult}}}
 use Rattle.cap_ops.proofs.TestLemmas.{first_of-append_free, first_of-append_none, none_hold}
@@ -11,7 +11,7 @@ use Rattle.cap_log.specs.declared.{kinds.Step.Step, lines.Place.{Place, TheVaria
 use Rattle.cap_machine.specs.declared.limits.Limits.{Limits}
 use Rattle.cap_machine.specs.Accounts.{Account, most_steps, named_by, naming, passes_granule_limit, row_in, with_step}
 use Rattle.cap_machine.specs.{declared.rules.Rules.Rules, Runs.parent_of, States.{State, put}}
-use Rattle.cap_machine.specs.Steps.{Access, agrees, row_of}
+use Rattle.cap_machine.specs.Steps.{Access, agrees}
 use Rattle.cap_objects.specs.{Counts.Owners, Extents.Objects}
 use Rattle.cap_run_log.specs.declared.lines.{RunLine.RunLine, RunPlace.RunPlace, RunStep.RunStep}
 use Rattle.cap_run_log.specs.declared.lines.RunLine.TheVariants as lines
@@ -22,8 +22,8 @@ use Rattle.cap_run.specs.declared.{asks.Asks.Asks, ends.RunRefusal.RunRefusal}
 use Rattle.cap_run.specs.declared.ends.RunRefusal.TheVariants.{NoCapability, NoOwner, NotOwned, OwnerFreed, Usual}
 use Rattle.cap_run.specs.{Allowed.{AreAllowed, IsLineAllowed}, Descents.run_along, Erasure.{AllowsErased, erased_after, is_of_objects, object_lines}}
 use Rattle.cap_run.specs.{Owned.owner_for, Run.Run, UsualSteps.disowned}
-use Rattle.cap_run.specs.RunChanges.{account_in, granule_in, line_after, main_of, no_run, place_key, root_after, run_after, usual_after, with_freed}
-use Rattle.cap_run.specs.{RunChecks.{asked_checks, is_live, is_unowned, line_end, meets, number_end, owner_end, passes_limit, root_end, run_end, usual_end, uses_freed}, RunSteps.{or_later, step_limit}}
+use Rattle.cap_run.specs.RunChanges.{account_in, granule_in, line_after, no_run, place_key, root_after, run_after, usual_after, with_freed}
+use Rattle.cap_run.specs.{RunChecks.{asked_checks, is_live, meets, number_end, passes_limit, root_end, run_end, usual_end}, RunSteps.{or_later, step_limit}}
 use Rattle.cap_run.proofs.{ChoiceLemmas.last_checks, DescentLemmas.{along, along-fold}, MeetingLemmas.meets-which}
 
 -- a run without objects, with so many steps

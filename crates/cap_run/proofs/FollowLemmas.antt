@@ -1,25 +1,25 @@
 -- After a line a place has the owner of its parent, if it reaches some address.
-use Rattle.std.proofs.Common.{◌≡◌, ◌==◌, ◌&&◌, ◌+◌, ◌<◌, ◌≤◌, ◌∷◌, [], ℕ, Bool, true, false, IsTrue, not, nat_lt, nat_le, if◌then◌else◌, is_some, List, Option, Some, None, option_map, option_and_then, refl, sym, ap, subst, ◌∙◌, arith, ◌⊎◌, inl, inr, eq-eqb, eqb-true, le-ltb, lt-ltb}
+use Rattle.std.proofs.Common.{◌≡◌, ◌==◌, ◌&&◌, ◌<◌, ℕ, Bool, true, false, not, nat_lt, if◌then◌else◌, Option, Some, None, option_map, option_and_then, refl, sym, ap, subst, ◌∙◌, arith, inl, inr, eq-eqb, eqb-true, le-ltb, lt-ltb}
 use Rattle.std.proofs.lemmas.{Bool.{and_from, cases_Bool, cases_lt, cond-true, cond-false, false≢true, leb-true, Decides.eqb_tells}, Option.{none-some, same_Some}}
 use Rattle.cap_word.specs.declared.word.{Cap.Cap, Word.Word}
 use Rattle.cap_bounds.specs.Bounds.{base_of, top_of}
 use Rattle.cap_log.specs.declared.kinds.Step.{Step, TheVariants.{Move, ClearTag, SetBounds, SetBoundsExact, SetAddr}}
 use Rattle.cap_log.specs.declared.kinds.Step.TheVariants.{AndPerm, Seal, Unseal, LoadCap, StoreCap, Load, Store}
 use Rattle.cap_log.specs.{declared.lines.Place.{Place, TheVariants.{Register, Granule}}, Lines.IsStepInRange}
-use Rattle.cap_machine.specs.{Accounts.row_in, Labels.untagged, Runs.parent_of}
+use Rattle.cap_machine.specs.{Accounts.row_in, Labels.untagged}
 use Rattle.cap_machine.specs.States.{State, granule_key, key_of, put, tagged, untagged_null}
-use Rattle.cap_machine.specs.Steps.{Access, Row, granule_through, row_by, row_of, state_with}
+use Rattle.cap_machine.specs.Steps.{Access, Row, granule_through, row_of, state_with}
 use Rattle.cap_machine.proofs.StepLemmas.{hits, hits-row_by, parent_in, row_by-access}
 use Rattle.cap_objects.specs.Counts.{Owners}
 use Rattle.cap_run_log.specs.declared.lines.{RunLine.RunLine, RunPlace.RunPlace, RunRegister.RunRegister, RunStep.RunStep}
 use Rattle.cap_run_log.specs.declared.lines.RunLine.TheVariants as lines
-use Rattle.cap_run_log.specs.declared.lines.RunRegister.TheVariants.{General, Special}
+use Rattle.cap_run_log.specs.declared.lines.RunRegister.TheVariants.{Special}
 use Rattle.cap_run_log.specs.declared.lines.RunStep.TheVariants as steps
 use Rattle.cap_run_log.specs.RunLines.{IsRunLineInRange, IsRunStepInRange}
 use Rattle.cap_run.specs.{Allowed.IsLineAllowed, declared.asks.Asks.Asks, Descents.{line_parent, source_if}, Holders.{ReachesSome, handed_by}}
 use Rattle.cap_run.specs.{Owned.{is_empty, owner_for}, Run.{Run, first_special, register_key}, UsualSteps.disowned}
 use Rattle.cap_run.specs.RunChanges.{account_in, line_after, main_of, place_key, run_after, usual_after, with_freed}
-use Rattle.cap_run.proofs.{LineLemmas.{freed-state, hits_no_special, root_free}, OwnerLemmas.owner_for-some}
+use Rattle.cap_run.proofs.{LineLemmas.{hits_no_special, root_free}, OwnerLemmas.owner_for-some}
 
 -- what a place holds after a line has the owner of its parent, if it reaches some address, and none otherwise
 pub record Follows (run : Run) (cap : Cap) (parent owner : Option ℕ) : Type 0 where

@@ -1,6 +1,6 @@
 -- Steps that hand out objects.
 use Rattle.std.specs.FinMap as map
-use Rattle.std.proofs.{Common.{◌≡◌, ◌==◌, ◌+◌, ◌-◌, ◌<◌, ◌≤◌, ◌&&◌, not, nat_lt, ℕ, Bool, true, false, Some, None, Option, inl, inr}, Math.Path.fun_ext}
+use Rattle.std.proofs.{Common.{◌≡◌, ◌==◌, ◌+◌, ◌-◌, ◌<◌, ◌≤◌, ◌&&◌, not, nat_le, nat_lt, ℕ, Bool, true, false, Some, None, Option, inl, inr}, Math.Path.fun_ext}
 use Rattle.std.proofs.Common.{if◌then◌else◌, is_some, MatchOption, le-ltb, lt-ltb, refl, sym, ap, subst, ◌∙◌, arith}
 use Rattle.std.proofs.lemmas.{Bool.{and_parts, cases_Bool, cases_lt, cond-true, cond-false, false≢true, lt-leb, Decides.{eqb_tells, nat_tests}}, Option.{none-some}}
 use Rattle.cap_word.specs.declared.word.Cap.{Cap}
@@ -11,7 +11,9 @@ use Rattle.cap_machine.specs.{Helds.Held}
 use Rattle.cap_objects.specs.{Counts.{Owners, at_key}, declared.{handouts.Handouts.Handouts, objects.Object.Object}, Extents.{Objects, Sets}, HandoutsIn.objects_of}
 use Rattle.cap_objects.specs.declared.handouts.HandOutFault.{HandOutFault, TheVariants.{Overlaps, StillHeld, NoMemory}}
 use Rattle.cap_objects.specs.{Handed.{AddsObject, RefusesExtent, handed_out, last_below, with_held}, Objects.top_of_extent}
-use Rattle.cap_run.specs.declared.{ends.RunRefusal.RunRefusal, specials.Specials.Specials}
+use Rattle.cap_ops.specs.declared.refusal.Refusal.TheVariants.{LimitPassed}
+use Rattle.cap_machine.specs.Accounts.{most_steps}
+use Rattle.cap_run.specs.declared.{ends.RunRefusal.{RunRefusal, TheVariants.Usual}, specials.Specials.Specials}
 use Rattle.cap_run.specs.ObjectSteps.{ExtentEnds, HandsOut, ended, first_holders, is_capability, object_refusal}
 use Rattle.cap_run.specs.{Owned.{IsWithin, is_empty, owner_for}, Run.Run, RunOf.{run_of, run_owners, run_state}, RunSteps.{IsUnstepped, step_limit}}
 
@@ -28,6 +30,14 @@ refused-none false o one two is = absurd (none-some two (sym is))
 pub refusal-none : (old : Run) (register : ℕ) → object_refusal old register ≡ None
     → (is_capability (old.state register) ≡ true) × (old.owners register ≡ None)
 refusal-none old register is = refused-none (is_capability (old.state register)) (old.owners register) _ _ is
+
+-- the refusal of a step past the limit
+limit_some : (b : Bool) (one : RunRefusal) → is_some (if b then Some one else None) ≡ true → (if b then Some one else None) ≡ Some one
+limit_some true one is = refl
+limit_some false one is = absurd (false≢true is)
+
+pub limit-some : (run : Run) → is_some (step_limit run) ≡ true → step_limit run ≡ Some (Usual LimitPassed)
+limit-some run is = limit_some (nat_le most_steps run.steps) (Usual LimitPassed) is
 
 -- the extent of a new object
 pub extent-top : (number step base top : ℕ) → base < top → top_of_extent (handed_out number step base top) ≡ top

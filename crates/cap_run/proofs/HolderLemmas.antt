@@ -1,21 +1,18 @@
 -- What an `object` line does, and where the owner of a place comes from.
-use Rattle.std.proofs.Common.{◌≡◌, ◌==◌, ◌+◌, ◌<◌, ◌≤◌, ◌++◌, ◌∷◌, [], ℕ, Bool, true, false, IsTrue, if◌then◌else◌, is_some, List, Option, Some, None, refl, sym, ap, subst, ◌∙◌, arith, ◌⊎◌, inl, inr, eq-eqb}
-use Rattle.std.proofs.lemmas.{Bool.{cond-true, cond-false, false≢true, ltb-false, Decides.eqb_tells}, Option.{none-some, same_Some}}
-use Rattle.cap_word.specs.declared.word.Cap.{Cap}
-use Rattle.cap_bounds.specs.Bounds.{base_of, top_of}
-use Rattle.cap_machine.specs.{Parents.IsSoundState, States.{State, put}}
-use Rattle.cap_run_log.specs.declared.lines.{RunLine.RunLine, RunStep.RunStep}
+use Rattle.std.proofs.Common.{◌≡◌, ◌==◌, ◌+◌, ℕ, Bool, true, false, if◌then◌else◌, is_some, Option, Some, None, refl, sym, ap, subst, ◌∙◌, ◌⊎◌, inl, inr}
+use Rattle.std.proofs.lemmas.{Bool.{cond-true, cond-false, Decides.eqb_tells}, Option.{none-some, same_Some}}
+use Rattle.cap_machine.specs.{States.{State, put}}
+use Rattle.cap_run_log.specs.declared.lines.{RunLine.RunLine}
 use Rattle.cap_run_log.specs.declared.lines.RunLine.TheVariants as lines
 use Rattle.cap_run_log.specs.declared.lines.RunStep.TheVariants as steps
 use Rattle.cap_run_log.specs.RunLines.{IsRunLineInRange}
 use Rattle.cap_run.specs.declared.{asks.Asks.Asks, ends.RunRefusal.RunRefusal}
 use Rattle.cap_run.specs.declared.ends.RunRefusal.TheVariants.{HasOwner, NoCapability}
-use Rattle.cap_run.specs.{Allowed.{AreAllowed, IsLineAllowed}, Descents.{Descends, line_parent, run_along}, Holders.{OwnersDescend, PassesThrough, ReachesSome, handed_by}}
-use Rattle.cap_run.specs.{ObjectSteps.{is_capability, object_refusal}, Owned.owner_for, Run.Run, RunChanges.{line_after, no_run}}
+use Rattle.cap_run.specs.{Allowed.{IsLineAllowed}, Descents.{line_parent}, Holders.{ReachesSome, handed_by}}
+use Rattle.cap_run.specs.{ObjectSteps.{is_capability, object_refusal}, Owned.owner_for, Run.Run, RunChanges.{line_after}}
 use Rattle.cap_run.specs.RunSteps.{or_later}
-use Rattle.cap_run.proofs.{DescentLemmas.{along, along-append, along-fold, allowed_parts, nothing_tagged, sound_after, sound_along}}
-use Rattle.cap_run.proofs.FollowLemmas.{AllReach, Follows, line_follows, owner_for-reaches}
-use Rattle.cap_run.proofs.{LineLemmas.{later_none, root_free, stays_within}, OneRootLemmas.{between, cut_twice, one_chain, steps_grow}, OwnerLemmas.owner_for-some}
+use Rattle.cap_run.proofs.FollowLemmas.{AllReach, line_follows}
+use Rattle.cap_run.proofs.{LineLemmas.{later_none}, OwnerLemmas.owner_for-some}
 
 -- what an allowed `object` line does
 pub record Hands (run : Run) (line : RunLine) (register number : ℕ) : Type 0 where

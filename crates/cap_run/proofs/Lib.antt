@@ -8,6 +8,8 @@ mod FollowLemmas
 mod HolderLemmas
 mod PassLemmas
 mod PresentLemmas
+mod ExtentLemmas
+mod ApartLemmas
 mod NotHeldLemmas
 mod StillHeldLemmas
 mod ErasureLemmas
@@ -33,3 +35,4 @@ mod UsualNumberLemmas
 mod AskedLemmas
 mod AloneLemmas
 mod StepLineLemmas
+mod ToldLemmas

@@ -5,7 +5,7 @@ use Rattle.std.specs.{Cmp.Derive.both_true, Option.option_map_or}
 use Rattle.std.proofs.lemmas.{Bool.{and_parts, cases_Bool, cond-true, cond-false, false≢true, Decides.nat_tests}}
 use Rattle.cap_ops.specs.Checks.{first_of}
 use Rattle.cap_objects.specs.{Counts.{count_below, is_owner}, declared.objects.Object.Object, Objects.top_of_extent}
-use Rattle.cap_objects.specs.Extents.{AreLong, Meets, MeetsNone, Objects}
+use Rattle.cap_objects.specs.Extents.{AreLong, IsFirstMet, Meets, MeetsNone, Objects}
 use Rattle.cap_objects.specs.Handed.{HasRoom, RefusesExtent}
 use Rattle.cap_objects.specs.Indexes.{IsIndex, number_key}
 use Rattle.cap_objects.specs.declared.handouts.HandOutFault.TheVariants as hand
@@ -130,12 +130,19 @@ module _ (run : Run) (objects : Objects) (index : ℕ → Option ℕ) (known : I
       let met = where-shares base top o share in
       none at.0 o at.1 (λ is. other (of_slot at.0 o at.1 is ∙ ap Some at.2)) is_asked met.0 met.1 met.2)
 
-  no_live : (base < top → MeetsNone asks.held left_slot true objects base (top - 1)) → meets run left_number is_live base top ≡ false
-  no_live none = none_in is_live (λ slot o there other live is_long some met. none some slot o there (record {
+  -- no live object's extent is met, or that of one in a slot
+  pub no-live-met : (base < top → MeetsNone asks.held left_slot true objects base (top - 1)) → meets run left_number is_live base top ≡ false
+  no-live-met none = none_in is_live (λ slot o there other live is_long some met. none some slot o there (record {
     compared = compared_live asks.held o.long o.freed live is_long;
     other = other;
     lives = λ asked. not_true o.freed live;
   }) met)
+
+  pub live-met : (slot : ℕ) → base < top → IsFirstMet asks.held left_slot true objects base (top - 1) slot
+      → meets run left_number is_live base top ≡ true
+  live-met slot some it =
+      met_in is_live slot it.object it.there it.asked.other (ap not (it.asked.lives refl))
+      (and_parts it.object.long (asks.held || not it.object.freed) it.asked.compared).0 some it.meets
 
   no_freed : HasRoom asks.held left_slot objects base top → (asks.held && meets run left_number is_freed base top) ≡ false
   no_freed room = elim (cases_Bool asks.held) [
@@ -154,15 +161,13 @@ module _ (run : Run) (objects : Objects) (index : ℕ → Option ℕ) (known : I
 
   pub extent-room : HasRoom asks.held left_slot objects base top → extent_end asks run left_number base top ≡ None
   extent-room room = no_check (meets run left_number is_live base top) (asks.held && meets run left_number is_freed base top) Overlaps StillHeld
-      (no_live (room_live room)) (no_freed room)
+      (no-live-met (room_live room)) (no_freed room)
 
   pub extent-overlaps : (slot : ℕ) → RefusesExtent asks.held left_slot objects base top (hand.Overlaps slot)
       → extent_end asks run left_number base top ≡ Some Overlaps
   extent-overlaps slot refuses =
-      let it = refuses.1 in
-      let is_long = (and_parts it.object.long (asks.held || not it.object.freed) it.asked.compared).0 in
       first_check (meets run left_number is_live base top) (asks.held && meets run left_number is_freed base top) Overlaps StillHeld
-      (met_in is_live slot it.object it.there it.asked.other (ap not (it.asked.lives refl)) is_long refuses.0 it.meets)
+      (live-met slot refuses.0 refuses.1)
 
   pub extent-held : (slot : ℕ) → RefusesExtent asks.held left_slot objects base top (hand.StillHeld slot)
       → extent_end asks run left_number base top ≡ Some StillHeld
@@ -176,5 +181,5 @@ module _ (run : Run) (objects : Objects) (index : ℕ → Option ℕ) (known : I
       ] in
       let keeps = freed_kept asks.held it.object.long it.object.freed it.asked.compared freed in
       second_check (meets run left_number is_live base top) (asks.held && meets run left_number is_freed base top) Overlaps StillHeld
-      (no_live (λ some. refuses.1))
+      (no-live-met (λ some. refuses.1))
       (both_true keeps (met_in is_freed slot it.object it.there it.asked.other freed is_long refuses.0 it.meets))

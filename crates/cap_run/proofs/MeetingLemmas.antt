@@ -1,6 +1,6 @@
 -- Which extents an interval shares an address with.
-use Rattle.std.proofs.Common.{◌≡◌, ◌≢◌, ◌+◌, ◌&&◌, ◌<◌, ◌≤◌, ℕ, zero, suc, Bool, true, false, not, nat_lt, min, max, if◌then◌else◌, Option, Some, None, refl, sym, ap, ◌∙◌, arith, ◌⊎◌, inl, inr, lt-ltb}
-use Rattle.std.proofs.lemmas.{Bool.{and_from, and_parts, cases_Bool, cases_lt, false≢true, ltb-true, not-false}, Option.none-some}
+use Rattle.std.proofs.Common.{◌≡◌, ◌+◌, ◌&&◌, ◌<◌, ◌≤◌, ℕ, zero, suc, Bool, true, false, not, min, max, Option, Some, None, refl, ap, ◌∙◌, arith, inl, inr, lt-ltb}
+use Rattle.std.proofs.lemmas.{Bool.{and_from, and_parts, cases_Bool, false≢true, ltb-true}}
 use Rattle.std.specs.Option.{option_map_or}
 use Rattle.cap_objects.specs.{Counts.{count_below, is_owner}, declared.objects.Object.Object, Objects.{Share, top_of_extent}}
 use Rattle.cap_objects.proofs.BelowLemmas.{below-where, one}

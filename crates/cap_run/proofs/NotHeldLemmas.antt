@@ -1,5 +1,5 @@
 -- Which checks never refuse as StillHeld.
-use Rattle.std.proofs.Common.{◌≡◌, ◌==◌, ◌&&◌, ◌||◌, ◌++◌, ◌∷◌, [], ℕ, Bool, true, false, not, if◌then◌else◌, is_some, nat_le, nat_lt, List, map, Option, Some, None, option_map, refl, sym, subst, ◌⊎◌, inl, inr}
+use Rattle.std.proofs.Common.{◌&&◌, ◌||◌, ◌++◌, ◌∷◌, [], ℕ, Bool, true, false, not, if◌then◌else◌, is_some, nat_le, nat_lt, List, map, Option, Some, None, option_map}
 use Rattle.std.specs.Option.{option_map_or}
 use Rattle.cap_word.specs.declared.word.{Cap.Cap, Word.Word}
 use Rattle.cap_bounds.specs.Bounds.{is_sound}
@@ -17,7 +17,7 @@ use Rattle.cap_run.specs.declared.{asks.Asks.Asks, ends.RunRefusal.RunRefusal}
 use Rattle.cap_run.specs.declared.ends.RunRefusal.TheVariants as refusals
 use Rattle.cap_run.specs.{ObjectSteps.{is_capability, object_refusal}, Run.Run, RunChanges.{account_in, granule_in, place_key}}
 use Rattle.cap_run.specs.RunChecks.{asked_checks, is_live, is_unowned, number_end, owner_end, passes_limit, root_end, usual_end, uses_freed}
-use Rattle.cap_run.specs.RunSteps.{derive_end, derive_refusal, derived_refusal, exchange_end, invoke_end, invoke_refusal, invoked_refusal, is_pcc, or_later, step_limit}
+use Rattle.cap_run.specs.RunSteps.{derive_end, derive_refusal, derived_refusal, exchange_end, invoke_end, invoke_refusal, is_pcc, or_later, step_limit}
 use Rattle.cap_run.proofs.ChoiceLemmas.{last_checks}
 
 -- an end that isn't StillHeld

@@ -1,21 +1,22 @@
 -- An access that touches a byte of a live object goes through a capability that an object owns, if that is asked.
-use Rattle.std.proofs.Common.{◌≡◌, ◌&&◌, ◌||◌, ◌+◌, ◌≤◌, ◌++◌, ◌∷◌, [], ℕ, Bool, true, false, not, IsTrue, is_none, List, map, Option, Some, None, refl, sym, ap, ◌∙◌, arith, ◌⊎◌, inl, inr}
-use Rattle.std.proofs.lemmas.{Bool.{and_from, false≢true, Decides.eqb_tells}, Option.none-some}
+use Rattle.std.proofs.Common.{◌≡◌, ◌&&◌, ◌||◌, ◌+◌, ◌++◌, ◌∷◌, ℕ, Bool, true, false, not, IsTrue, is_none, List, map, Option, Some, None, refl, sym, ap, subst, ◌∙◌, arith, inl, inr}
+use Rattle.std.proofs.lemmas.{Bool.{false≢true, Decides.eqb_tells}, Option.none-some}
 use Rattle.std.specs.Option.{option_map_or}
+use Rattle.cap_bounds.specs.Bounds.{IsInside}
 use Rattle.cap_ops.specs.{Checks.first_of, declared.refusal.Refusal.Refusal}
 use Rattle.cap_ops.proofs.TestLemmas.{first_of-append_free, none_hold}
 use Rattle.cap_log.specs.declared.kinds.Step.{Step}
-use Rattle.cap_machine.specs.Accounts.{named_by, row_in}
+use Rattle.cap_machine.specs.Accounts.{row_in}
 use Rattle.cap_machine.specs.Steps.{Access, Row, row_of}
 use Rattle.cap_machine.proofs.StepLemmas.{row_by-access}
-use Rattle.cap_objects.specs.{declared.objects.Object.Object, Objects.{Share, top_of_extent}}
+use Rattle.cap_objects.specs.{declared.objects.Object.Object, Objects.{top_of_extent}}
 use Rattle.cap_run_log.specs.declared.lines.RunLine.{RunLine}
 use Rattle.cap_run_log.specs.declared.lines.RunLine.TheVariants as lines
-use Rattle.cap_run.specs.declared.{asks.Asks.Asks, ends.RunRefusal.RunRefusal}
+use Rattle.cap_run.specs.declared.{asks.Asks.Asks}
 use Rattle.cap_run.specs.declared.ends.RunRefusal.TheVariants.{Usual}
-use Rattle.cap_run.specs.{Allowed.IsLineAllowed, Choices.{IsOwnedAccess, IsOwnersAccess}, Descents.{access_of, run_along}, Run.Run, Safety.{IsGuarded, IsSafe}, RunChanges.{account_in, main_of}}
+use Rattle.cap_run.specs.{Allowed.{AreAllowed, IsLineAllowed}, OwnedAccesses.{AccessesOwn, IsOwnersAccess}, Choices.IsOwnedAccess, Descents.{access_of, run_along}, Run.Run, Safety.IsSafe, RunChanges.{account_in, main_of, no_run}}
 use Rattle.cap_run.specs.RunChecks.{asked_checks, is_live, is_unowned, meets, uses_freed, usual_end}
-use Rattle.cap_run.proofs.{ChoiceLemmas.last_checks, DescentLemmas.granted_in, MeetingLemmas.{IsMet, meets-where}, PresentLemmas.{AreFew, all_counted, few_of}}
+use Rattle.cap_run.proofs.{ChoiceLemmas.last_checks, ApartLemmas.safe_at_each, DescentLemmas.{along-fold, allowed_parts, granted_in}, MeetingLemmas.{meets-where}, PresentLemmas.{AreFew, all_counted, few_of}}
 
 module _ (asks : Asks) (run : Run) (step : Step) (free : usual_end asks run step ≡ None) where
   -- the checks of what is asked of an access
@@ -77,34 +78,49 @@ live_owner run access owner object owned there unused =
     ap (λ (o : Option Object). not (option_map_or is_live o false)) (sym there)
     ∙ ap (λ (o : Option ℕ). option_map_or (λ number. not (option_map_or is_live (run.objects number) false)) o false) (sym owned) ∙ unused)
 
--- a live object's byte is touched through its own capability, where objects are apart
-module _ (asks : Asks) (run : Run) (line : RunLine) (safe : IsSafe asks.held run) (asked : IsTrue (asks.held || asks.used)) (allowed : IsLineAllowed asks run line) where
-  -- the owner of an authority is one of those that are kept apart
-  guarded_by : (access : Access) (owner : ℕ) (object : Object) → access_of run line ≡ Some access → run.owners access.authority ≡ Some owner
-      → run.objects owner ≡ Some object → IsGuarded asks.held object
-  guarded_by access owner object is owned there loose =
-      let used : asks.used ≡ true = ap (λ (b : Bool). b || asks.used) (sym loose) ∙ asked in
-      live_owner run access owner object owned there (freed_unused asks run line access used allowed is)
-
-  own_access : AreFew run → IsTrue asks.owned → IsOwnersAccess run line
-  own_access few owned access number object is there live share =
-      let owner = owned_access asks run line owned allowed access number object is (few number object there) there live share in
-      let within = safe.within access.authority owner.0 owner.1 in
+module _ (asks : Asks) (run : Run) (line : RunLine) (safe : IsSafe asks.held run) (allowed : IsLineAllowed asks run line) where
+  -- an access lies in the extent of the object that owns its authority
+  pub in_owner : AccessesOwn asks run line
+  in_owner access number is owned =
+      let within = safe.within access.authority number owned in
       let granted_is = (granted_in asks run line access allowed is).1 in
+      let inside : IsInside access.address (access.address + access.size) within.0.base (top_of_extent within.0) =
+      ((let p = granted_is.from in let q = within.3.from in omega (arith, p, q)), (let p = granted_is.until in let q = within.3.until in omega (arith, p, q))) in
+      record {
+        object = within.0;
+        there = within.1;
+        inside = inside;
+        live = λ used. live_owner run access number within.0 owned within.1 (freed_unused asks run line access used allowed is);
+        alone = λ other another there differ guard guard_other share.
+            safe.extents number other within.0 another within.1 there differ guard guard_other (
+              share.0,
+              (let p = share.1 in let q = inside.0 in omega (arith, p, q)),
+              (let p = share.2 in let q = inside.1 in omega (arith, p, q)),
+              share.3,
+              share.4,
+            );
+      }
+
+  -- a live object's byte is touched through its own capability
+  own_access : AreFew run → IsTrue (asks.held || asks.used) → IsTrue asks.owned → IsOwnersAccess run line
+  own_access few asked owned access number object is there live share =
+      let owner = owned_access asks run line owned allowed access number object is (few number object there) there live share in
+      let it = in_owner access owner.0 is owner.1 in
       elim (eqb_tells owner.0 number) [
         | inl same ↦ owner.1 ∙ ap Some same.1
         | inr unlike ↦ absurd (
-            safe.extents owner.0 number within.0 object within.1 there unlike.1 (guarded_by access owner.0 within.0 is owner.1 within.1) (λ loose. live)
-            (let address = share.1 in let below = share.2 in let in_object = share.3 in let under = share.4 in (
-              share.0,
-              omega (arith, address, granted_is.from, within.3.from),
-              omega (arith, below, granted_is.until, within.3.until),
-              in_object,
-              under,
-            )))
+            it.alone number object there unlike.1 (λ loose. it.live (ap (λ (b : Bool). b || asks.used) (sym loose) ∙ asked)) (λ loose. live) share)
       ]
 
-pub owners_access : (asks : Asks) (before : List RunLine) (line : RunLine) → IsTrue asks.owned → IsTrue (asks.held || asks.used)
-    → IsSafe asks.held (run_along before) → IsLineAllowed asks (run_along before) line → IsOwnersAccess (run_along before) line
-owners_access asks before line owned asked safe allowed =
-    own_access asks (run_along before) line safe asked allowed (few_of (run_along before) (all_counted before)) owned
+module _ (asks : Asks) (before after : List RunLine) (line : RunLine) (allowed : AreAllowed asks no_run (before ++ line ∷ after)) where
+  next_allowed : IsLineAllowed asks (run_along before) line
+  next_allowed =
+      subst (λ (run : Run). IsLineAllowed asks run line) (sym (along-fold no_run before)) (allowed_parts asks no_run before (line ∷ after) allowed).1.1
+
+  pub accesses_own : AccessesOwn asks (run_along before) line
+  accesses_own = in_owner asks (run_along before) line (safe_at_each asks before (line ∷ after) allowed) next_allowed
+
+  pub owners_access : IsTrue asks.owned → IsTrue (asks.held || asks.used) → IsOwnersAccess (run_along before) line
+  owners_access owned asked =
+      own_access asks (run_along before) line (safe_at_each asks before (line ∷ after) allowed) next_allowed
+      (few_of (run_along before) (all_counted before)) asked owned

@@ -1,10 +1,8 @@
 -- An object owns just what descends from one of its registers.
-use Rattle.std.proofs.Common.{◌≡◌, ◌==◌, ◌+◌, ◌<◌, ◌≤◌, ◌++◌, ◌∷◌, [], ℕ, true, IsTrue, List, Option, Some, None, refl, sym, ap, subst, ◌∙◌, arith, ◌⊎◌, inl, inr, eq-eqb, if◌then◌else◌}
+use Rattle.std.proofs.Common.{◌≡◌, ◌==◌, ◌<◌, ◌++◌, ◌∷◌, [], ℕ, List, Some, refl, sym, ap, subst, ◌∙◌, arith, ◌⊎◌, inl, inr, eq-eqb}
 use Rattle.std.proofs.lemmas.{Bool.{cond-true, ltb-false}, Option.{none-some, same_Some}}
-use Rattle.cap_word.specs.declared.word.Cap.{Cap}
 use Rattle.cap_machine.specs.{Parents.IsSoundState, States.State}
 use Rattle.cap_run_log.specs.declared.lines.RunLine.{RunLine}
-use Rattle.cap_run_log.specs.declared.lines.RunLine.TheVariants as lines
 use Rattle.cap_run_log.specs.RunLines.{IsRunLineInRange}
 use Rattle.cap_run.specs.declared.asks.Asks.{Asks}
 use Rattle.cap_run.specs.{Allowed.{AreAllowed, DeclaresAt, IsLineAllowed}, Descents.{Descends, line_parent, run_along}, Holders.{OwnersDescend, PassesThrough, ReachesSome, handed_by}}

@@ -1,12 +1,12 @@
 -- The objects of a run are present, and their counts are those of the places that they own.
-use Rattle.std.proofs.Common.{◌≡◌, ◌≢◌, ◌==◌, ◌||◌, ◌+◌, ◌<◌, ◌≤◌, ◌∷◌, [], ℕ, Bool, true, false, not, nat_lt, if◌then◌else◌, List, Option, Some, None, option_map, option_and_then, refl, sym, ap, subst, ◌∙◌, arith, ◌⊎◌, inl, inr, eqb-true}
+use Rattle.std.proofs.Common.{◌≡◌, ◌||◌, ◌+◌, ◌<◌, ◌≤◌, ◌∷◌, [], ℕ, Bool, true, not, nat_lt, List, Option, Some, None, option_map, option_and_then, refl, sym, ap, subst, ◌∙◌, arith, inl, inr, eqb-true}
 use Rattle.std.proofs.lemmas.{Bool.{cases_Bool, cond-true, cond-false, false≢true, ltb-true}, Option.{none-some, same_Some}}
-use Rattle.cap_objects.specs.{Counts.{Owners, is_owner, most_places, owned_by}, declared.objects.Object.Object, Extents.{Objects, is_present}}
+use Rattle.cap_objects.specs.{Counts.{is_owner, most_places, owned_by}, declared.objects.Object.Object, Extents.{is_present}}
 use Rattle.cap_objects.specs.{Handed.{freed_in, with_held}, Indexes.kept}
 use Rattle.cap_run_log.specs.declared.lines.{RunLine.RunLine, RunStep.RunStep}
 use Rattle.cap_run_log.specs.declared.lines.RunLine.TheVariants as lines
 use Rattle.cap_run_log.specs.declared.lines.RunStep.TheVariants as steps
-use Rattle.cap_run.specs.{Descents.run_along, Run.Run, RunChanges.{counted, line_after, no_run, run_after, stepped, with_freed, with_object}}
+use Rattle.cap_run.specs.{Descents.run_along, Run.Run, RunChanges.{line_after, no_run, run_after, stepped, with_freed, with_object}}
 use Rattle.cap_run.proofs.{DescentLemmas.{along, along-fold}, MeetingLemmas.below-which, OwnerLemmas.either-key}
 
 -- an object's number is one of those handed out; it is present, and its count is that of the places that it owns
@@ -77,7 +77,7 @@ run_counted run (steps.Widen register number) known = stepped_counted _ (changed
 run_counted run (steps.FreeOwner register) known = freed_counted run (run.owners register) known
 run_counted run (steps.FreeNumber number) known = freed_counted run (Some number) known
 
-line_counted : (run : Run) (line : RunLine) → AreCounted run → AreCounted (line_after run line)
+pub line_counted : (run : Run) (line : RunLine) → AreCounted run → AreCounted (line_after run line)
 line_counted run lines.Version known = known
 line_counted run (lines.Plain version) known = known
 line_counted run (lines.Mode mode) known =
@@ -92,7 +92,7 @@ counted_along : (run : Run) (read : List RunLine) → AreCounted run → AreCoun
 counted_along run [] known = known
 counted_along run (line ∷ rest) known = counted_along (line_after run line) rest (line_counted run line known)
 
-none_counted : AreCounted no_run
+pub none_counted : AreCounted no_run
 none_counted number object is = absurd (none-some object is)
 
 pub all_counted : (read : List RunLine) → AreCounted (run_along read)

@@ -1,23 +1,24 @@
 -- An `object` line is refused as StillHeld just where it meets a freed object that a place holds.
-use Rattle.std.proofs.Common.{◌≡◌, ◌≢◌, ◌==◌, ◌&&◌, ◌+◌, ◌≤◌, ◌∷◌, [], ℕ, Bool, true, false, IsTrue, not, nat_lt, nat_le, if◌then◌else◌, is_some, min, max, List, Option, Some, None, option_map, refl, sym, ap, subst, ◌∙◌, ◌⊎◌, inl, inr, fold, ne_eqb}
-use Rattle.std.proofs.lemmas.{Bool.{and_from, and_parts, cases_Bool, false≢true}, Option.{none-some, same_Some}}
+use Rattle.std.proofs.Common.{inl, inr, ◌≡◌, ◌==◌, ◌&&◌, ◌∷◌, [], ℕ, Bool, true, false, IsTrue, not, nat_lt, nat_le, if◌then◌else◌, is_some, min, max, List, Option, Some, None, option_map, refl, sym, ap, subst, ◌∙◌, ne_eqb}
+use Rattle.std.proofs.lemmas.{Bool.{false≢true}, Option.{none-some, same_Some}}
 use Rattle.std.specs.Option.{option_map_or}
 use Rattle.cap_bounds.specs.Bounds.{base_of, top_of}
 use Rattle.cap_ops.specs.{Checks.first_of, declared.refusal.Refusal.TheVariants.{LimitPassed}}
 use Rattle.cap_machine.specs.Accounts.{most_steps}
 use Rattle.cap_objects.specs.{Counts.is_owner, declared.objects.Object.Object, Objects.{Share, top_of_extent}}
-use Rattle.cap_run_log.specs.declared.lines.{RunLine.RunLine, RunStep.RunStep}
+use Rattle.cap_run_log.specs.declared.lines.{RunLine.RunLine}
 use Rattle.cap_run_log.specs.declared.lines.RunLine.TheVariants as lines
 use Rattle.cap_run_log.specs.declared.lines.RunStep.TheVariants as steps
 use Rattle.cap_run.specs.declared.{asks.Asks.Asks, ends.RunRefusal.RunRefusal}
 use Rattle.cap_run.specs.declared.ends.RunRefusal.TheVariants.{AlreadyFreed, HasOwner, NoCapability, NoObject, Overlaps, StillHeld, Usual}
 use Rattle.cap_run.specs.{Choices.IsAfterHeld, Descents.run_along, HeldExtents.{IsHeldExactly, MeetsHeld, extent_by}}
 use Rattle.cap_run.specs.{ObjectSteps.{is_capability, object_refusal}, Run.Run}
-use Rattle.cap_run.specs.RunChecks.{extent_end, growth_end, is_freed, is_live, line_end, meets, number_end, object_end, widen_end}
+use Rattle.cap_run.specs.RunChecks.{extent_end, growth_end, is_freed, is_live, line_end, meets, number_end}
 use Rattle.cap_run.specs.RunSteps.{or_later, step_limit}
-use Rattle.cap_run.proofs.MeetingLemmas.{IsMet, meets-where, meets-which}
+use Rattle.cap_run.proofs.ChoiceLemmas.{by_choice}
+use Rattle.cap_run.proofs.MeetingLemmas.{meets-where, meets-which}
 use Rattle.cap_run.proofs.NotHeldLemmas.{NotHeld, derive_end_not, end_not, exchange_end_not, fill_not, free_not, invoke_end_not, limit_not, number_not, owner_end_not, refusal_not, root_not, usual_not}
-use Rattle.cap_run.proofs.PresentLemmas.{AreCounted, IsCounted, all_counted, held_by}
+use Rattle.cap_run.proofs.PresentLemmas.{AreCounted, all_counted, held_by}
 
 never : (end : Option RunRefusal) → NotHeld end → end ≡ Some StillHeld → ⊥
 never end not_held is = subst NotHeld is not_held
@@ -54,6 +55,13 @@ number_if : (one two : Bool) → Stops (first_of ((one, NoObject) ∷ (two, Alre
 number_if true two refusal is after = subst IsAfterHeld (sym is) after
 number_if false true refusal is after = subst IsAfterHeld (sym is) after
 number_if false false refusal is after = none-some refusal is
+
+-- a line is refused as StillHeld where its interval meets a freed object that is held, and only there
+record IsHeldHere (asks : Asks) (run : Run) (line : RunLine) : Type 0 where
+  pub refused : (interval : ℕ × ℕ) → IsTrue asks.held → extent_by run line ≡ Some interval
+      → IsAfterHeld (line_end (record asks { held = false }) run line) → MeetsHeld run interval → line_end asks run line ≡ Some StillHeld
+  pub only : line_end asks run line ≡ Some StillHeld
+      → IsTrue asks.held × ((interval : ℕ × ℕ) × (extent_by run line ≡ Some interval) × MeetsHeld run interval)
 
 live_free : (freed : Bool) → (if not (not freed) then Some AlreadyFreed else None) ≡ None → freed ≡ false
 live_free true free = absurd (none-some AlreadyFreed (sym free))
@@ -112,7 +120,7 @@ module _ (asks : Asks) (run : Run) (known : AreCounted run) where
       held_there (meets run left_out is_live base top) asks.held (meets run left_out is_freed base top) (nat_le most_steps run.steps) after asked
       (held_met run left_out base top known it apart)
 
-  object_held : (register : ℕ) → IsHeldExactly asks run (lines.Run (steps.Object register))
+  object_held : (register : ℕ) → IsHeldHere asks run (lines.Run (steps.Object register))
   object_held register =
       let w = (run.state register).word.0 in
       let later_end : Asks → Option RunRefusal = λ (a : Asks). or_later (extent_end a run None (base_of w) (top_of w)) (step_limit run) in
@@ -158,7 +166,7 @@ module _ (asks : Asks) (run : Run) (known : AreCounted run) where
         share = subst (λ (i : ℕ × ℕ). Share i.0 i.1 it.object.base (top_of_extent it.object)) (sym same) it.share;
       }) apart
 
-  widen_held : (register number : ℕ) → IsHeldExactly asks run (lines.Run (steps.Widen register number))
+  widen_held : (register number : ℕ) → IsHeldHere asks run (lines.Run (steps.Widen register number))
   widen_held register number =
       let w = (run.state register).word.0 in
       let later_end : Asks → Option RunRefusal = λ (a : Asks). growth_later a number w (run.objects number) in
@@ -181,13 +189,13 @@ module _ (asks : Asks) (run : Run) (known : AreCounted run) where
       }
 
   -- a line that makes no extent
-  other_held : (line : RunLine) → extent_by run line ≡ None → NotHeld (line_end asks run line) → IsHeldExactly asks run line
+  other_held : (line : RunLine) → extent_by run line ≡ None → NotHeld (line_end asks run line) → IsHeldHere asks run line
   other_held line none not_held = record {
     refused = λ interval asked there after it. absurd (none-some interval (sym none ∙ there));
     only = λ is. absurd (never (line_end asks run line) not_held is);
   }
 
-  line_held : (line : RunLine) → IsHeldExactly asks run line
+  line_held : (line : RunLine) → IsHeldHere asks run line
   line_held lines.Version = other_held lines.Version refl tt
   line_held (lines.Mode mode) = other_held (lines.Mode mode) refl tt
   line_held (lines.Plain version) = other_held (lines.Plain version) refl tt
@@ -208,6 +216,22 @@ module _ (asks : Asks) (run : Run) (known : AreCounted run) where
   line_held (lines.Run (steps.FreeOwner register)) = other_held (lines.Run (steps.FreeOwner register)) refl (owner_end_not run register)
   line_held (lines.Run (steps.FreeNumber number)) = other_held (lines.Run (steps.FreeNumber number)) refl (free_not run number)
 
+-- where StillHeld isn't asked for, the checks after it are those that may refuse
+after_held : (asks : Asks) (run : Run) (line : RunLine) → ((other : Asks) → IsHeldHere other run line) → IsTrue asks.held
+    → line_end asks run line ≡ Some StillHeld → IsAfterHeld (line_end (record asks { held = false }) run line)
+after_held asks run line exactly asked is =
+    let with_it = ap (λ (h : Bool). line_end (record asks { held = h }) run line) (sym asked) ∙ is in
+    elim (by_choice asks run line).held [
+      | inl same ↦ absurd (false≢true ((exactly (record asks { held = false })).only (sym same ∙ with_it)).0)
+      | inr later ↦ later.1
+    ]
+
 pub held_exactly : (asks : Asks) (before : List RunLine) (line : RunLine) → IsHeldExactly asks (run_along before) line
 held_exactly asks before line =
-    line_held asks (run_along before) (all_counted before) line
+    let run = run_along before in
+    let exactly = λ (other : Asks). line_held other run (all_counted before) line in
+    let here = exactly asks in
+    record {
+      refused = here.refused;
+      only = λ is. let held = here.only is in (held.0, after_held asks run line exactly held.0 is, held.1);
+    }

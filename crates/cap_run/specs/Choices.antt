@@ -84,13 +84,6 @@ IsOwnedAccess run line =
     → Share access.address (access.address + access.size) object.base (top_of_extent object)
     → (owner : ℕ) × (run.owners access.authority ≡ Some owner)
 
--- an access that touches a byte of a live object goes through a capability that this object owns
-abbrev pub IsOwnersAccess : Run → RunLine → Type 0
-IsOwnersAccess run line =
-    (access : Access) (number : ℕ) (object : Object) → access_of run line ≡ Some access → run.objects number ≡ Some object
-    → object.freed ≡ false → Share access.address (access.address + access.size) object.base (top_of_extent object)
-    → run.owners access.authority ≡ Some number
-
 -- the refusals of lines as `first_refused` tells them: none where each is allowed, and that of the line after allowed ones
 pub record IsFirstRefused (asks : Asks) (run : Run) (before after : List RunLine) (line : RunLine) : Type 0 where
   pub none : AreAllowed asks run before → first_refused asks run before ≡ None

@@ -27,10 +27,11 @@ pub record MeetsHeld (run : Run) (interval : ℕ × ℕ) : Type 0 where
   pub holds : run.owners holder ≡ Some number
   pub share : Share interval.0 interval.1 object.base (top_of_extent object)
 
--- an `object` line that its other checks don't refuse is refused as StillHeld where its interval meets such an object and
--- that is asked; and no other line is refused so
+-- a line is refused as StillHeld where that is asked, it makes an interval an extent, its checks before don't refuse it, and
+-- the interval meets such an object; and nowhere else
 pub record IsHeldExactly (asks : Asks) (run : Run) (line : RunLine) : Type 0 where
   pub refused : (interval : ℕ × ℕ) → IsTrue asks.held → extent_by run line ≡ Some interval
       → IsAfterHeld (line_end (record asks { held = false }) run line) → MeetsHeld run interval → line_end asks run line ≡ Some StillHeld
   pub only : line_end asks run line ≡ Some StillHeld
-      → IsTrue asks.held × ((interval : ℕ × ℕ) × (extent_by run line ≡ Some interval) × MeetsHeld run interval)
+      → IsTrue asks.held × IsAfterHeld (line_end (record asks { held = false }) run line)
+      × ((interval : ℕ × ℕ) × (extent_by run line ≡ Some interval) × MeetsHeld run interval)

@@ -17,5 +17,6 @@ pub mod RootSteps
 pub mod Choices
 pub mod Holders
 pub mod HeldExtents
+pub mod OwnedAccesses
 pub mod Erasure
 pub mod StepLines

@@ -15,6 +15,7 @@ mod laws;
 mod lines;
 mod object_lines;
 mod object_steps;
+mod owned;
 mod puts;
 mod register_steps;
 mod roots;
@@ -26,11 +27,11 @@ mod usual_steps;
 pub use crate::asks::Asks;
 pub use crate::ends::{RunEnd, RunRefusal};
 pub use crate::laws::{
-    accesses_lie_in_roots, asking_less_allows_more, first_refused_is_first,
-    held_objects_are_met_exactly, lines_are_allowed_without_objects, lines_are_refused_by_choice,
-    lines_end_by_choice, lines_stay_within, objects_own_what_descends,
-    owned_accesses_are_of_owners, owned_accesses_have_owners, places_descend_from_one_root,
-    runs_stay_within_roots,
+    accesses_lie_in_roots, accesses_stay_in_owners, asking_less_allows_more,
+    first_refused_is_first, held_objects_are_met_exactly, lines_are_allowed_without_objects,
+    lines_are_refused_by_choice, lines_end_by_choice, lines_stay_within, objects_are_safe,
+    objects_own_what_descends, owned_accesses_are_of_owners, owned_accesses_have_owners,
+    places_descend_from_one_root, runs_stay_within_roots,
 };
 pub use crate::run_machine::RunMachine;
 pub use crate::specials::Specials;

@@ -322,7 +322,8 @@ impl<M: TaggedStore> RunMachine<M> {
         match self.owner(place) {
             None => Err(RunEnd::Refused(RunRefusal::NoOwner)),
             Some(slot) => {
-                if self.objects.object(slot).freed {
+                let freed = self.objects.object(slot).freed;
+                if freed {
                     return Err(RunEnd::Refused(RunRefusal::AlreadyFreed));
                 }
                 if self.step_limit().is_some() {

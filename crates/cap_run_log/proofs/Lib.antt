@@ -1,4 +1,4 @@
 mod Operands
 mod PartLemmas
 mod Rows
-mod Spellings
+pub mod Spellings

@@ -1,0 +1,6 @@
+mod TurnLemmas
+mod CountLemmas
+mod EndLemmas
+mod SourceLemmas
+mod TextLemmas
+mod OneVerdict

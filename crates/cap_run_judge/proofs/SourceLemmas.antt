@@ -1,0 +1,116 @@
+-- What a judge of run logs answers on the bytes that a source gave.
+use Rattle.std.proofs.Common.{◌≡◌, ◌≢◌, ℕ, ◌+◌, ◌≤◌, Bool, true, false, List, [], ◌∷◌, ◌++◌, length, refl, sym, ap}
+use Rattle.std.proofs.Common.{subst, ◌∙◌, append-nil, append_assoc, arith, Result, Ok, Err, IfOk, IfErr, ◌-◌, ◌*◌, ◌<◌}
+use Rattle.std.proofs.Common.{length-append}
+use Rattle.cap_streams.specs.{declared.judge_faults.JudgeFault.{JudgeFault, TheVariants.{Pull, NoMemory}}, Front.IsCut}
+use Rattle.cap_run_log.specs.declared.lines.RunLine.{RunLine}
+use Rattle.cap_run.specs.{declared.asks.Asks.Asks, Run.Run}
+use Rattle.cap_run_judge.specs.declared.{faults.RefusedRunLine.RefusedRunLine, verdict.RunVerdict.{RunVerdict, TheVariants.{Yes, No}}}
+use Rattle.cap_run_judge.specs.Turns.{Goes, Stage, text_of, unread}
+use Rattle.cap_run_judge.specs.Verdicts.{IsVerdict, MayLackMemory, NoVerdictIn}
+use Rattle.cap_run_judge.specs.Judgings.{BeginsLog, IsAnswerOf, IsVerdictOf, JudgedBy}
+use Rattle.cap_run_judge.specs.Readings.{EndsAs, EndsIn, EndsWith, IsAnswered, lines_read}
+use Rattle.cap_run_judge.proofs.{CountLemmas.count_read, TurnLemmas.goes_on}
+
+-- want of memory with more bytes after it
+lack-more : (asks_are : Asks) (bytes rest more : List ℕ) → MayLackMemory asks_are bytes rest → MayLackMemory asks_are (bytes ++ more) (rest ++ more)
+lack-more asks_are bytes rest more lack = record {
+  stage = lack.stage;
+  rest = lack.rest ++ more;
+  behind = record {
+    front = lack.behind.front;
+    bytes_are = ap (λ (b : List ℕ). b ++ more) lack.behind.bytes_are ∙ append_assoc lack.behind.front lack.rest more;
+    goes = lack.behind.goes;
+  };
+  lacks = record {
+    line = lack.lacks.line;
+    begins = (lack.lacks.begins.0, ap (λ (b : List ℕ). b ++ more) lack.lacks.begins.1 ∙ simp (append_assoc));
+    allowed = lack.lacks.allowed;
+    wants = lack.lacks.wants;
+  };
+}
+
+whole_verdict : (asks_are : Asks) (given rest : List ℕ) (ended : Bool) (verdict : RunVerdict) → (ended ≡ true → rest ≡ [])
+    → IsVerdictOf asks_are given ended verdict → IsVerdict asks_are (given ++ rest) verdict
+whole_verdict asks_are given rest true verdict end is =
+    subst (λ (b : List ℕ). IsVerdict asks_are b verdict) (sym (ap (λ (r : List ℕ). given ++ r) (end refl) ∙ append-nil given)) is
+whole_verdict asks_are given rest false (Yes steps roots objects) end is = absurd is
+whole_verdict asks_are given rest false (No line refusal) end is = is rest
+
+whole_answer : (asks_are : Asks) (given rest : List ℕ) (ended : Bool) (result : Result RunVerdict JudgeFault) → (ended ≡ true → rest ≡ [])
+    → IsAnswerOf asks_are given ended result → result ≢ Err Pull
+    → IfOk result (IsVerdict asks_are (given ++ rest)) × IfErr result (NoVerdictIn asks_are (given ++ rest))
+whole_answer asks_are given rest ended (Ok verdict) end answer no_pull =
+    (whole_verdict asks_are given rest ended verdict end answer.verdict, tt)
+whole_answer asks_are given rest ended (Err Pull) end answer no_pull = absurd (no_pull refl)
+whole_answer asks_are given rest ended (Err NoMemory) end answer no_pull =
+    (tt, (answer.fault.0 ++ rest, lack-more asks_are given answer.fault.0 rest answer.fault.1))
+
+-- what an answer for bytes given out of all bytes says of all
+pub of_all : (asks_are : Asks) (bytes given rest : List ℕ) (ended : Bool) (result : Result RunVerdict JudgeFault) → bytes ≡ given ++ rest
+    → (ended ≡ true → rest ≡ []) → IsAnswerOf asks_are given ended result → result ≢ Err Pull
+    → IfOk result (IsVerdict asks_are bytes) × IfErr result (NoVerdictIn asks_are bytes)
+of_all asks_are bytes given rest ended result are end answer no_pull =
+    subst (λ (b : List ℕ). IfOk result (IsVerdict asks_are b) × IfErr result (NoVerdictIn asks_are b)) (sym are)
+    (whole_answer asks_are given rest ended result end answer no_pull)
+
+-- a yes or a no, where a log ends
+pub ended_answer : (stage : Stage) (rest text : List ℕ) (end : Result RunVerdict RefusedRunLine) (answer : Result RunVerdict JudgeFault)
+    → IsAnswered end answer text → EndsAs stage rest end → (verdict : RunVerdict) × (answer ≡ Ok verdict) × EndsIn stage rest verdict text
+ended_answer stage rest text (Ok (Yes steps roots objects)) answer is ends = (Yes steps roots objects, is, ends)
+ended_answer stage rest text (Ok (No line refusal)) answer is ends = absurd ends
+ended_answer stage rest text (Err fault) answer is ends =
+    (No fault.line fault.refusal, is.0, subst (EndsIn stage rest (No fault.line fault.refusal)) (sym is.1) ends)
+
+module _ {S : Type 0} (asks_are : Asks) (gave : S → S → List ℕ → Type 0) (ended : S → Bool) (old new : S) (run_is : Run) (text given : List ℕ) where
+  -- the answer of a verdict
+  pub verdict_judged : (answer : Result RunVerdict JudgeFault) (verdict : RunVerdict) → answer ≡ Ok verdict
+      → EndsWith asks_are given (ended new) run_is verdict text → gave old new given → JudgedBy asks_are gave ended old new answer run_is text
+  verdict_judged answer verdict is ends gives =
+      rw is
+      (record {
+        judged = record { given = given; gives = gives; answer = record { verdict = ends.0; fault = tt } };
+        stops = ends.1;
+      })
+
+  -- want of memory
+  pub lacking_judged : (more : List ℕ) → MayLackMemory asks_are given more → gave old new given
+      → JudgedBy asks_are gave ended old new (Err JudgeFault.NoMemory) run_is text
+  lacking_judged more lack gives = record {
+    judged = record { given = given; gives = gives; answer = record { verdict = tt; fault = (more, lack) } };
+    stops = tt;
+  }
+
+  -- a source that failed after lines that begin a run log, and less than a line
+  pub pull_judged : (stage : Stage) (taken rest : List ℕ) → Goes (unread asks_are) taken stage → IsCut rest → given ≡ taken ++ rest
+      → gave old new given → JudgedBy asks_are gave ended old new (Err JudgeFault.Pull) run_is text
+  pull_judged stage taken rest goes cut are gives = record {
+    judged = record {
+      given = given;
+      gives = gives;
+      answer = record {
+        verdict = tt;
+        fault = record { stage = stage; rest = rest; behind = record { front = taken; bytes_are = are; goes = goes }; cut = cut };
+      };
+    };
+    stops = tt;
+  }
+
+-- lines were read, or what is left grows
+by_lines : (lines : List RunLine) (front rest kept more : List ℕ) (old new : ℕ) → front ≡ text_of lines → kept ++ more ≡ front ++ rest
+    → length kept ≤ 95 → length rest ≤ 95 → length more ≢ 0 → new ≡ old + length lines → new ≤ 8589934600
+    → 96 * (8589934700 - new) + 96 - length rest < 96 * (8589934700 - old) + 96 - length kept
+by_lines [] front rest kept more old new are split cut left some is few =
+    let long = ap length split ∙ ap (λ (f : List ℕ). length (f ++ rest)) are in
+    omega (arith, long, length-append kept more, some, is, few)
+by_lines (line ∷ lines) front rest kept more old new are split cut left some is few = omega (arith, cut, left, is, few)
+
+pub closer : (asks_are : Asks) (old new : Stage) (taken front kept more rest : List ℕ) → Goes (unread asks_are) taken old → Goes old front new
+    → kept ++ more ≡ front ++ rest → IsCut kept → IsCut rest → length more ≢ 0 → lines_read new ≤ 8589934600
+    → 96 * (8589934700 - lines_read new) + 96 - length rest < 96 * (8589934700 - lines_read old) + 96 - length kept
+unfolding goes_on
+closer asks_are old new taken front kept more rest was on split cut left some few =
+    let before = count_read asks_are taken old was in
+    let after = count_read asks_are (taken ++ front) new (goes_on (unread asks_are) old new taken front was on) in
+    by_lines on.lines front rest kept more _ _ on.bytes_are split cut.0 left.0 some
+    (after ∙ length-append was.lines on.lines ∙ ap (λ (n : ℕ). n + length on.lines) (sym before)) few

@@ -1,0 +1,169 @@
+-- What lines lead to, and where a judge of run logs stops.
+use Rattle.std.proofs.Common.{◌≡◌, ◌≢◌, ◌⊎◌, ℕ, ◌+◌, ◌-◌, inl, inr, true, false, Bool, List, [], ◌∷◌, ◌++◌, length, take, drop}
+use Rattle.std.proofs.Common.{refl, sym, ap, subst, ◌∙◌, arith, append-nil, append_assoc, None, Some, Option, Result, Ok, Err, IfOk, IsTrue}
+use Rattle.std.proofs.lemmas.{Grind.flat_map-append, Option.none-some}
+use Rattle.cap_log.specs.{declared.lines.Line.Line, Lines.Spells, Parts.{Begins, ReadsAs}}
+use Rattle.cap_log.proofs.SpellingLemmas.{one_spelling}
+use Rattle.cap_log.proofs.ElementLemmas.{AllByRecursion-append}
+use Rattle.cap_streams.specs.{FaultLines.bytes_of, Front.{IsCut, IsFront, IsFrontText, IsLine, IsTooLong}}
+use Rattle.cap_streams.proofs.FrontLemmas.{IsLine-not_cut, IsTooLong-not_cut}
+use Rattle.cap_judge.specs.{declared.judges.Stop.Stop, Judgings.IsLastFront}
+use Rattle.cap_judge.proofs.TurnLemmas.{cut_text, front_count}
+use Rattle.cap_run_log.specs.declared.lines.{RunLine.RunLine, RunPlace.RunPlace, RunStep.RunStep}
+use Rattle.cap_run_log.specs.RunLines.{IsRunLineInRange, SpellsRun, run_spelling}
+use Rattle.cap_run_log.proofs.Spellings.{run_spelling-plain, run_spelling-short}
+use Rattle.cap_run.specs.declared.{asks.Asks.Asks, ends.{RunEnd.RunEnd, RunRefusal.{RunRefusal, TheVariants.Usual}}}
+use Rattle.cap_run.specs.{Run.Run, RunChanges.{line_after, root_after, run_after, usual_after}}
+use Rattle.cap_run.specs.RunChecks.{Answers, line_end, line_wants, root_end, root_wants, run_end, run_wants, usual_end, usual_wants}
+use Rattle.cap_ops.specs.declared.refusal.Refusal.TheVariants.{Misplaced, Truncated}
+use Rattle.cap_run_judge.specs.declared.{faults.RefusedRunLine.RefusedRunLine, verdict.RunVerdict.RunVerdict}
+use Rattle.cap_run_judge.specs.declared.judges.NextRunLine as code
+use Rattle.cap_run_judge.specs.declared.judges.NextRunLine.TheVariants as stages
+use Rattle.cap_run_judge.specs.Turns.{Allows, AreSafe, Body, Due, Ended, Goes, IsSafeAt, Reads, Refused, Stage}
+use Rattle.cap_run_judge.specs.Turns.{refusal_at, stage_after, text_of}
+use Rattle.cap_run_judge.specs.Verdicts.{Lacks}
+use Rattle.cap_run_judge.specs.Readings.{AnswersLine, EndsAs, EndsAt, EndsFor, EndsIn, Faults, IsAtFault, RefusesNext, StopsAt, Takes, due_at_end}
+use Rattle.cap_run_judge.specs.Readings.{due_of, lines_by, lines_read, refused_at}
+
+-- Lines that are read
+
+pub Reads-append : (from middle to : Stage) (lines more : List RunLine) → Reads from lines middle → Reads middle more to
+    → Reads from (lines ++ more) to
+Reads-append from middle to [] more h k = subst (λ (stage : Stage). Reads stage more to) (sym h) k
+Reads-append from middle to (line ∷ lines) more h k = (h.0, Reads-append (stage_after from line) middle to lines more h.1 k)
+
+pub AreSafe-append : (from middle : Stage) (lines more : List RunLine) → Reads from lines middle → AreSafe from lines → AreSafe middle more
+    → AreSafe from (lines ++ more)
+AreSafe-append from middle [] more h s k = subst (λ (stage : Stage). AreSafe stage more) (sym h) k
+AreSafe-append from middle (line ∷ lines) more h s k = (s.0, AreSafe-append (stage_after from line) middle lines more h.1 s.1 k)
+
+pub goes_none : (stage : Stage) → Goes stage [] stage
+goes_none stage = record { lines = []; in_range = tt; bytes_are = refl; reads = refl; safe = tt }
+
+unfoldable pub goes_on : (first old new : Stage) (front more : List ℕ) → Goes first front old → Goes old more new
+    → Goes first (front ++ more) new
+goes_on first old new front more so_far next = record {
+  lines = so_far.lines ++ next.lines;
+  in_range = AllByRecursion-append IsRunLineInRange so_far.lines next.lines so_far.in_range next.in_range;
+  bytes_are = ap (λ (t : List ℕ). t ++ more) so_far.bytes_are ∙ ap (λ (t : List ℕ). text_of so_far.lines ++ t) next.bytes_are
+      ∙ sym (flat_map-append (λ (line : RunLine). run_spelling line ++ 10 ∷ []) so_far.lines next.lines);
+  reads = Reads-append first old new so_far.lines next.lines so_far.reads next.reads;
+  safe = AreSafe-append first old so_far.lines next.lines so_far.reads so_far.safe next.safe;
+}
+
+pub one_goes : (old new : Stage) (line : RunLine) → IsRunLineInRange line → Takes old line new → Goes old (run_spelling line ++ 10 ∷ []) new
+one_goes old new line range takes = record {
+  lines = line ∷ [];
+  in_range = (range, tt);
+  bytes_are = sym (append-nil _);
+  reads = (takes.0, sym takes.1);
+  safe = (subst IsSafeAt takes.1 takes.2, tt);
+}
+
+-- one line more
+pub goes_line : (first old new : Stage) (bytes front rest behind : List ℕ) (line : RunLine) → bytes ≡ front ++ rest
+    → Goes first front old → Begins IsRunLineInRange run_spelling 10 rest line behind → Takes old line new
+    → (fronts : List ℕ) × (bytes ≡ fronts ++ behind) × Goes first fronts new
+goes_line first old new bytes front rest behind line is so_far begins takes =
+    let more = run_spelling line ++ 10 ∷ [] in (
+      front ++ more,
+      is ∙ ap (λ (r : List ℕ). front ++ r) (begins.1 ∙ sym (append_assoc (run_spelling line) (10 ∷ []) behind))
+          ∙ sym (append_assoc front more behind),
+      goes_on first old new front more so_far (one_goes old new line begins.0 takes),
+    )
+
+-- Stops after what was taken
+
+stops_later : (first old new : Stage) (front middle rest : List ℕ) (stop : Stop) → Goes first front old
+    → StopsAt old middle rest stop new → StopsAt first (front ++ middle) rest stop new
+stops_later first old new front middle rest Stop.Cut so_far stop = (goes_on first old new front middle so_far stop.0, stop.1, stop.2)
+stops_later first old new front middle rest Stop.Fault so_far stop = (stop.0, goes_on first old stop.0 front middle so_far stop.1, stop.2)
+stops_later first old new front middle rest Stop.NoMemory so_far stop = (goes_on first old new front middle so_far stop.0, stop.1, stop.2)
+
+-- where the whole stopped
+pub stops_here : (first old new : Stage) (bytes front rest : List ℕ) (stop : Stop) → bytes ≡ front ++ rest → Goes first front old
+    → StopsAt old [] rest stop new
+    → StopsAt first (take (length bytes - length rest) bytes) (drop (length bytes - length rest) bytes) stop new
+stops_here first old new bytes front rest stop split on stops =
+    let counts = front_count bytes front rest split in
+    subst (λ (f : List ℕ). StopsAt first f (drop (length bytes - length rest) bytes) stop new) (append-nil front ∙ sym counts.0)
+    (subst (λ (r : List ℕ). StopsAt first (front ++ []) r stop new) (sym counts.1)
+    (stops_later first old new front [] rest stop on stops))
+
+-- Answers to lines
+
+-- the stage in a body
+abbrev pub body : Asks → Run → Stage
+body asks_are run_is = record { asks = asks_are; run = run_is; due = Body }
+
+-- a machine's answer to a line that leads to another body
+pub body_answers : (asks_are : Asks) (old new : Run) (line : RunLine) (result : Result (Unit {0}) RunEnd)
+    → stage_after (body asks_are old) line ≡ body asks_are (line_after old line)
+    → Answers (line_end asks_are old line) (line_after old line) (line_wants old line) old result new
+    → AnswersLine (body asks_are old) line result (body asks_are new)
+body_answers asks_are old new line (Ok done) next answers = (answers.0, ap (body asks_are) answers.1 ∙ sym next)
+body_answers asks_are old new line (Err (RunEnd.Refused refusal)) next answers = (answers.0, ap (body asks_are) answers.1)
+body_answers asks_are old new line (Err RunEnd.NoMemory) next answers = ((answers.0, answers.1), ap (body asks_are) answers.2)
+
+-- a line that leads to a stage where the run is safe is taken
+pub answer_takes : (old new : Stage) (line : RunLine) (result : Result (Unit {0}) RunEnd) → AnswersLine old line result new → IsSafeAt new
+    → IfOk result (λ _. Takes old line new)
+answer_takes old new line (Ok done) answers safe = (answers.0, answers.1, safe)
+answer_takes old new line (Err end) answers safe = tt
+
+-- Fronts
+
+pub IsLine-run_spelling : (line : RunLine) → IsRunLineInRange line → (rest : List ℕ) → IsLine (run_spelling line ++ 10 ∷ rest) (run_spelling line) rest
+IsLine-run_spelling line range rest = record { whole = refl; one = run_spelling-plain line range; short = run_spelling-short line range }
+
+-- a line at the front of some bytes
+pub line_is : (line : RunLine) (bytes rest : List ℕ) → Begins IsRunLineInRange run_spelling 10 bytes line rest → IsLine bytes (run_spelling line) rest
+line_is line bytes rest is = subst (λ (b : List ℕ). IsLine b (run_spelling line) rest) (sym is.1) (IsLine-run_spelling line is.0 rest)
+
+-- one that is not taken
+pub ends_at : (stage : Stage) (bytes rest : List ℕ) (line : RunLine) (end : RunEnd) → Begins IsRunLineInRange run_spelling 10 bytes line rest
+    → EndsFor stage line end → EndsAt stage bytes end
+ends_at stage bytes rest line (RunEnd.Refused refusal) is refused =
+    inl (run_spelling line, rest, line_is line bytes rest is, (Some line, (is.0, refl), refused))
+ends_at stage bytes rest line RunEnd.NoMemory is names = (rest, record { line = line; begins = is; allowed = names.0; wants = names.1 })
+
+-- no line of run logs has the text of a front that none begins
+pub no_line_text : (bytes text rest : List ℕ) → IsLine bytes text rest
+    → ((line : RunLine) (more : List ℕ) → Begins IsRunLineInRange run_spelling 10 bytes line more → ⊥) → ReadsAs IsRunLineInRange run_spelling text None
+no_line_text bytes text rest whole none line range is =
+    none line rest (range, whole.whole ∙ ap (λ (t : List ℕ). t ++ 10 ∷ rest) is)
+
+-- no line is faulty
+pub clear_of : (stage : code.NextRunLine) → ((fault : RefusedRunLine) → stage ≡ stages.Refused fault → ⊥) → IsAtFault (due_of stage) → ⊥
+clear_of (stages.Refused fault) clear is = clear fault refl
+clear_of stage clear is = is
+
+-- the text of what is refused, whatever follows
+pub last_front : (stage : Stage) (rest text : List ℕ) (refusal : RunRefusal) → RefusesNext stage rest refusal → IsFrontText rest text
+    → IsLastFront rest false text
+last_front stage rest text refusal refused (inl long) = inl long
+last_front stage rest text refusal (inl line) (inr (inl cut)) = absurd (IsLine-not_cut rest line.0 line.1 line.2 cut.0)
+last_front stage rest text refusal (inr long) (inr (inl cut)) = absurd (IsTooLong-not_cut rest long.0 cut.0)
+last_front stage rest text refusal refused (inr (inr whole)) = inr (inr whole)
+
+-- Where the bytes end
+
+-- the faulty line there
+pub ends_refused : (stage : Stage) (rest : List ℕ) (refusal : RunRefusal) (fault : RefusedRunLine)
+    → due_at_end stage.run stage.due rest ≡ Refused (lines_read stage + 1) refusal rest → IsCut rest
+    → fault.line ≡ lines_read stage + 1 → fault.refusal ≡ refusal → IsFrontText rest (bytes_of fault.text)
+    → EndsAs stage rest (Err fault)
+ends_refused stage rest refusal fault refused cut number same front =
+    refused ∙ cc (number, same, cut_text rest (bytes_of fault.text) cut front)
+
+pub ended_some : (run_is : Run) (rest : List ℕ) → rest ≢ []
+    → due_at_end run_is Ended rest ≡ Refused (lines_by run_is Ended + 1) (Usual Misplaced) rest
+ended_some run_is [] some = absurd (some refl)
+ended_some run_is (b ∷ rest) some = refl
+
+pub unended : (stage : code.NextRunLine) (run_is : Run) (rest : List ℕ) → (stage ≡ stages.Ended → ⊥)
+    → ((fault : RefusedRunLine) → stage ≡ stages.Refused fault → ⊥)
+    → due_at_end run_is (due_of stage) rest ≡ Refused (lines_by run_is (due_of stage) + 1) (Usual Truncated) rest
+unended stages.Ended run_is rest goes clear = absurd (goes refl)
+unended (stages.Refused fault) run_is rest goes clear = absurd (clear fault refl)
+unended stage run_is rest goes clear = refl

@@ -1,0 +1,28 @@
+use Rattle.std.proofs.Common.{◌≡◌, [], inl, refl, rules, subst, sym}
+use Rattle.cap_run_judge.specs.{Readings.{EndsAt, IsAtFault, StopsAt, stage_of}, Turns.Stage}
+use Rattle.cap_run_judge.proofs.TurnLemmas.{clear_of, ends_at, goes_none}
+use Rattle.cap_run_judge.proofs.judges.RunJudge.take_next.Goals as goal
+
+pub returns-in-Refused-clause-err : goal.returns-in-Refused-clause-err
+returns-in-Refused-clause-err g c =
+    let stage = stage_of c.args.self.now in
+    (stage, goes_none stage, inl (search rules, refl))
+
+pub stop-requires : goal.stop-requires
+stop-requires g c =
+    let old = stage_of c.args.self.now in
+    let bytes = c.args.bytes.now in
+    let answer = c.in-Err.ensures.answers in
+    record {
+      found = c.front.ensures.found;
+      clear = subst (λ (s : Stage). IsAtFault s.due → ⊥) (sym answer.1) (clear_of c.args.self.now.stage c.in_default.not-Refused);
+      ends = subst (λ (s : Stage). EndsAt s bytes c.in-Err.end) (sym answer.1)
+          (ends_at old bytes c.in-Some.rest.now c.in-Some.line c.in-Err.end c.in-Some.ensures.some answer.0);
+    }
+
+pub returns-in-Err : goal.returns-in-Err
+returns-in-Err g c = record {
+  ok = tt;
+  err = subst (λ (s : Stage). StopsAt s [] c.args.bytes.now c.stop.result (stage_of c.stop.new.self)) c.in-Err.ensures.answers.1
+      c.stop.ensures.stops;
+}

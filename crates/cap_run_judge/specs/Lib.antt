@@ -1,0 +1,5 @@
+pub mod Turns
+pub mod Verdicts
+pub mod VerdictLines
+pub mod Judgings
+pub mod Readings

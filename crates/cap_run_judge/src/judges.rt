@@ -1,0 +1,314 @@
+//! The judge of a run log: it is handed the log's bytes, cut anywhere, and reads the whole lines that stand there.
+
+ghost use Rattle.std.specs.Prelude.{◌≡◌, ◌≢◌, ◌≤◌, ◌+◌, ℕ, List, [], Err, IfErr, IfOk, Some, length, take, drop};
+ghost use Rattle.std.specs.FinMap as map;
+ghost use Rattle.cap_log.specs.Parts.{Begins};
+ghost use Rattle.cap_streams.specs.{FaultLines.bytes_of, Front.{IsCut, IsFront, IsFrontText}};
+ghost use Rattle.cap_judge.specs.declared.judges.Stop.TheVariants as stops;
+ghost use Rattle.cap_run_log.specs.{declared.lines.RunLine.RunLine, RunLines.{IsRunLineInRange, run_spelling}};
+ghost use Rattle.cap_run_judge.specs.declared.faults.RefusedRunLine.{RefusedRunLine as FaultIn};
+ghost use Rattle.cap_run_judge.specs.declared.judges.NextRunLine.TheVariants.{Body, Refused as RefusedIn};
+ghost use Rattle.cap_run_judge.specs.Readings.{AnswersLine, EndsAs, EndsAt, IsAtFault, IsFaultOf, StopsAt, Takes};
+ghost use Rattle.cap_run_judge.specs.Readings.{lines_read, stage_of};
+ghost use Rattle.cap_run_judge.specs.Turns.{refusal_at, unread};
+ghost use Rattle.cap_run.specs.{declared.ends.RunRefusal.TheVariants.Usual, RunChanges.rules_of};
+ghost use Rattle.cap_run_judge.specs.Verdicts.{long_refusal};
+
+use crate::faults::RefusedRunLine;
+use crate::verdict::RunVerdict;
+use cap_judge::{Stop, Taken};
+use cap_log::{Line, Mode, read_line};
+use cap_machine::{Refusal, Rules};
+use cap_run::{Asks, RunEnd, RunMachine, RunRefusal};
+use cap_run_log::{RunLine, take_run_line};
+use cap_streams::{FaultLine, Front, front};
+use std::alloc::Global;
+use tagmem::TaggedStore;
+
+/// What the next line of a run log has to be.
+#[derive(Drop)]
+pub enum NextRunLine {
+    /// The version line.
+    Version,
+    /// The mode line.
+    Mode,
+    /// A root, a step or the end line.
+    Body,
+    /// None: the end line has come.
+    Ended,
+    /// None: this line is faulty.
+    Refused(RefusedRunLine),
+}
+
+/// A judge that has read a beginning of a run log: the machine that its lines lead to, and what the next line has to
+/// be. After a fault the machine holds what it held before that line.
+#[derive(Drop)]
+pub struct RunJudge<M: TaggedStore> {
+    pub(crate) machine: RunMachine<M>,
+    pub(crate) stage: NextRunLine,
+}
+
+impl<M: TaggedStore> RunJudge<M> {
+    /// Nothing was read yet. The store has to be empty.
+    pub fn new(alloc: Global, memory: M, asks: Asks) -> RunJudge<M>
+        requires { map.len (M.contents memory) ≡ 0 }
+        ensures read { stage_of result ≡ unread asks }
+    {
+        RunJudge {
+            machine: RunMachine::new(alloc, memory, asks),
+            stage: NextRunLine::Version,
+        }
+    }
+
+    /// Takes the complete lines at the front of some bytes that follow those taken before. Stops at less than a
+    /// line, at the first faulty line, or if memory runs out. What wasn't taken may be handed over again, with more
+    /// after it. The count excludes the faulty line and all after it: its no holds whatever follows, and from then on
+    /// the count is 0.
+    pub fn take(&mut self, bytes: &[u8]) -> Taken
+        ensures count { result.count ≤ length bytes.now }
+        ensures stops { StopsAt (stage_of self.old) (take result.count bytes.now) (drop result.count bytes.now)
+            result.stop (stage_of self.new) }
+    {
+        let mut rest = bytes;
+        'lines: loop {
+            match self.take_next(rest) {
+                Ok(behind) => rest = behind,
+                Err(stop) => {
+                    let count = bytes.len() - rest.len();
+                    return Taken { count, stop };
+                }
+            }
+        }
+    }
+
+    /// The verdict if no other bytes follow than these, which are less than a line: a `yes`, or the faulty line.
+    pub fn ending(&self, rest: &[u8]) -> Result<RunVerdict, RefusedRunLine>
+        ensures ends { IsCut rest.now → EndsAs (stage_of self.now) rest.now result }
+        ensures fault { (fault : FaultIn) → self.now.stage ≡ RefusedIn fault → result ≡ Err fault }
+    {
+        match &self.stage {
+            NextRunLine::Refused(fault) => Err(*fault),
+            NextRunLine::Ended => {
+                if rest.is_empty() {
+                    Ok(RunVerdict::Yes {
+                        steps: self.machine.steps(),
+                        roots: self.machine.roots(),
+                        objects: self.machine.count(),
+                    })
+                } else {
+                    Err(self.fault(usual(Refusal::Misplaced), front(rest), rest))
+                }
+            }
+            _ => Err(self.fault(usual(Refusal::Truncated), front(rest), rest)),
+        }
+    }
+
+    /// The machine, as the lines so far left it, or those before the faulty line.
+    pub fn machine(&self) -> &RunMachine<M>
+        ensures held { result.now ≡ self.now.machine }
+    {
+        &self.machine
+    }
+
+    /// The faulty line, where one is: its `no` stays whatever lines follow.
+    pub fn refused(&self) -> Option<RefusedRunLine>
+        ensures fault { IsFaultOf (stage_of self.now).due result }
+    {
+        match &self.stage {
+            NextRunLine::Refused(fault) => Some(*fault),
+            _ => None,
+        }
+    }
+
+    // Takes the line at the front of some bytes: what follows it.
+    fn take_next<'a>(&mut self, bytes: &'a [u8]) -> Result<&'a [u8], Stop>
+        ensures ok { IfOk result (λ rest. (line : RunLine) × Begins IsRunLineInRange run_spelling 10 bytes.now line rest.now
+            × Takes (stage_of self.old) line (stage_of self.new)) }
+        ensures err { IfErr result (λ stop. StopsAt (stage_of self.old) [] bytes.now stop (stage_of self.new)) }
+    {
+        if let NextRunLine::Refused(_) = self.stage {
+            return Err(Stop::Fault);
+        }
+        match take_run_line(bytes) {
+            Some((line, rest)) => match self.take_line(&line) {
+                Ok(()) => Ok(rest),
+                Err(end) => Err(self.stop(end, front(bytes), bytes)),
+            },
+            None => Err(self.stop_at_other(bytes)),
+        }
+    }
+
+    // Takes a line.
+    fn take_line(&mut self, line: &RunLine) -> Result<(), RunEnd>
+        requires in_range { IsRunLineInRange line.now }
+        ensures answers { AnswersLine (stage_of self.old) line.now result (stage_of self.new) }
+        ensures safe { IfOk result (λ _. Takes (stage_of self.old) line.now (stage_of self.new)) }
+    {
+        let answer = self.follow(line);
+        self.machine.kept();
+        answer
+    }
+
+    // Stops where no line of run logs stands.
+    #[cold]
+    #[inline(never)]
+    fn stop_at_other(&mut self, bytes: &[u8]) -> Stop
+        requires clear { IsAtFault (stage_of self.old).due → ⊥ }
+        requires none { (line : RunLine) (rest : List ℕ) → Begins IsRunLineInRange run_spelling 10 bytes.now line rest → ⊥ }
+        ensures stops { StopsAt (stage_of self.old) [] bytes.now result (stage_of self.new) }
+    {
+        let found = front(bytes);
+        let refusal = match found {
+            Front::Cut => return Stop::Cut,
+            Front::TooLong => self.refusal_of_long(),
+            Front::Line(_) => self.refusal_of_formless(),
+        };
+        self.stop(RunEnd::Refused(refusal), found, bytes)
+    }
+
+    // Stops at a line that is not taken.
+    #[cold]
+    #[inline(never)]
+    fn stop(&mut self, end: RunEnd, found: Front, bytes: &[u8]) -> Stop
+        requires found { IsFront bytes.now found }
+        requires clear { IsAtFault (stage_of self.old).due → ⊥ }
+        requires ends { EndsAt (stage_of self.old) bytes.now end }
+        ensures stops { StopsAt (stage_of self.old) [] bytes.now result (stage_of self.new) }
+    {
+        match end {
+            RunEnd::NoMemory => Stop::NoMemory,
+            RunEnd::Refused(refusal) => {
+                self.stage = NextRunLine::Refused(self.fault(refusal, found, bytes));
+                Stop::Fault
+            }
+        }
+    }
+
+    // The next line, which these bytes begin with, as the faulty line.
+    fn fault(&self, refusal: RunRefusal, found: Front, bytes: &[u8]) -> RefusedRunLine
+        requires found { IsFront bytes.now found }
+        ensures line { result.line ≡ lines_read (stage_of self.now) + 1 }
+        ensures refusal { result.refusal ≡ refusal }
+        ensures front { IsFrontText bytes.now (bytes_of result.text) }
+    {
+        RefusedRunLine {
+            line: self.next_line(),
+            refusal,
+            text: FaultLine::of_front(found, bytes),
+        }
+    }
+
+    // The number of the next line.
+    fn next_line(&self) -> u64
+        ensures value { result ≡ lines_read (stage_of self.now) + 1 }
+        ensures few { result ≤ 8589934600 }
+    {
+        let body = u64::from(self.machine.roots()) + u64::from(self.machine.steps());
+        match self.stage {
+            NextRunLine::Version => 1,
+            NextRunLine::Mode => 2,
+            NextRunLine::Body => body + 3,
+            NextRunLine::Ended | NextRunLine::Refused(_) => body + 4,
+        }
+    }
+
+    // Few lines were read: the limits bound them. It does nothing: what it says is its contract.
+    #[inline(always)]
+    pub(crate) fn counted(&self)
+        ensures few { lines_read (stage_of self.now) ≤ 8589934600 }
+    {
+        let _ = self.next_line();
+    }
+
+    // Why more bytes than a line has are refused.
+    fn refusal_of_long(&self) -> RunRefusal
+        ensures { result ≡ long_refusal (stage_of self.now).due }
+    {
+        match self.stage {
+            NextRunLine::Version | NextRunLine::Mode | NextRunLine::Body => usual(
+                Refusal::LineTooLong,
+            ),
+            NextRunLine::Ended | NextRunLine::Refused(_) => usual(Refusal::Misplaced),
+        }
+    }
+
+    // Why a line is refused that has no form.
+    fn refusal_of_formless(&self) -> RunRefusal
+        ensures { refusal_at (stage_of self.now) None ≡ Some result }
+    {
+        match self.stage {
+            NextRunLine::Version => usual(Refusal::BadHeader),
+            NextRunLine::Mode => usual(Refusal::BadMode),
+            NextRunLine::Body => usual(Refusal::BadLine),
+            NextRunLine::Ended | NextRunLine::Refused(_) => usual(Refusal::Misplaced),
+        }
+    }
+
+    // Goes on by a line.
+    fn follow(&mut self, line: &RunLine) -> Result<(), RunEnd>
+        requires in_range { IsRunLineInRange line.now }
+        ensures { AnswersLine (stage_of self.old) line.now result (stage_of self.new) }
+    {
+        match self.stage {
+            NextRunLine::Version => match *line {
+                RunLine::Version => {
+                    self.stage = NextRunLine::Mode;
+                    Ok(())
+                }
+                _ => Err(RunEnd::Refused(usual(Refusal::BadHeader))),
+            },
+            NextRunLine::Mode => match *line {
+                RunLine::Mode(mode) => {
+                    self.machine.follow(rules_of(mode));
+                    self.stage = NextRunLine::Body;
+                    Ok(())
+                }
+                _ => Err(RunEnd::Refused(usual(Refusal::BadMode))),
+            },
+            NextRunLine::Body => self.follow_body(line),
+            NextRunLine::Ended | NextRunLine::Refused(_) => {
+                Err(RunEnd::Refused(usual(Refusal::Misplaced)))
+            }
+        }
+    }
+
+    // Goes on by a line after the header.
+    fn follow_body(&mut self, line: &RunLine) -> Result<(), RunEnd>
+        requires body { self.old.stage ≡ Body }
+        requires in_range { IsRunLineInRange line.now }
+        ensures { AnswersLine (stage_of self.old) line.now result (stage_of self.new) }
+    {
+        match *line {
+            RunLine::Version | RunLine::Plain(_) | RunLine::Mode(_) => {
+                Err(RunEnd::Refused(usual(Refusal::Misplaced)))
+            }
+            RunLine::Root(place, word) => self.machine.declare(place, word),
+            RunLine::Step(step) => self.machine.make_usual(&step),
+            RunLine::Run(step) => self.machine.make(&step),
+            RunLine::End(count) => {
+                if count != self.machine.steps() {
+                    return Err(RunEnd::Refused(usual(Refusal::WrongCount)));
+                }
+                self.stage = NextRunLine::Ended;
+                Ok(())
+            }
+        }
+    }
+}
+
+// A refusal that a log of version 2 has too.
+fn usual(refusal: Refusal) -> RunRefusal
+    ensures { result ≡ Usual refusal }
+{
+    RunRefusal::Usual(refusal)
+}
+
+// The rules of a mode.
+fn rules_of(mode: Mode) -> Rules
+    ensures { result ≡ rules_of mode }
+{
+    match mode {
+        Mode::Strict => Rules::TwoStrict,
+        Mode::Clear => Rules::TwoClear,
+    }
+}

@@ -1,0 +1,26 @@
+//! The judge of run logs: how a log is judged line by line, the verdicts and their texts.
+//!
+//! Hand the bytes of a run log to a [`RunJudge`], cut anywhere. [`judge_run`] judges what a source gives,
+//! [`judge_run_bytes`] bytes in memory. [`judge_run_keeping`] returns the machine with the answer, and after a `no` the
+//! refused line.
+#![tactic(auto)]
+
+mod faults;
+mod judges;
+mod laws;
+mod output;
+mod streams;
+mod verdict;
+mod verdict_lines;
+
+pub use crate::faults::RefusedRunLine;
+pub use crate::judges::RunJudge;
+pub use crate::laws::{one_run_verdict, stages_are_of_run_logs};
+pub use crate::output::push_run_verdict;
+pub use crate::streams::{
+    RunJudgeEnd, judge_run, judge_run_bytes, judge_run_in, judge_run_keeping,
+};
+pub use crate::verdict::RunVerdict;
+pub use crate::verdict_lines::{
+    run_refusal_name, run_refusal_number, run_verdict_status, run_verdict_text,
+};
