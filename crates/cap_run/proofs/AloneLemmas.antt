@@ -15,25 +15,33 @@ is_none : (o : Option ℕ) → ((slot : ℕ) → o ≡ Some slot → ⊥) → o 
 is_none None never = refl
 is_none (Some slot) never = absurd (never slot refl)
 
-then_none : (f : ℕ → Option ℕ) (o : Option ℕ) → ((k : ℕ) → f k ≡ None) → option_and_then f o ≡ None
+pub then_none : (f : ℕ → Option ℕ) (o : Option ℕ) → ((k : ℕ) → f k ≡ None) → option_and_then f o ≡ None
 then_none f None none = refl
 then_none f (Some k) none = none k
 
-module _ (held new : Held) (specials : Specials) (h : Handouts) (step : Step) (sized : length specials.labels ≡ 32)
-    (counts : CountsAre (run_owners held specials) (λ n. held_of (objects_of h n))) (stored : AreStored held.memory) (alone : h.count ≡ 0) where
+module _ (held : Held) (specials : Specials) (h : Handouts) (sized : length specials.labels ≡ 32)
+    (counts : CountsAre (run_owners held specials) (λ n. held_of (objects_of h n))) (alone : h.count ≡ 0) where
   -- no place has an owner
-  no-owner : (key : ℕ) → run_owners held specials key ≡ None
-  no-owner key = is_none (run_owners held specials key) (λ slot is.
+  pub unowned : (key : ℕ) → run_owners held specials key ≡ None
+  unowned key = is_none (run_owners held specials key) (λ slot is.
       let o = owner-there held specials (objects_of h) sized counts key slot is in
       let some = h.kept.some slot o.0 o.1 in
       let few = h.kept.few slot o.0 o.1 in
       let none : ⊥ = omega (arith, some, few, alone) in none)
 
-  main-none : (key : ℕ) → main_owners held key ≡ None
-  main-none key = elim (cases_lt key first_special) [
-    | inl near ↦ sym (owners-main held specials key near) ∙ no-owner key
+  pub main-unowned : AreStored held.memory → (key : ℕ) → main_owners held key ≡ None
+  main-unowned stored key = elim (cases_lt key first_special) [
+    | inl near ↦ sym (owners-main held specials key near) ∙ unowned key
     | inr far ↦ main-far held key stored far
   ]
+
+module _ (held new : Held) (specials : Specials) (h : Handouts) (step : Step) (sized : length specials.labels ≡ 32)
+    (counts : CountsAre (run_owners held specials) (λ n. held_of (objects_of h n))) (stored : AreStored held.memory) (alone : h.count ≡ 0) where
+  no-owner : (key : ℕ) → run_owners held specials key ≡ None
+  no-owner = unowned held specials h sized counts alone
+
+  main-none : (key : ℕ) → main_owners held key ≡ None
+  main-none = main-unowned held specials h sized counts alone stored
 
   module _ (makes : Makes held step new) where
     after-none : (key : ℕ) → main_owners new key ≡ None

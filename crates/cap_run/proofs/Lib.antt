@@ -34,4 +34,5 @@ mod RootLemmas
 mod UsualNumberLemmas
 mod AskedLemmas
 mod AloneLemmas
+mod StepLineLemmas
 mod ToldLemmas

@@ -38,7 +38,7 @@ past_memory : (memory : Granules) (granule : ℕ) (o : Option Entry) → AreStor
 past_memory memory granule None stored is far = refl
 past_memory memory granule (Some entry) stored is far = absurd (let e = (stored granule entry is).in_memory in omega arith)
 
-state-far : (held : Held) (key : ℕ) → AreStored held.memory → first_special ≤ key → state_of held key ≡ untagged_null
+pub state-far : (held : Held) (key : ℕ) → AreStored held.memory → first_special ≤ key → state_of held key ≡ untagged_null
 state-far held key stored far =
     let past : nat_lt key 32 ≡ false = le-ltb key 32 (omega arith) in
     cond-false (nat_lt key 32) _ (granule_cap held.memory (key - 32)) past
@@ -59,14 +59,15 @@ pub account-is : (held : Held) (specials : Specials) (h : Handouts) → AreStore
 account-is held specials h stored = ap (λ (s : State). record (plain held) { state = s }) (main-is held specials stored)
 
 -- naming leaves the rest, and sees no origins
-naming-rest : (account : Account) (granule : Option ℕ) → (let after = naming account granule in (after.rules ≡ account.rules) × (after.roots ≡ account.roots) × (after.limits ≡ account.limits))
+pub naming-rest : (account : Account) (granule : Option ℕ) → (let after = naming account granule in (after.rules ≡ account.rules) × (after.roots ≡ account.roots) × (after.limits ≡ account.limits))
 naming-rest account None = (refl, refl, refl)
 naming-rest account (Some granule) = (refl, refl, refl)
 
-naming-plain : (held : Held) (granule : Option ℕ) → (let one = naming (account_of held) granule in let two = naming (plain held) granule in
+pub naming-apart : (account : Account) (granule : Option ℕ)
+    → (let one = naming account granule in let two = naming (record account { origin = λ key. None }) granule in
     (one.is_named ≡ two.is_named) × (one.granules ≡ two.granules))
-naming-plain held None = (refl, refl)
-naming-plain held (Some granule) = (refl, refl)
+naming-apart account None = (refl, refl)
+naming-apart account (Some granule) = (refl, refl)
 
 -- the parent of what a step writes is a register or a granule
 address_low : (w : ℕ) (offset : ℤ) → access_address w offset / 16 < 2 ^ 60
@@ -93,19 +94,22 @@ parent-low state (Load step) place range is = absurd (none-some place is)
 parent-low state (Store step) place range is = absurd (none-some place is)
 
 -- the place that a step writes is a register but c0, or a granule
+pub writes-low : (state : State) (step : Step) → IsStepInRange step → IfSome (option_map (λ write. write.0) (row_of state step).writes) IsPlace
+writes-low state (Move step) range = range.0
+writes-low state (ClearTag step) range = range.0
+writes-low state (SetBounds step) range = range.0
+writes-low state (SetBoundsExact step) range = range.0
+writes-low state (SetAddr step) range = range.0
+writes-low state (AndPerm step) range = range.0
+writes-low state (Seal step) range = range.0
+writes-low state (Unseal step) range = range.0
+writes-low state (LoadCap step) range = range.0
+writes-low state (StoreCap step) range = address_low (state step.authority).word.0 step.offset
+writes-low state (Load step) range = tt
+writes-low state (Store step) range = address_low (state step.authority).word.0 step.offset
+
 pub written-low : (held : Held) (step : Step) → IsStepInRange step → IfSome (written_by held step) IsPlace
-written-low held (Move step) range = range.0
-written-low held (ClearTag step) range = range.0
-written-low held (SetBounds step) range = range.0
-written-low held (SetBoundsExact step) range = range.0
-written-low held (SetAddr step) range = range.0
-written-low held (AndPerm step) range = range.0
-written-low held (Seal step) range = range.0
-written-low held (Unseal step) range = range.0
-written-low held (LoadCap step) range = range.0
-written-low held (StoreCap step) range = address_low (state_of held step.authority).word.0 step.offset
-written-low held (Load step) range = tt
-written-low held (Store step) range = address_low (state_of held step.authority).word.0 step.offset
+written-low held step range = writes-low (state_of held) step range
 
 -- the parent of a place that a step writes, and of another
 parent_in : (writes : Option (Place × Cap)) (tag : Bool) (parent : Option Place) (key from : ℕ)
@@ -136,7 +140,7 @@ disowned-local (Some (Register number)) state one two key here written =
     ap (λ (o : Option ℕ). if number == key then owner_for (state number) o else one key) (written (Register number) refl)
     ∙ ap (λ (o : Option ℕ). if number == key then owner_for (state number) (two number) else o) here
 
-low_place : (written : Option Place) (place : Place) → IfSome written IsPlace → written ≡ Some place → key_of place < first_special
+pub low_place : (written : Option Place) (place : Place) → IfSome written IsPlace → written ≡ Some place → key_of place < first_special
 low_place None place low is = absurd (none-some place is)
 low_place (Some other) place low is = subst (λ (p : Place). key_of p < first_special) (same_Some other place is) (place-low other low)
 
@@ -149,7 +153,7 @@ then_twice None f g = refl
 then_twice (Some k) f g = refl
 
 -- a run after a step of version 2 in a machine with this account
-abbrev usual_with : Account → Run → Step → Run
+abbrev pub usual_with : Account → Run → Step → Run
 usual_with old run step =
     let new = with_step old step in
     let written = option_map (λ write. write.0) (row_of old.state step).writes in
@@ -234,7 +238,7 @@ module _ (held new : Held) (specials : Specials) (h after : Handouts) (step : St
   unfolding goal
   after-plain =
       let row = row_in (account_of held) step in
-      let named = naming-plain held (named_by row) in
+      let named = naming-apart (account_of held) (named_by row) in
       let rest = naming-rest (account_of held) (named_by row) in
       run-is (numbered_run new specials after) goal usual-state usual-owners
       (objects-after held new specials specials h after sized are index reindex goal.owners usual-owners makes.recounted) count
@@ -255,7 +259,7 @@ abbrev pub usual_check : Bool × Refusal → Bool × RunRefusal
 usual_check check = (check.0, Usual check.1)
 
 -- a failed check of an access that isn't asked is passed over
-passed : (checks : List (Bool × RunRefusal)) (x y : RunRefusal) (one two : Bool) (rest : List (Bool × RunRefusal))
+pub passed : (checks : List (Bool × RunRefusal)) (x y : RunRefusal) (one two : Bool) (rest : List (Bool × RunRefusal))
     → first_of (checks ++ (false && one, x) ∷ (false && two, y) ∷ rest) ≡ first_of (checks ++ rest)
 passed [] x y one two rest = refl
 passed (check ∷ checks) x y one two rest = ap (λ (o : Option RunRefusal). if check.0 then Some check.1 else o) (passed checks x y one two rest)

@@ -19,3 +19,4 @@ pub mod Holders
 pub mod HeldExtents
 pub mod OwnedAccesses
 pub mod Erasure
+pub mod StepLines

@@ -21,6 +21,7 @@ mod register_steps;
 mod roots;
 mod run_machine;
 mod specials;
+mod step_lines;
 mod usual_steps;
 
 pub use crate::asks::Asks;

@@ -1,29 +1,29 @@
 -- What lines lead to, and where a judge of run logs stops.
-use Rattle.std.proofs.Common.{◌≡◌, ◌≢◌, ◌⊎◌, ℕ, ◌+◌, ◌-◌, inl, inr, true, false, Bool, List, [], ◌∷◌, ◌++◌, length, take, drop}
-use Rattle.std.proofs.Common.{refl, sym, ap, subst, ◌∙◌, arith, append-nil, append_assoc, None, Some, Option, Result, Ok, Err, IfOk, IsTrue}
-use Rattle.std.proofs.lemmas.{Grind.flat_map-append, Option.none-some}
-use Rattle.cap_log.specs.{declared.lines.Line.Line, Lines.Spells, Parts.{Begins, ReadsAs}}
-use Rattle.cap_log.proofs.SpellingLemmas.{one_spelling}
+use Rattle.std.proofs.Common.{◌≡◌, ◌≢◌, ℕ, ◌+◌, ◌-◌, inl, inr, false, List, [], ◌∷◌, ◌++◌, length, take, drop}
+use Rattle.std.proofs.Common.{refl, sym, ap, subst, ◌∙◌, map, append-nil, append_assoc, None, Some, Result, Ok, Err, IfOk}
+use Rattle.std.proofs.lemmas.{Grind.flat_map-append}
+use Rattle.std.specs.List.{AllByRecursion}
+use Rattle.cap_log.specs.{declared.{kinds.Step.Step}, Lines.{IsStepInRange}, Parts.{Begins, ReadsAs}}
 use Rattle.cap_log.proofs.ElementLemmas.{AllByRecursion-append}
-use Rattle.cap_streams.specs.{FaultLines.bytes_of, Front.{IsCut, IsFront, IsFrontText, IsLine, IsTooLong}}
+use Rattle.cap_streams.specs.{FaultLines.bytes_of, Front.{IsCut, IsFrontText, IsLine}}
 use Rattle.cap_streams.proofs.FrontLemmas.{IsLine-not_cut, IsTooLong-not_cut}
 use Rattle.cap_judge.specs.{declared.judges.Stop.Stop, Judgings.IsLastFront}
 use Rattle.cap_judge.proofs.TurnLemmas.{cut_text, front_count}
-use Rattle.cap_run_log.specs.declared.lines.{RunLine.RunLine, RunPlace.RunPlace, RunStep.RunStep}
-use Rattle.cap_run_log.specs.RunLines.{IsRunLineInRange, SpellsRun, run_spelling}
+use Rattle.cap_run_log.specs.declared.lines.{RunLine.RunLine}
+use Rattle.cap_run_log.specs.RunLines.{IsRunLineInRange, run_spelling}
 use Rattle.cap_run_log.proofs.Spellings.{run_spelling-plain, run_spelling-short}
 use Rattle.cap_run.specs.declared.{asks.Asks.Asks, ends.{RunEnd.RunEnd, RunRefusal.{RunRefusal, TheVariants.Usual}}}
-use Rattle.cap_run.specs.{Run.Run, RunChanges.{line_after, root_after, run_after, usual_after}}
-use Rattle.cap_run.specs.RunChecks.{Answers, line_end, line_wants, root_end, root_wants, run_end, run_wants, usual_end, usual_wants}
+use Rattle.cap_run.specs.StepLines.{LeadBy, MakesUsualSteps, text_of_steps}
+use Rattle.cap_run.specs.{Run.Run, RunChanges.{line_after, usual_after}}
+use Rattle.cap_run.specs.RunChecks.{Answers, line_end, line_wants}
 use Rattle.cap_ops.specs.declared.refusal.Refusal.TheVariants.{Misplaced, Truncated}
-use Rattle.cap_run_judge.specs.declared.{faults.RefusedRunLine.RefusedRunLine, verdict.RunVerdict.RunVerdict}
+use Rattle.cap_run_judge.specs.declared.{faults.RefusedRunLine.RefusedRunLine}
 use Rattle.cap_run_judge.specs.declared.judges.NextRunLine as code
 use Rattle.cap_run_judge.specs.declared.judges.NextRunLine.TheVariants as stages
-use Rattle.cap_run_judge.specs.Turns.{Allows, Body, Due, Ended, Goes, Reads, Refused, Stage}
-use Rattle.cap_run_judge.specs.Turns.{refusal_at, stage_after, text_of}
-use Rattle.cap_run_judge.specs.Verdicts.{Lacks}
-use Rattle.cap_run_judge.specs.Readings.{AnswersLine, EndsAs, EndsAt, EndsFor, EndsIn, Faults, IsAtFault, RefusesNext, StopsAt, Takes, due_at_end}
-use Rattle.cap_run_judge.specs.Readings.{due_of, lines_by, lines_read, refused_at}
+use Rattle.cap_run_judge.specs.Turns.{Body, Ended, Goes, Reads, Refused, Stage}
+use Rattle.cap_run_judge.specs.Turns.{stage_after, text_of}
+use Rattle.cap_run_judge.specs.Readings.{AnswersLine, EndsAs, EndsAt, EndsFor, IsAtFault, RefusesNext, StopsAt, Takes, due_at_end}
+use Rattle.cap_run_judge.specs.Readings.{due_of, lines_by, lines_read}
 
 -- Lines that are read
 
@@ -65,6 +65,43 @@ goes_line first old new bytes front rest behind line is so_far begins takes =
       goes_on first old new front more so_far (one_goes old new line begins.0 takes),
     )
 
+-- more lines
+pub goes_more : (first old new : Stage) (bytes front rest more behind : List ℕ) → bytes ≡ front ++ rest → Goes first front old
+    → rest ≡ more ++ behind → Goes old more new → (fronts : List ℕ) × (bytes ≡ fronts ++ behind) × Goes first fronts new
+goes_more first old new bytes front rest more behind is so_far is_more next = (
+  front ++ more,
+  is ∙ ap (λ (r : List ℕ). front ++ r) is_more ∙ sym (append_assoc front more behind),
+  goes_on first old new front more so_far next,
+)
+
+-- Lines of steps of version 2
+
+-- the stage in a body
+abbrev pub body : Asks → Run → Stage
+body asks_are run_is = record { asks = asks_are; run = run_is; due = Body }
+
+steps_in_range : (steps : List Step) → AllByRecursion IsStepInRange steps → AllByRecursion IsRunLineInRange (map RunLine.Step steps)
+steps_in_range [] range = tt
+steps_in_range (step ∷ steps) range = (range.0, steps_in_range steps range.1)
+
+steps_text : (steps : List Step) → text_of_steps steps ≡ text_of (map RunLine.Step steps)
+steps_text [] = refl
+steps_text (step ∷ steps) = ap (λ (t : List ℕ). (run_spelling (RunLine.Step step) ++ 10 ∷ []) ++ t) (steps_text steps)
+
+steps_read : (asks_are : Asks) (old new : Run) (steps : List Step) → LeadBy asks_are old steps new
+    → Reads (body asks_are old) (map RunLine.Step steps) (body asks_are new)
+steps_read asks_are old new [] lead = ap (body asks_are) lead
+steps_read asks_are old new (step ∷ steps) lead = (lead.0, steps_read asks_are (usual_after old step) new steps lead.1)
+
+pub steps_go : (asks_are : Asks) (old new : Run) (bytes : List ℕ) → MakesUsualSteps asks_are old bytes new
+    → Goes (body asks_are old) bytes (body asks_are new)
+steps_go asks_are old new bytes makes = record {
+  lines = map RunLine.Step makes.steps;
+  in_range = steps_in_range makes.steps makes.in_range;
+  bytes_are = makes.bytes_are ∙ steps_text makes.steps;
+  reads = steps_read asks_are old new makes.steps makes.leads;
+}
+
 -- Stops after what was taken
 
 stops_later : (first old new : Stage) (front middle rest : List ℕ) (stop : Stop) → Goes first front old
@@ -84,10 +121,6 @@ stops_here first old new bytes front rest stop split on stops =
     (stops_later first old new front [] rest stop on stops))
 
 -- Answers to lines
-
--- the stage in a body
-abbrev pub body : Asks → Run → Stage
-body asks_are run_is = record { asks = asks_are; run = run_is; due = Body }
 
 -- a machine's answer to a line that leads to another body
 pub body_answers : (asks_are : Asks) (old new : Run) (line : RunLine) (result : Result (Unit {0}) RunEnd)

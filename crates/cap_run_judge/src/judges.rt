@@ -1,6 +1,6 @@
 //! The judge of a run log: it is handed the log's bytes, cut anywhere, and reads the whole lines that stand there.
 
-ghost use Rattle.std.specs.Prelude.{◌≡◌, ◌≢◌, ◌≤◌, ◌+◌, ℕ, List, [], Err, IfErr, IfOk, Some, length, take, drop};
+ghost use Rattle.std.specs.Prelude.{◌≡◌, ◌≢◌, ◌≤◌, ◌+◌, ℕ, List, [], ◌++◌, Err, IfErr, IfOk, Some, length, take, drop};
 ghost use Rattle.std.specs.FinMap as map;
 ghost use Rattle.cap_log.specs.Parts.{Begins};
 ghost use Rattle.cap_streams.specs.{FaultLines.bytes_of, Front.{IsCut, IsFront, IsFrontText}};
@@ -10,7 +10,7 @@ ghost use Rattle.cap_run_judge.specs.declared.faults.RefusedRunLine.{RefusedRunL
 ghost use Rattle.cap_run_judge.specs.declared.judges.NextRunLine.TheVariants.{Body, Refused as RefusedIn};
 ghost use Rattle.cap_run_judge.specs.Readings.{AnswersLine, EndsAs, EndsAt, IsAtFault, IsFaultOf, StopsAt, Takes};
 ghost use Rattle.cap_run_judge.specs.Readings.{lines_read, stage_of};
-ghost use Rattle.cap_run_judge.specs.Turns.{refusal_at, unread};
+ghost use Rattle.cap_run_judge.specs.Turns.{Goes, refusal_at, unread};
 ghost use Rattle.cap_run.specs.{declared.ends.RunRefusal.TheVariants.Usual, RunChanges.rules_of};
 ghost use Rattle.cap_run_judge.specs.Verdicts.{long_refusal};
 
@@ -71,10 +71,11 @@ impl<M: TaggedStore> RunJudge<M> {
     {
         let mut rest = bytes;
         'lines: loop {
-            match self.take_next(rest) {
+            let before = self.take_front(rest);
+            match self.take_next(before) {
                 Ok(behind) => rest = behind,
                 Err(stop) => {
-                    let count = bytes.len() - rest.len();
+                    let count = bytes.len() - before.len();
                     return Taken { count, stop };
                 }
             }
@@ -118,6 +119,19 @@ impl<M: TaggedStore> RunJudge<M> {
             NextRunLine::Refused(fault) => Some(*fault),
             _ => None,
         }
+    }
+
+    // Takes the lines of steps of version 2 at the front of some bytes, where they may come next and no object was handed
+    // out: what follows them.
+    #[inline(always)]
+    fn take_front<'a>(&mut self, bytes: &'a [u8]) -> &'a [u8]
+        ensures { (front : List ℕ) × (bytes.now ≡ front ++ result.now)
+            × Goes (stage_of self.old) front (stage_of self.new) }
+    {
+        if let NextRunLine::Body = self.stage {
+            return self.machine.take_steps(bytes);
+        }
+        bytes
     }
 
     // Takes the line at the front of some bytes: what follows it.

@@ -1,0 +1,24 @@
+-- Lines of steps of version 2, made one after another (this profile's own).
+use Rattle.std.specs.Prelude.{◌≡◌, ℕ, List, [], ◌∷◌, ◌++◌, flat_map, None}
+use Rattle.std.specs.List.{AllByRecursion}
+use Rattle.cap_log.specs.{declared.kinds.Step.Step, Lines.IsStepInRange}
+use Rattle.cap_run_log.specs.RunLines.{run_spelling}
+use Rattle.cap_run_log.specs.declared.lines.RunLine.TheVariants as lines
+use Rattle.cap_run.specs.{declared.asks.Asks.Asks, Run.Run, RunChanges.usual_after, RunChecks.usual_end}
+
+-- steps that no check refuses lead from a run to a run
+abbrev pub LeadBy : Asks → Run → List Step → Run → Type 0
+LeadBy asks old [] new = old ≡ new
+LeadBy asks old (step ∷ steps) new =
+    (usual_end asks old step ≡ None) × LeadBy asks (usual_after old step) steps new
+
+-- the text of steps: each line's spelling and a line feed
+abbrev pub text_of_steps : List Step → List ℕ
+text_of_steps steps = flat_map (λ step. run_spelling (lines.Step step) ++ 10 ∷ []) steps
+
+-- the bytes are lines of steps that lead from a run to a run
+pub record MakesUsualSteps (asks : Asks) (old : Run) (bytes : List ℕ) (new : Run) : Type 0 where
+  pub steps : List Step
+  pub in_range : AllByRecursion IsStepInRange steps
+  pub bytes_are : bytes ≡ text_of_steps steps
+  pub leads : LeadBy asks old steps new
