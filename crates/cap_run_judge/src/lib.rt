@@ -9,6 +9,7 @@ mod faults;
 mod judges;
 mod laws;
 mod output;
+mod owners;
 mod streams;
 mod verdict;
 mod verdict_lines;
