@@ -76,16 +76,12 @@ pub leads : (asks : Asks) (bytes : List ℕ) (ended : Bool) (run : Run) (text : 
 leads asks bytes ended run text (Yes steps roots objects) are to = (to, are)
 leads asks bytes ended run text (No line refusal) are to = tt
 
--- the text after a yes
-pub yes_text : (run : Run) (verdict : RunVerdict) (steps roots objects : ℕ) → verdict ≡ Yes steps roots objects
-    → run_verdict_line verdict ++ (object_lines run ++ owner_lines run) ≡ run_report_text true run verdict
-yes_text run verdict steps roots objects is =
-    subst (λ (v : RunVerdict). run_verdict_line v ++ (object_lines run ++ owner_lines run) ≡ run_report_text true run v) (sym is) refl
-
--- the text where no owners are asked for
-pub plain_text : (run : Run) (verdict : RunVerdict) → run_verdict_line verdict ≡ run_report_text false run verdict
-plain_text run (Yes steps roots objects) = refl
-plain_text run (No line refusal) = refl
+-- the text after a yes, if owners are asked for
+pub asked_text : (owners : Bool) (run : Run) (verdict : RunVerdict) (steps roots objects : ℕ) → owners ≡ true → verdict ≡ Yes steps roots objects
+    → run_verdict_line verdict ++ (object_lines run ++ owner_lines run) ≡ run_report_text owners run verdict
+asked_text owners run verdict steps roots objects asked is =
+    ap (λ (v : RunVerdict). run_verdict_line v ++ (object_lines run ++ owner_lines run)) is
+    ∙ sym (ap (λ (b : Bool). run_report_text b run verdict) asked ∙ ap (run_report_text true run) is)
 
 -- without a verdict nothing is pushed
 pub pushed_nothing : (asks : Asks) (owners : Bool) (bytes : List ℕ) (ended : Bool) (took : List ℕ → Type 0) (fault : JudgeFault)

@@ -1,21 +1,21 @@
-use Rattle.std.proofs.Common.{rules, ◌≡◌, ◌≤◌, ℕ, length, take, Err, OnOk, OnErr, ◌+◌, ◌-◌, ◌*◌, ◌<◌, ◌/◌, ◌%◌, Bool, true, false, nat_eq, nat_lt, List, [], ◌∷◌, ◌++◌, slice_index_or, slice_set, bit_and, bit_or, Fits, w8, w32, w64, Bor, MutBor}
-use Rattle.std.specs.FinMap as map
-use Rattle.cap_streams.specs.declared.judge_faults.JudgeToFault.TheVariants.{Pull, Push}
-use Rattle.cap_streams.specs.Streams.{CountsFault, CountsOnly}
-use Rattle.cap_run_judge.specs.OwnerLists.{run_report_text}
 use Rattle.cap_run_judge.specs.Readings.{run_in}
-use Rattle.cap_run_judge.specs.Reports.{RunReported}
-use Rattle.cap_run_judge.specs.VerdictLines.{run_verdict_line}
+use Rattle.cap_run_judge.proofs.{OwnerLemmas.{both_ok, both_err, first_err}, RunReportLemmas.asked_text}
 use Rattle.cap_run_judge.proofs.output.push_run_report.Goals as goal
 
--- src/output.rt:48:1
 pub returns-in-Ok-clause-ok : goal.returns-in-Ok-clause-ok
-returns-in-Ok-clause-ok g c = ?
+returns-in-Ok-clause-ok g c =
+    both_ok g.K.Sink.took c.args.sink.now c.push_run_verdict-in-Yes.new.sink c.push_owners.new.sink g.met.K.Sink.joined _ _ _
+    (asked_text c.args.owners (run_in c.args.machine.now) c.args.verdict.now c.in-Yes.steps c.in-Yes.roots c.in-Yes.objects c.if-not-owners.false c.in-Yes.is)
+    c.push_owners.result c.in-Ok.ensures.ok c.push_owners.ensures.ok
 
--- src/output.rt:48:1
 pub returns-in-Ok-clause-err : goal.returns-in-Ok-clause-err
-returns-in-Ok-clause-err g c = ?
+returns-in-Ok-clause-err g c =
+    both_err g.K.Sink.took c.args.sink.now c.push_run_verdict-in-Yes.new.sink c.push_owners.new.sink g.met.K.Sink.joined _ _ _
+    (asked_text c.args.owners (run_in c.args.machine.now) c.args.verdict.now c.in-Yes.steps c.in-Yes.roots c.in-Yes.objects c.if-not-owners.false c.in-Yes.is)
+    c.push_owners.result c.in-Ok.ensures.ok c.push_owners.ensures.err
 
--- src/output.rt:48:1
 pub returns-in-Err-clause-err : goal.returns-in-Err-clause-err
-returns-in-Err-clause-err g c = ?
+returns-in-Err-clause-err g c =
+    first_err (g.K.Sink.took c.args.sink.now c.push_run_verdict-in-Yes.new.sink) _ _ _
+    (asked_text c.args.owners (run_in c.args.machine.now) c.args.verdict.now c.in-Yes.steps c.in-Yes.roots c.in-Yes.objects c.if-not-owners.false c.in-Yes.is)
+    c.in-Err.ensures.err
