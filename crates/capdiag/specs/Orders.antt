@@ -110,7 +110,7 @@ read_words [] = Err (NoCommand, [])
 read_words (command ∷ words) =
     if bytes_eq command (codes "why") then after_command (Why false None) words
     else if bytes_eq command (codes "heap") then after_command (Heap false false None) words
-    else if bytes_eq command (codes "run") then after_command (Run None false false false None) words
+    else if bytes_eq command (codes "run") then after_command (Run None false false None) words
     else if bytes_eq command (codes "--help") then alone Help command words
     else if bytes_eq command (codes "--version") then alone Version command words
     else if is_operand command then Err (UnknownCommand, command)

@@ -2,8 +2,8 @@ use Rattle.std.proofs.Common.{[], sym, subst, Some}
 use Rattle.cap_judge.proofs.ReportLemmas.{nothing_given}
 use Rattle.cap_program.specs.{declared.faults.Fault.TheVariants.Read, Doings.{IsDone, ended_by}}
 use Rattle.cap_program.proofs.Doing.{followed_missing, followed_unread}
-use Rattle.capdiag.specs.{declared.words.Order.Order, Answers.{Fails, ReadsInput, Shows, order_meaning}}
-use Rattle.capdiag.proofs.HeapLemmas.{nothing_begins}
+use Rattle.capdiag.specs.{declared.words.Order.Order, Answers.{Fails, ReadsInput, Shows, asks_of, order_meaning}}
+use Rattle.capdiag.proofs.{HeapLemmas.nothing_begins, RunLogLemmas.nothing_answered}
 use Rattle.capdiag.proofs.runs.OrderCommand.follow.Goals as goal
 
 pub returns-in-Help : goal.returns-in-Help
@@ -43,4 +43,11 @@ returns-in-None g c = record {
   followed = followed_missing order_meaning (Some c.args.self) g.S.Source.gave g.S.Source.ended g.S.Source.faults g.K.Sink.took
       g.K.Sink.faults c.args.input.now c.args.out.now c.in-None.is (g.met.K.Sink.nothing c.args.out.now)
       (subst (λ (o : Order). Fails (Some o) [] Read) (sym c.in-Why.is) nothing_given);
+}
+
+pub returns-in-None-input-2 : goal.returns-in-None-input-2
+returns-in-None-input-2 g c = record {
+  followed = followed_missing order_meaning (Some c.args.self) g.S.Source.gave g.S.Source.ended g.S.Source.faults g.K.Sink.took
+      g.K.Sink.faults c.args.input.now c.args.out.now c.in-None-input-2.is (g.met.K.Sink.nothing c.args.out.now)
+      (subst (λ (o : Order). Fails (Some o) [] Read) (sym c.in-Run.is) (nothing_answered (asks_of c.in-Run.freed c.in-Run.owned)));
 }
