@@ -1,6 +1,6 @@
-# Completion of capcheck and capdiag for bash: the commands, the options of each in their order, then files.
+# Completion of capcheck and capdiag for bash: the commands, the options of each, and files.
 
-# The options of a command, in the order that it takes them.
+# The options of a command; capcheck takes them in this order.
 _capcheck_options() {
     case $1 in
         'capcheck explain') echo '--memory --tag' ;;
@@ -19,9 +19,11 @@ _capcheck() {
         mapfile -t COMPREPLY < <(compgen -W "$offered" -- "$word")
         return
     fi
-    # An option that was given is left out, with those that come before it.
+    # An option that was given is left out, in capcheck with those that come before it, and after -- each is.
     for option in $(_capcheck_options "$program $command"); do
-        case " ${COMP_WORDS[*]:2:COMP_CWORD-2} " in
+        case "$program ${COMP_WORDS[*]:2:COMP_CWORD-2} " in
+            *' -- '*) ;;
+            capdiag*" $option "*) ;;
             *" $option "*) offered='' ;;
             *) offered="$offered $option" ;;
         esac

@@ -26,7 +26,11 @@ offers 'capdiag why --o' --origins
 offers 'capdiag why --origins -'
 offers 'capdiag heap ' --report --why --help
 offers 'capdiag heap --report -' --why
-offers 'capdiag heap --why -'
+offers 'capdiag heap --why -' --report
+offers 'capdiag heap --why log --' --report
+offers 'capdiag heap --why --report -'
+offers 'capdiag why log --o' --origins
+offers 'capdiag why -- -'
 offers 'capcheck ' explain round judge vectors
 offers 'capcheck j' judge
 offers 'capcheck judge -' --origins

@@ -15,7 +15,7 @@ use Rattle.cap_run_log.specs.declared.lines.RunRegister.TheVariants.{General, Sp
 use Rattle.cap_run_log.specs.declared.lines.RunStep.TheVariants as steps
 use Rattle.cap_run_log.specs.RunLines.{IsRunLineInRange, IsRunPlace, IsRunRegister}
 use Rattle.cap_run.specs.{Allowed.{AreAllowed, IsLineAllowed}, declared.asks.Asks.Asks, Descents.{line_parent, run_along}, Holders.{ReachesSome, handed_by}}
-use Rattle.cap_run.specs.{Owned.IsWithin, Run.{Run, first_special, register_key}, Safety.{IsGuarded, IsSafe}}
+use Rattle.cap_run.specs.{Owned.IsWithin, Run.{Run, first_special, register_key}, Safety.{IsKeptApart, IsSafe}}
 use Rattle.cap_run.specs.RunChanges.{line_after, main_of, no_run, place_key, usual_after}
 use Rattle.cap_run.proofs.DescentLemmas.{along, along-fold, allowed_parts, nothing_tagged, sound_after}
 use Rattle.cap_run.proofs.{ExtentLemmas.{AreApart, AreNumbered, IsMade, line_made}, FollowLemmas.AllReach, HolderLemmas.{OwnerFrom, owner_from, reach_after}}
@@ -210,7 +210,7 @@ module _ (asks : Asks) (run : Run) (line : RunLine) (range : IsRunLineInRange li
         let x = counted_back (made.0 one) (owned_by after.owners one) a (sym (made.1.counted_are one) ∙ is_a) in
         let y = counted_back (made.0 two) (owned_by after.owners two) b (sym (made.1.counted_are two) ∙ is_b) in
         let shared = subst (λ (o : Object). Share o.base (top_of_extent o) b.base (top_of_extent b)) x.2 share in
-        made.1.apart one two x.0 y.0 x.1 y.1 differ (subst (IsGuarded asks.held) x.2 guard_a) (subst (IsGuarded asks.held) y.2 guard_b)
+        made.1.apart one two x.0 y.0 x.1 y.1 differ (subst (IsKeptApart asks.held) x.2 guard_a) (subst (IsKeptApart asks.held) y.2 guard_b)
         (subst (λ (o : Object). Share (with_held x.0 (owned_by after.owners one)).base (top_of_extent (with_held x.0 (owned_by after.owners one))) o.base (top_of_extent o)) y.2 shared);
     numbered = λ number object is.
         let x = counted_back (made.0 number) (owned_by after.owners number) object (sym (made.1.counted_are number) ∙ is) in

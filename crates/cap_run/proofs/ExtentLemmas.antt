@@ -16,14 +16,14 @@ use Rattle.cap_run.specs.declared.{asks.Asks.Asks}
 use Rattle.cap_run.specs.declared.ends.RunRefusal.TheVariants.{AlreadyFreed, NoObject, Overlaps, StillHeld}
 use Rattle.cap_run.specs.{Allowed.IsLineAllowed, Holders.{ReachesSome, handed_by}, ObjectSteps.object_refusal, Owned.IsWithin, Run.Run}
 use Rattle.cap_run.specs.{RunChanges.{counted, line_after, with_freed}, RunChecks.{extent_end, growth_end, is_freed, is_live, meets, number_end}}
-use Rattle.cap_run.specs.{RunSteps.{or_later, step_limit}, Safety.IsGuarded}
+use Rattle.cap_run.specs.{RunSteps.{or_later, step_limit}, Safety.IsKeptApart}
 use Rattle.cap_run.proofs.{LineLemmas.later_none, MeetingLemmas.{meets-where}, ObjectLemmas.widened-grows, OwnerLemmas.either-key}
 use Rattle.cap_run.proofs.{PresentLemmas.{AreCounted, AreFew, few_of}, WideningLemmas.{widened-base, widened-top}}
 
 -- the extents of two guarded objects share no address
 abbrev pub AreApart : Bool → Objects → Type 0
 AreApart keeps objects =
-    (one two : ℕ) (a b : Object) → objects one ≡ Some a → objects two ≡ Some b → one ≢ two → IsGuarded keeps a → IsGuarded keeps b
+    (one two : ℕ) (a b : Object) → objects one ≡ Some a → objects two ≡ Some b → one ≢ two → IsKeptApart keeps a → IsKeptApart keeps b
     → Share a.base (top_of_extent a) b.base (top_of_extent b) → ⊥
 
 -- each object is found by its number
@@ -143,7 +143,7 @@ module _ (keeps : Bool) (run : Run) (apart_are : AreApart keeps run.objects) (nu
       → ((other : ℕ) → (line_after run line).objects other ≡ counted (put run.objects number (Some new)) (line_after run line).owners other)
       → ((old : Object) → run.objects number ≡ Some old → Grows old new)
       → (ReachesSome ((line_after run line).state register) → IsWithin ((line_after run line).state register) new)
-      → ((two : ℕ) (b : Object) → number ≢ two → run.objects two ≡ Some b → IsGuarded keeps b
+      → ((two : ℕ) (b : Object) → number ≢ two → run.objects two ≡ Some b → IsKeptApart keeps b
       → Share new.base (top_of_extent new) b.base (top_of_extent b) → ⊥)
       → new.number ≡ number → IsMade keeps run line (put run.objects number (Some new))
   changed_made line register number new names are grows within alone number_is = record {
@@ -187,7 +187,7 @@ module _ (keeps : Bool) (run : Run) (apart_are : AreApart keeps run.objects) (nu
 
 -- no guarded object shares an address with an interval that no check refuses
 no_share : (asks : Asks) (run : Run) (left_out : Option ℕ) (base top two : ℕ) (b : Object) → AreFew run → extent_end asks run left_out base top ≡ None
-    → is_owner two left_out ≡ false → run.objects two ≡ Some b → IsGuarded asks.held b → Share base top b.base (top_of_extent b) → ⊥
+    → is_owner two left_out ≡ false → run.objects two ≡ Some b → IsKeptApart asks.held b → Share base top b.base (top_of_extent b) → ⊥
 no_share asks run left_out base top two b few free apart is_b guard share_is =
     let none = none_hold (
     (meets run left_out is_live base top, Overlaps) ∷ (asks.held && meets run left_out is_freed base top, StillHeld) ∷ []) free in

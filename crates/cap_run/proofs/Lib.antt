@@ -3,13 +3,13 @@ pub mod DescentLemmas
 pub mod OneRootLemmas
 mod ChoiceLemmas
 mod MeetingLemmas
-mod OwnedLemmas
+pub mod OwnedLemmas
 mod FollowLemmas
 mod HolderLemmas
 mod PassLemmas
 mod PresentLemmas
 mod ExtentLemmas
-mod ApartLemmas
+pub mod ApartLemmas
 mod NotHeldLemmas
 mod StillHeldLemmas
 mod ErasureLemmas

@@ -21,7 +21,6 @@ use Rattle.cap_run_log.specs.declared.lines.RunLine.TheVariants as run_lines
 use Rattle.cap_run.specs.declared.{asks.Asks.Asks, ends.{RunRefusal.{RunRefusal, TheVariants.{NotOwned, OwnerFreed, Usual}}}, specials.Specials.Specials}
 use Rattle.cap_run.specs.{Numbers.{number_at, numbered_run}, Owned.{AreWithin, object_by, owner_for}, Run.{Run, first_special, with_specials}, RunChanges.{account_in, usual_after}}
 use Rattle.cap_run.specs.{RunChecks.{asked_checks, is_unowned, uses_freed, usual_end}, RunOf.{run_owners, run_state}, Specials.{cap_in}}
-use Rattle.cap_run.specs.Safety.{IsSafe}
 use Rattle.cap_run.specs.{StepLines.{LeadBy, MakesUsualSteps, text_of_steps}, UsualSteps.{disowned}}
 use Rattle.cap_run.proofs.{AloneLemmas.{main-unowned, then_none, unowned}, AskedLemmas.and_none, RootLemmas.first-usual, RunNumberLemmas.{index_in, nowhere, run-is}}
 use Rattle.cap_run.proofs.UsualLemmas.{owners-main, owners-special, place-low, under_then}
@@ -168,16 +167,6 @@ module _ (account : Account) (specials : ℕ → Cap) (near : IsNear account.sta
       ∙ fun_ext (disowned_none written next))
       refl refl (sym rest.0) (sym rest.2) (sym rest.1) refl (sym named.0) (sym named.1)
 
--- it is safe
-bare_safe : (keeps : Bool) (account : Account) (specials : ℕ → Cap) → IsSafe keeps (bare account specials)
-bare_safe keeps account specials = record {
-  within = λ place slot is. absurd (none-some slot is);
-  extents = λ one two a b is is2 differ ga gb share. none-some a is;
-  reach = λ place other one two a b is is2 differ a_is b_is ga gb share. none-some one is;
-  alone = λ one two a b is is2 same. absurd (none-some a is);
-  held = λ slot object is. absurd (none-some object is);
-}
-
 -- Steps one after another
 
 leads_on : (asks : Asks) (specials : ℕ → Cap) (old new : Account) (steps : List Step) → Reads (body old) (map Line.Step steps) (body new)
@@ -196,7 +185,6 @@ leads_on asks specials old new (step ∷ steps) reads range near free =
       (range.0, rest.0),
       (
         bare-end old specials near asks step ∙ ap (option_map Usual) (allowed_form old (Line.Step step) reads.0).1,
-        subst (IsSafe asks.held) (sym after) (bare_safe asks.held next specials),
         subst (λ (r : Run). LeadBy asks r steps (bare new specials)) (sym after) rest.1,
       ),
       rest.2,

@@ -1,7 +1,7 @@
 -- What is told of owners, and of objects by their numbers.
 use Rattle.std.specs.FinMap as finmap
-use Rattle.std.proofs.Common.{◌≡◌, ◌≢◌, ◌+◌, ◌-◌, ◌<◌, ◌≤◌, ◌^◌, ℕ, Some, None, Option, nat_lt, false, option_and_then, option_map, unwrap_or, refl, sym, ap, subst, ◌∙◌, arith, lt-ltb, le-ltb}
-use Rattle.std.proofs.lemmas.{Bool.{cond-true, cond-false}, Option.{none-some, same_Some}}
+use Rattle.std.proofs.Common.{◌≡◌, ◌≢◌, ◌-◌, ◌<◌, ◌≤◌, ◌^◌, ℕ, Some, None, Option, nat_lt, false, option_and_then, option_map, unwrap_or, refl, sym, ap, ◌∙◌, arith, lt-ltb, le-ltb}
+use Rattle.std.proofs.lemmas.{Bool.{cond-true, cond-false}, Option.{same_Some}}
 use Rattle.tagmem.specs.Granules.{Entry, blank, code_at}
 use Rattle.cap_machine.specs.{Helds.{Held, code_in}, Places.place_at, States.granule_key}
 use Rattle.cap_objects.specs.{declared.{handouts.Handouts.Handouts, objects.Object.Object}, Handed.IsNextNumber, HandoutsIn.objects_of}
@@ -13,10 +13,10 @@ module _ (h : Handouts) (index : IsNumbered h) where
   absent : (number : ℕ) → ((slot : ℕ) (o : Object) → objects_of h slot ≡ Some o → o.number ≡ number → ⊥)
       → by_number (index_in h) (objects_of h) number ≡ None
   absent number never = by (by_number (index_in h) (objects_of h) number) refl
-      where
-    by : (o : Option Object) → by_number (index_in h) (objects_of h) number ≡ o → by_number (index_in h) (objects_of h) number ≡ None
-    by None is = is
-    by (Some o) is = let s = slot-of (objects_of h) (index_in h) index number o is in absurd (never s.0 o s.1 s.2)
+    where
+      by : (o : Option Object) → by_number (index_in h) (objects_of h) number ≡ o → by_number (index_in h) (objects_of h) number ≡ None
+      by None is = is
+      by (Some o) is = let s = slot-of (objects_of h) (index_in h) index number o is in absurd (never s.0 o s.1 s.2)
 
   -- where no object has a number from one on
   pub next-none : (from : ℕ) → IsNextNumber (objects_of h) from None → (number : ℕ) → from ≤ number

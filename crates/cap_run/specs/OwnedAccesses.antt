@@ -3,7 +3,7 @@ use Rattle.std.specs.Prelude.{◌≡◌, ◌≢◌, ℕ, ◌+◌, false, IsTrue,
 use Rattle.cap_bounds.specs.Bounds.{IsInside}
 use Rattle.cap_machine.specs.Steps.{Access}
 use Rattle.cap_objects.specs.{declared.objects.Object.Object, Objects.{Share, top_of_extent}}
-use Rattle.cap_run.specs.{declared.asks.Asks.Asks, Descents.access_of, Run.Run, Safety.IsGuarded}
+use Rattle.cap_run.specs.{declared.asks.Asks.Asks, Descents.access_of, Run.Run, Safety.IsKeptApart}
 use Rattle.cap_run_log.specs.declared.lines.RunLine.{RunLine}
 
 -- an access through what an object owns lies in the object's extent and touches no byte of another; the object is live if
@@ -13,8 +13,8 @@ pub record IsInOwner (asks : Asks) (run : Run) (access : Access) (number : ℕ) 
   pub there : run.objects number ≡ Some object
   pub inside : IsInside access.address (access.address + access.size) object.base (top_of_extent object)
   pub live : IsTrue asks.used → object.freed ≡ false
-  pub alone : (other : ℕ) (another : Object) → run.objects other ≡ Some another → number ≢ other → IsGuarded asks.held object
-      → IsGuarded asks.held another → Share access.address (access.address + access.size) another.base (top_of_extent another) → ⊥
+  pub alone : (other : ℕ) (another : Object) → run.objects other ≡ Some another → number ≢ other → IsKeptApart asks.held object
+      → IsKeptApart asks.held another → Share access.address (access.address + access.size) another.base (top_of_extent another) → ⊥
 
 abbrev pub AccessesOwn : Asks → Run → RunLine → Type 0
 AccessesOwn asks run line =

@@ -4,13 +4,12 @@ use Rattle.std.specs.List.{AllByRecursion}
 use Rattle.cap_log.specs.{declared.kinds.Step.Step, Lines.IsStepInRange}
 use Rattle.cap_run_log.specs.RunLines.{run_spelling}
 use Rattle.cap_run_log.specs.declared.lines.RunLine.TheVariants as lines
-use Rattle.cap_run.specs.{declared.asks.Asks.Asks, Run.Run, RunChanges.usual_after, RunChecks.usual_end, Safety.IsSafe}
+use Rattle.cap_run.specs.{declared.asks.Asks.Asks, Run.Run, RunChanges.usual_after, RunChecks.usual_end}
 
--- steps that no check refuses lead from a run to a run, which is safe after each
+-- steps that no check refuses lead from a run to a run
 abbrev pub LeadBy : Asks → Run → List Step → Run → Type 0
 LeadBy asks old [] new = old ≡ new
-LeadBy asks old (step ∷ steps) new =
-    (usual_end asks old step ≡ None) × IsSafe asks.held (usual_after old step) × LeadBy asks (usual_after old step) steps new
+LeadBy asks old (step ∷ steps) new = (usual_end asks old step ≡ None) × LeadBy asks (usual_after old step) steps new
 
 -- the text of steps: each line's spelling and a line feed
 abbrev pub text_of_steps : List Step → List ℕ

@@ -84,7 +84,6 @@ impl<M: TaggedStore> RunMachine<M> {
             (numbered_run self.new.machine self.new.specials self.new.objects) }
         ensures asks { self.new.asks ≡ self.old.asks }
     {
-        let label = self.specials.label(number);
         if self.specials.cap(number).tag {
             return Err(RunEnd::Refused(RunRefusal::Usual(Refusal::PlaceTaken)));
         }

@@ -1,3 +1,4 @@
+mod GuardLemmas
 mod TurnLemmas
 mod CountLemmas
 mod EndLemmas

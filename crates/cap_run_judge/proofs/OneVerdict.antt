@@ -13,7 +13,7 @@ use Rattle.cap_run.specs.Run.{Run}
 use Rattle.cap_run_judge.specs.declared.verdict.RunVerdict.{RunVerdict, TheVariants.{Yes, No}}
 use Rattle.cap_run_judge.specs.Turns.{Allows, Due, Ended, Goes, Reads, Stage, refusal_at, refusal_by}
 use Rattle.cap_run_judge.specs.Turns.{stage_after, text_of, unread}
-use Rattle.cap_run_judge.specs.Verdicts.{IsVerdict, Refuses, RefusesCut, RefusesWhole}
+use Rattle.cap_run_judge.specs.Verdicts.{IsRunVerdict, Refuses, RefusesCut, RefusesWhole}
 use Rattle.cap_run_judge.proofs.TurnLemmas.{IsLine-run_spelling}
 
 -- a text is that of one line at most
@@ -141,7 +141,7 @@ record Reading (asks_are : Asks) (bytes : List ℕ) (verdict : RunVerdict) : Typ
   answers : IsAnswerFor stage goes.lines rest verdict
 
 -- each verdict comes from one
-read : (asks_are : Asks) (bytes : List ℕ) (verdict : RunVerdict) → IsVerdict asks_are bytes verdict → Reading asks_are bytes verdict
+read : (asks_are : Asks) (bytes : List ℕ) (verdict : RunVerdict) → IsRunVerdict asks_are bytes verdict → Reading asks_are bytes verdict
 read asks_are bytes (Yes steps roots objects) is = record {
   stage = is.stage;
   front = bytes;
@@ -159,7 +159,7 @@ read asks_are bytes (No line refusal) is = record {
   answers = (is.number_is, is.refused);
 }
 
-pub one_verdict : (asks_are : Asks) (bytes : List ℕ) (a b : RunVerdict) → IsVerdict asks_are bytes a → IsVerdict asks_are bytes b → a ≡ b
+pub one_verdict : (asks_are : Asks) (bytes : List ℕ) (a b : RunVerdict) → IsRunVerdict asks_are bytes a → IsRunVerdict asks_are bytes b → a ≡ b
 one_verdict asks_are bytes a b is_a is_b =
     let first = read asks_are bytes a is_a in
     let second = read asks_are bytes b is_b in

@@ -7,8 +7,8 @@ use Rattle.cap_run_log.specs.declared.lines.RunLine.{RunLine}
 use Rattle.cap_run.specs.{declared.asks.Asks.Asks, Run.Run}
 use Rattle.cap_run_judge.specs.declared.{faults.RefusedRunLine.RefusedRunLine, verdict.RunVerdict.{RunVerdict, TheVariants.{Yes, No}}}
 use Rattle.cap_run_judge.specs.Turns.{Goes, Stage, text_of, unread}
-use Rattle.cap_run_judge.specs.Verdicts.{IsVerdict, MayLackMemory, NoVerdictIn}
-use Rattle.cap_run_judge.specs.Judgings.{BeginsLog, IsAnswerOf, IsVerdictOf, JudgedBy}
+use Rattle.cap_run_judge.specs.Verdicts.{IsRunVerdict, MayLackMemory, NoRunVerdictIn}
+use Rattle.cap_run_judge.specs.Judgings.{IsAnswerOf, IsVerdictOf, JudgedBy}
 use Rattle.cap_run_judge.specs.Readings.{EndsAs, EndsIn, EndsWith, IsAnswered, lines_read}
 use Rattle.cap_run_judge.proofs.{CountLemmas.count_read, TurnLemmas.goes_on}
 
@@ -31,15 +31,15 @@ lack-more asks_are bytes rest more lack = record {
 }
 
 whole_verdict : (asks_are : Asks) (given rest : List ℕ) (ended : Bool) (verdict : RunVerdict) → (ended ≡ true → rest ≡ [])
-    → IsVerdictOf asks_are given ended verdict → IsVerdict asks_are (given ++ rest) verdict
+    → IsVerdictOf asks_are given ended verdict → IsRunVerdict asks_are (given ++ rest) verdict
 whole_verdict asks_are given rest true verdict end is =
-    subst (λ (b : List ℕ). IsVerdict asks_are b verdict) (sym (ap (λ (r : List ℕ). given ++ r) (end refl) ∙ append-nil given)) is
+    subst (λ (b : List ℕ). IsRunVerdict asks_are b verdict) (sym (ap (λ (r : List ℕ). given ++ r) (end refl) ∙ append-nil given)) is
 whole_verdict asks_are given rest false (Yes steps roots objects) end is = absurd is
 whole_verdict asks_are given rest false (No line refusal) end is = is rest
 
 whole_answer : (asks_are : Asks) (given rest : List ℕ) (ended : Bool) (result : Result RunVerdict JudgeFault) → (ended ≡ true → rest ≡ [])
     → IsAnswerOf asks_are given ended result → result ≢ Err Pull
-    → IfOk result (IsVerdict asks_are (given ++ rest)) × IfErr result (NoVerdictIn asks_are (given ++ rest))
+    → IfOk result (IsRunVerdict asks_are (given ++ rest)) × IfErr result (NoRunVerdictIn asks_are (given ++ rest))
 whole_answer asks_are given rest ended (Ok verdict) end answer no_pull =
     (whole_verdict asks_are given rest ended verdict end answer.verdict, tt)
 whole_answer asks_are given rest ended (Err Pull) end answer no_pull = absurd (no_pull refl)
@@ -49,9 +49,9 @@ whole_answer asks_are given rest ended (Err NoMemory) end answer no_pull =
 -- what an answer for bytes given out of all bytes says of all
 pub of_all : (asks_are : Asks) (bytes given rest : List ℕ) (ended : Bool) (result : Result RunVerdict JudgeFault) → bytes ≡ given ++ rest
     → (ended ≡ true → rest ≡ []) → IsAnswerOf asks_are given ended result → result ≢ Err Pull
-    → IfOk result (IsVerdict asks_are bytes) × IfErr result (NoVerdictIn asks_are bytes)
+    → IfOk result (IsRunVerdict asks_are bytes) × IfErr result (NoRunVerdictIn asks_are bytes)
 of_all asks_are bytes given rest ended result are end answer no_pull =
-    subst (λ (b : List ℕ). IfOk result (IsVerdict asks_are b) × IfErr result (NoVerdictIn asks_are b)) (sym are)
+    subst (λ (b : List ℕ). IfOk result (IsRunVerdict asks_are b) × IfErr result (NoRunVerdictIn asks_are b)) (sym are)
     (whole_answer asks_are given rest ended result end answer no_pull)
 
 -- a yes or a no, where a log ends

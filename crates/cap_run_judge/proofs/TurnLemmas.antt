@@ -20,7 +20,7 @@ use Rattle.cap_ops.specs.declared.refusal.Refusal.TheVariants.{Misplaced, Trunca
 use Rattle.cap_run_judge.specs.declared.{faults.RefusedRunLine.RefusedRunLine}
 use Rattle.cap_run_judge.specs.declared.judges.NextRunLine as code
 use Rattle.cap_run_judge.specs.declared.judges.NextRunLine.TheVariants as stages
-use Rattle.cap_run_judge.specs.Turns.{AreSafe, Body, Ended, Goes, IsSafeAt, Reads, Refused, Stage}
+use Rattle.cap_run_judge.specs.Turns.{Body, Ended, Goes, Reads, Refused, Stage}
 use Rattle.cap_run_judge.specs.Turns.{stage_after, text_of}
 use Rattle.cap_run_judge.specs.Readings.{AnswersLine, EndsAs, EndsAt, EndsFor, IsAtFault, RefusesNext, StopsAt, Takes, due_at_end}
 use Rattle.cap_run_judge.specs.Readings.{due_of, lines_by, lines_read}
@@ -32,13 +32,8 @@ pub Reads-append : (from middle to : Stage) (lines more : List RunLine) → Read
 Reads-append from middle to [] more h k = subst (λ (stage : Stage). Reads stage more to) (sym h) k
 Reads-append from middle to (line ∷ lines) more h k = (h.0, Reads-append (stage_after from line) middle to lines more h.1 k)
 
-pub AreSafe-append : (from middle : Stage) (lines more : List RunLine) → Reads from lines middle → AreSafe from lines → AreSafe middle more
-    → AreSafe from (lines ++ more)
-AreSafe-append from middle [] more h s k = subst (λ (stage : Stage). AreSafe stage more) (sym h) k
-AreSafe-append from middle (line ∷ lines) more h s k = (s.0, AreSafe-append (stage_after from line) middle lines more h.1 s.1 k)
-
 pub goes_none : (stage : Stage) → Goes stage [] stage
-goes_none stage = record { lines = []; in_range = tt; bytes_are = refl; reads = refl; safe = tt }
+goes_none stage = record { lines = []; in_range = tt; bytes_are = refl; reads = refl }
 
 unfoldable pub goes_on : (first old new : Stage) (front more : List ℕ) → Goes first front old → Goes old more new
     → Goes first (front ++ more) new
@@ -48,7 +43,6 @@ goes_on first old new front more so_far next = record {
   bytes_are = ap (λ (t : List ℕ). t ++ more) so_far.bytes_are ∙ ap (λ (t : List ℕ). text_of so_far.lines ++ t) next.bytes_are
       ∙ sym (flat_map-append (λ (line : RunLine). run_spelling line ++ 10 ∷ []) so_far.lines next.lines);
   reads = Reads-append first old new so_far.lines next.lines so_far.reads next.reads;
-  safe = AreSafe-append first old so_far.lines next.lines so_far.reads so_far.safe next.safe;
 }
 
 pub one_goes : (old new : Stage) (line : RunLine) → IsRunLineInRange line → Takes old line new → Goes old (run_spelling line ++ 10 ∷ []) new
@@ -57,7 +51,6 @@ one_goes old new line range takes = record {
   in_range = (range, tt);
   bytes_are = sym (append-nil _);
   reads = (takes.0, sym takes.1);
-  safe = (subst IsSafeAt takes.1 takes.2, tt);
 }
 
 -- one line more
@@ -98,12 +91,7 @@ steps_text (step ∷ steps) = ap (λ (t : List ℕ). (run_spelling (RunLine.Step
 steps_read : (asks_are : Asks) (old new : Run) (steps : List Step) → LeadBy asks_are old steps new
     → Reads (body asks_are old) (map RunLine.Step steps) (body asks_are new)
 steps_read asks_are old new [] lead = ap (body asks_are) lead
-steps_read asks_are old new (step ∷ steps) lead = (lead.0, steps_read asks_are (usual_after old step) new steps lead.2)
-
-steps_safe : (asks_are : Asks) (old new : Run) (steps : List Step) → LeadBy asks_are old steps new
-    → AreSafe (body asks_are old) (map RunLine.Step steps)
-steps_safe asks_are old new [] lead = tt
-steps_safe asks_are old new (step ∷ steps) lead = (lead.1, steps_safe asks_are (usual_after old step) new steps lead.2)
+steps_read asks_are old new (step ∷ steps) lead = (lead.0, steps_read asks_are (usual_after old step) new steps lead.1)
 
 pub steps_go : (asks_are : Asks) (old new : Run) (bytes : List ℕ) → MakesUsualSteps asks_are old bytes new
     → Goes (body asks_are old) bytes (body asks_are new)
@@ -112,7 +100,6 @@ steps_go asks_are old new bytes makes = record {
   in_range = steps_in_range makes.steps makes.in_range;
   bytes_are = makes.bytes_are ∙ steps_text makes.steps;
   reads = steps_read asks_are old new makes.steps makes.leads;
-  safe = steps_safe asks_are old new makes.steps makes.leads;
 }
 
 -- Stops after what was taken
@@ -143,12 +130,6 @@ pub body_answers : (asks_are : Asks) (old new : Run) (line : RunLine) (result : 
 body_answers asks_are old new line (Ok done) next answers = (answers.0, ap (body asks_are) answers.1 ∙ sym next)
 body_answers asks_are old new line (Err (RunEnd.Refused refusal)) next answers = (answers.0, ap (body asks_are) answers.1)
 body_answers asks_are old new line (Err RunEnd.NoMemory) next answers = ((answers.0, answers.1), ap (body asks_are) answers.2)
-
--- a line that leads to a stage where the run is safe is taken
-pub answer_takes : (old new : Stage) (line : RunLine) (result : Result (Unit {0}) RunEnd) → AnswersLine old line result new → IsSafeAt new
-    → IfOk result (λ _. Takes old line new)
-answer_takes old new line (Ok done) answers safe = (answers.0, answers.1, safe)
-answer_takes old new line (Err end) answers safe = tt
 
 -- Fronts
 

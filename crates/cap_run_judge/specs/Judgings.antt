@@ -5,11 +5,11 @@ use Rattle.cap_streams.specs.Front.{IsCut}
 use Rattle.cap_judge.specs.Judgings.{IsLastFront}
 use Rattle.cap_run.specs.{declared.asks.Asks.Asks, Run.Run}
 use Rattle.cap_run_judge.specs.{declared.verdict.RunVerdict.{RunVerdict, TheVariants.{Yes, No}}, Turns.{Ended, Goes, Stage, unread}}
-use Rattle.cap_run_judge.specs.Verdicts.{IsBehind, IsFirstFault, IsVerdict, MayLackMemory}
+use Rattle.cap_run_judge.specs.Verdicts.{IsBehind, IsFirstFault, IsRunVerdict, MayLackMemory}
 
 -- the verdict on these bytes, if their source has ended; otherwise a `no` that holds whatever bytes follow
 abbrev pub IsVerdictOf : Asks → List ℕ → Bool → RunVerdict → Type 0
-IsVerdictOf asks bytes true verdict = IsVerdict asks bytes verdict
+IsVerdictOf asks bytes true verdict = IsRunVerdict asks bytes verdict
 IsVerdictOf asks bytes false (Yes steps roots objects) = ⊥
 IsVerdictOf asks bytes false (No line refusal) = (more : List ℕ) → IsFirstFault asks (bytes ++ more) line refusal
 

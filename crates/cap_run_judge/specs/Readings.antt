@@ -1,5 +1,5 @@
 -- What a judge of run logs has read of the bytes that it was handed (this profile's own, as are all below).
-use Rattle.std.specs.Prelude.{◌≡◌, ◌≢◌, ◌⊎◌, ℕ, ◌+◌, Bool, false, IsTrue, List, [], ◌++◌, Option, None, Some, Result, Ok, Err}
+use Rattle.std.specs.Prelude.{◌≡◌, ◌⊎◌, ℕ, ◌+◌, Bool, false, IsTrue, List, [], Option, None, Some, Result, Ok, Err}
 use Rattle.cap_ops.specs.declared.refusal.Refusal.TheVariants.{Misplaced, Truncated}
 use Rattle.cap_streams.specs.{declared.judge_faults.JudgeFault.JudgeFault, FaultLines.bytes_of, Front.{IsCut, IsLine, IsTooLong}}
 use Rattle.tagmem.specs.declared.store.TaggedStore.{Ghosts}
@@ -15,7 +15,7 @@ use Rattle.cap_run_judge.specs.declared.judges.{RunJudge.RunJudge}
 use Rattle.cap_run_judge.specs.declared.judges.NextRunLine as code
 use Rattle.cap_run_judge.specs.declared.judges.NextRunLine.TheVariants as stages
 use Rattle.cap_run_judge.specs.declared.verdict.RunVerdict.{RunVerdict, TheVariants.{Yes, No}}
-use Rattle.cap_run_judge.specs.Turns.{Allows, Body, Due, Ended, First, Goes, IsSafeAt, Refused, Second, Stage, refusal_at, stage_after}
+use Rattle.cap_run_judge.specs.Turns.{Allows, Body, Due, Ended, First, Goes, Refused, Second, Stage, refusal_at, stage_after}
 use Rattle.cap_run_judge.specs.{Judgings.{IsVerdictOf, StopsIn}, Verdicts.{Lacks, RefusesWhole, long_refusal}}
 
 -- the run of a machine
@@ -69,14 +69,14 @@ abbrev pub EndsAt : Stage → List ℕ → RunEnd → Type 0
 EndsAt stage bytes (ends.Refused refusal) = RefusesNext stage bytes refusal
 EndsAt stage bytes ends.NoMemory = (more : List ℕ) × Lacks stage bytes more
 
+-- a line that is allowed leads from a stage to a stage
+abbrev pub Takes : Stage → RunLine → Stage → Type 0
+Takes old line new = Allows old line × (new ≡ stage_after old line)
+
 -- an answer to a line: it leads to a stage; or it isn't taken, for this reason, and nothing has changed
 abbrev pub AnswersLine : Stage → RunLine → Result (Unit {0}) RunEnd → Stage → Type 0
-AnswersLine old line (Ok done) new = Allows old line × (new ≡ stage_after old line)
+AnswersLine old line (Ok done) new = Takes old line new
 AnswersLine old line (Err end) new = EndsFor old line end × (new ≡ old)
-
--- a line that is allowed leads from a stage to a stage, where the run is safe
-abbrev pub Takes : Stage → RunLine → Stage → Type 0
-Takes old line new = Allows old line × (new ≡ stage_after old line) × IsSafeAt new
 
 -- a line is faulty: one before the bytes, or the first is what they begin with
 abbrev pub Faults : Stage → List ℕ → Stage → Type 0

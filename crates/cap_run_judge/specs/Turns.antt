@@ -6,7 +6,7 @@ use Rattle.cap_run_log.specs.declared.lines.RunLine.{RunLine}
 use Rattle.cap_run_log.specs.declared.lines.RunLine.TheVariants as lines
 use Rattle.cap_run_log.specs.RunLines.{IsRunLineInRange, run_spelling}
 use Rattle.cap_run.specs.declared.{asks.Asks.Asks, ends.RunRefusal.{RunRefusal, TheVariants.Usual}}
-use Rattle.cap_run.specs.{Run.Run, RunChanges.{line_after, no_run}, RunChecks.line_end, Safety.IsSafe}
+use Rattle.cap_run.specs.{Run.Run, RunChanges.{line_after, no_run}, RunChecks.line_end}
 
 -- what the next line of a run log has to be: the version line; the mode line; a root, a step or the end line; none, after
 -- the end line; or none, after the faulty line with this number and this text
@@ -60,23 +60,13 @@ abbrev pub Reads : Stage → List RunLine → Stage → Type 0
 Reads from [] to = from ≡ to
 Reads from (line ∷ lines) to = Allows from line × Reads (stage_after from line) lines to
 
--- the run is safe: no address lies in what two objects reach
-abbrev pub IsSafeAt : Stage → Type 0
-IsSafeAt stage = IsSafe stage.asks.held stage.run
-
--- the run is safe after each of these lines
-abbrev pub AreSafe : Stage → List RunLine → Type 0
-AreSafe from [] = Unit {0}
-AreSafe from (line ∷ lines) = let next = stage_after from line in IsSafeAt next × AreSafe next lines
-
 -- the text of lines: each line's spelling and a line feed
 abbrev pub text_of : List RunLine → List ℕ
 text_of lines = flat_map (λ line. run_spelling line ++ 10 ∷ []) lines
 
--- the bytes are lines that lead from a stage to a stage, and the run is safe after each
+-- the bytes are lines that lead from a stage to a stage
 pub record Goes (old : Stage) (bytes : List ℕ) (new : Stage) : Type 0 where
   pub lines : List RunLine
   pub in_range : AllByRecursion IsRunLineInRange lines
   pub bytes_are : bytes ≡ text_of lines
   pub reads : Reads old lines new
-  pub safe : AreSafe old lines

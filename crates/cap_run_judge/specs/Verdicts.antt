@@ -1,12 +1,13 @@
 -- The verdict on the bytes of a run log. All of it is this profile's own.
-use Rattle.std.specs.Prelude.{◌≡◌, ◌≢◌, ℕ, ◌+◌, List, [], ◌++◌, length, IsTrue, Option, Some}
+use Rattle.std.specs.Prelude.{◌≡◌, ◌≢◌, ℕ, ◌+◌, List, [], ◌∷◌, ◌++◌, length, IsTrue, Option, Some}
 use Rattle.cap_ops.specs.declared.refusal.Refusal.TheVariants.{LineTooLong, Misplaced, Truncated}
 use Rattle.cap_streams.specs.declared.judge_faults.JudgeFault.{JudgeFault, TheVariants.{Pull, NoMemory}}
 use Rattle.cap_streams.specs.Front.{FrontIs}
 use Rattle.cap_log.specs.Parts.{Begins, ReadsAs}
 use Rattle.cap_run_log.specs.{declared.lines.RunLine.RunLine, RunLines.{IsRunLineInRange, run_spelling}}
 use Rattle.cap_run.specs.declared.{asks.Asks.Asks, ends.RunRefusal.{RunRefusal, TheVariants.Usual}}
-use Rattle.cap_run.specs.RunChecks.{line_wants}
+use Rattle.cap_run.specs.{Allowed.DescendsFromOne, Descents.{LiesInRoot, StaysWithinRoots, run_along}, OwnedAccesses.AccessesOwn}
+use Rattle.cap_run.specs.{RunChecks.line_wants, Safety.IsSafe}
 use Rattle.cap_run_judge.specs.declared.verdict.RunVerdict.{RunVerdict, TheVariants.{Yes, No}}
 use Rattle.cap_run_judge.specs.Turns.{Allows, Body, Due, Ended, First, Goes, Second, Stage, refusal_at, unread}
 
@@ -38,11 +39,25 @@ abbrev pub Refuses : Stage → List ℕ → RunRefusal → Type 0
 Refuses stage rest refusal =
     FrontIs rest (refusal ≡ long_refusal stage.due) (RefusesCut stage.due rest refusal) (λ text. RefusesWhole stage text refusal)
 
--- the bytes are a whole run log, whose run is safe after each line, with these counts of steps, roots and objects
-pub record IsYes (asks : Asks) (bytes : List ℕ) (step_count root_count object_count : ℕ) : Type 0 where
+-- what is true along the lines of a run log
+pub record IsRunGuarded (asks : Asks) (lines : List RunLine) : Type 0 where
+  -- at every moment each tagged capability in a register, a special register or memory has bounds inside and permissions
+  -- among those of the one root that it descends from, and each access lies inside such a root
+  pub roots : (before after : List RunLine) → lines ≡ before ++ after → StaysWithinRoots before
+  pub one_root : (before after : List RunLine) → lines ≡ before ++ after → DescendsFromOne before
+  pub accesses : (before after : List RunLine) (line : RunLine) → lines ≡ before ++ line ∷ after → LiesInRoot before line
+  -- at every moment what an object owns has bounds inside the object's extent, no address lies in the extents of two
+  -- objects, nor in what two capabilities of two objects reach, and an access through what an object owns touches no byte of
+  -- another
+  pub objects : (before after : List RunLine) → lines ≡ before ++ after → IsSafe asks.held (run_along before)
+  pub owners : (before after : List RunLine) (line : RunLine) → lines ≡ before ++ line ∷ after → AccessesOwn asks (run_along before) line
+
+-- the bytes are a whole run log, with these counts of steps, roots and objects
+pub record IsRunYes (asks : Asks) (bytes : List ℕ) (step_count root_count object_count : ℕ) : Type 0 where
   pub stage : Stage
   pub goes : Goes (unread asks) bytes stage
   pub ended : stage.due ≡ Ended
+  pub guarded : IsRunGuarded asks goes.lines
   pub step_count_is : step_count ≡ stage.run.steps
   pub root_count_is : root_count ≡ stage.run.roots
   pub object_count_is : object_count ≡ stage.run.count
@@ -56,9 +71,9 @@ pub record IsFirstFault (asks : Asks) (bytes : List ℕ) (number : ℕ) (refusal
   pub refused : Refuses stage rest refusal
 
 -- `yes` for a whole run log; otherwise `no` with the first faulty line
-abbrev pub IsVerdict : Asks → List ℕ → RunVerdict → Type 0
-IsVerdict asks bytes (Yes steps roots objects) = IsYes asks bytes steps roots objects
-IsVerdict asks bytes (No line refusal) = IsFirstFault asks bytes line refusal
+abbrev pub IsRunVerdict : Asks → List ℕ → RunVerdict → Type 0
+IsRunVerdict asks bytes (Yes steps roots objects) = IsRunYes asks bytes steps roots objects
+IsRunVerdict asks bytes (No line refusal) = IsFirstFault asks bytes line refusal
 
 -- the bytes begin with a line that no check refuses at a stage, and that may want memory, before this rest
 pub record Lacks (stage : Stage) (bytes more : List ℕ) : Type 0 where
@@ -75,6 +90,6 @@ pub record MayLackMemory (asks : Asks) (bytes more : List ℕ) : Type 0 where
   pub lacks : Lacks stage rest more
 
 -- there is no verdict: after lines that begin a run log, a line that fails no check may want memory
-abbrev pub NoVerdictIn : Asks → List ℕ → JudgeFault → Type 0
-NoVerdictIn asks bytes Pull = ⊥
-NoVerdictIn asks bytes NoMemory = (more : List ℕ) × MayLackMemory asks bytes more
+abbrev pub NoRunVerdictIn : Asks → List ℕ → JudgeFault → Type 0
+NoRunVerdictIn asks bytes Pull = ⊥
+NoRunVerdictIn asks bytes NoMemory = (more : List ℕ) × MayLackMemory asks bytes more

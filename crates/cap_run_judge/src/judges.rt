@@ -144,23 +144,12 @@ impl<M: TaggedStore> RunJudge<M> {
             return Err(Stop::Fault);
         }
         match take_run_line(bytes) {
-            Some((line, rest)) => match self.take_line(&line) {
+            Some((line, rest)) => match self.follow(&line) {
                 Ok(()) => Ok(rest),
                 Err(end) => Err(self.stop(end, front(bytes), bytes)),
             },
             None => Err(self.stop_at_other(bytes)),
         }
-    }
-
-    // Takes a line.
-    fn take_line(&mut self, line: &RunLine) -> Result<(), RunEnd>
-        requires in_range { IsRunLineInRange line.now }
-        ensures answers { AnswersLine (stage_of self.old) line.now result (stage_of self.new) }
-        ensures safe { IfOk result (λ _. Takes (stage_of self.old) line.now (stage_of self.new)) }
-    {
-        let answer = self.follow(line);
-        self.machine.kept();
-        answer
     }
 
     // Stops where no line of run logs stands.

@@ -5,12 +5,12 @@ ghost use Rattle.cap_streams.specs.Front.{IsCut};
 ghost use Rattle.cap_run.specs.declared.asks.Asks.{Asks};
 ghost use Rattle.cap_run_judge.specs.{declared.verdict.RunVerdict.RunVerdict, Turns.{Goes, Stage, unread}};
 ghost use Rattle.cap_run_judge.specs.Readings.{EndsIn, EndsWith, Faults};
-ghost use Rattle.cap_run_judge.specs.Verdicts.{IsVerdict, Lacks, MayLackMemory};
+ghost use Rattle.cap_run_judge.specs.Verdicts.{IsRunVerdict, Lacks, MayLackMemory};
 
 /// No bytes have two verdicts: a run log has one number of steps, one of roots and one of objects, and any other bytes
 /// have one faulty line, with one refusal.
 pub fn one_run_verdict()
-    ensures law { (asks : Asks) (bytes : List ℕ) (a b : RunVerdict) → IsVerdict asks bytes a → IsVerdict asks bytes b → a ≡ b }
+    ensures law { (asks : Asks) (bytes : List ℕ) (a b : RunVerdict) → IsRunVerdict asks bytes a → IsRunVerdict asks bytes b → a ≡ b }
 {}
 
 /// Where a [`RunJudge`](crate::RunJudge) is once it has read some bytes: what its calls say of its stage is said of the

@@ -4,7 +4,7 @@ ghost use Rattle.std.specs.Prelude.{◌≡◌, ◌≤◌, ℕ, List, [], ◌++�
 ghost use Rattle.std.specs.FinMap as map;
 ghost use Rattle.cap_streams.specs.{declared.judge_faults.JudgeFault.TheVariants.Pull, FaultLines.bytes_of};
 ghost use Rattle.cap_streams.specs.{ReadBuffers.items, Streams.CountsOnly};
-ghost use Rattle.cap_run_judge.specs.{Judgings.{Judged, JudgedBy}, Turns.unread, Verdicts.{IsVerdict, NoVerdictIn}};
+ghost use Rattle.cap_run_judge.specs.{Judgings.{Judged, JudgedBy}, Turns.unread, Verdicts.{IsRunVerdict, NoRunVerdictIn}};
 ghost use Rattle.cap_run_judge.specs.Readings.{IsAnswered, StopsAt, lines_read, run_in, stage_of};
 
 use crate::faults::RefusedRunLine;
@@ -19,10 +19,10 @@ use tagmem::{PageStore, TaggedStore};
 /// Judges the bytes of a run log. It is `Yes` exactly for a run log of whose lines no check fails, and otherwise `No`
 /// with the first faulty line. After each line no address lies in what capabilities of two objects reach.
 pub fn judge_run_bytes(alloc: Global, asks: Asks, bytes: &[u8]) -> Result<RunVerdict, JudgeFault>
-    ensures verdict { IfOk result (IsVerdict asks bytes.now) }
+    ensures verdict { IfOk result (IsRunVerdict asks bytes.now) }
 
     // There is no verdict only where a line that no check refuses names a granule for the first time, or an object.
-    ensures fault { IfErr result (NoVerdictIn asks bytes.now) }
+    ensures fault { IfErr result (NoRunVerdictIn asks bytes.now) }
 {
     judge_run(alloc, asks, &mut SliceSource::new(bytes, &[]))
 }

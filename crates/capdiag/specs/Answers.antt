@@ -7,7 +7,7 @@ use Rattle.cap_judge.specs.Verdicts.{IsVerdict}
 use Rattle.cap_report.specs.Whys.{Explains}
 use Rattle.cap_program.specs.{declared.faults.Fault.{Fault, TheVariants.BadWords}, Commands.Meaning}
 use Rattle.cap_program.specs.Judging.{ShowsVerdict, StopsJudging}
-use Rattle.capdiag.specs.declared.words.Order.{Order, TheVariants.{Help, Version, Why, Heap}}
+use Rattle.capdiag.specs.declared.words.Order.{Order, TheVariants.{Help, Version, Why, Heap, Run}}
 use Rattle.capdiag.specs.Showings.{help_text, version_line}
 
 -- the text of the verdict on the bytes given as an allocator's log, with the reports of a yes and of a no where they are
@@ -27,6 +27,7 @@ Prints (Some (Why origins file)) input text status =
     × (verdict : Verdict) × IsVerdict bytes verdict × Explains origins bytes true verdict text × (status ≡ verdict_status verdict)
 Prints (Some (Heap report why file)) input text status =
     (bytes : List ℕ) × IfSome input (λ known. known ≡ bytes) × ShowsHeap report why bytes true text status
+Prints (Some (Run freed owned owners file)) input text status = ⊥
 
 -- an order that cannot be followed: there is none
 abbrev pub IsFaulty : Option Order → Type 0
@@ -37,6 +38,7 @@ IsFaulty (Some order) = ⊥
 abbrev pub ReadsInput : Option Order → Type 0
 ReadsInput (Some (Why origins file)) = Unit {0}
 ReadsInput (Some (Heap report why file)) = Unit {0}
+ReadsInput (Some (Run freed owned owners file)) = Unit {0}
 ReadsInput order = ⊥
 
 -- the text that belongs to an order and the bytes given for it, and its status
@@ -47,6 +49,7 @@ Shows (Some Version) given ended text status = (text ≡ version_line) × (statu
 Shows (Some (Why origins file)) given ended text status =
     ShowsVerdict verdict_status (IsAnswerOf given ended) (Explains origins given ended) text status
 Shows (Some (Heap report why file)) given ended text status = ShowsHeap report why given ended text status
+Shows (Some (Run freed owned owners file)) given ended text status = ⊥
 
 -- the fault that belongs to an order and the bytes given for it, but for one of the output
 abbrev pub Fails : Option Order → List ℕ → Fault → Type 0

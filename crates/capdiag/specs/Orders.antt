@@ -1,21 +1,145 @@
--- What the words after the program's name ask for.
-use Rattle.std.specs.Prelude.{◌≡◌, ◌⊎◌, ℕ, List, [], ◌∷◌, ◌++◌, codes, IsTrue, Some, None}
-use Rattle.cap_program.specs.Words.{is_operand, option_word}
-use Rattle.capdiag.specs.declared.words.Order.{Order, TheVariants.{Help, Version, Why, Heap}}
+-- What the words after the program's name ask for, or what is wrong with them. All of it is this profile's own.
+use Rattle.std.specs.Prelude.{◌≡◌, ℕ, Bool, true, false, ◌||◌, List, [], ◌∷◌, codes, bytes_eq, if◌then◌else◌}
+use Rattle.std.specs.Prelude.{Option, Some, None, is_some, option_map, Result, Ok, Err}
+use Rattle.cap_program.specs.Words.{is_operand}
+use Rattle.capdiag.specs.declared.complaints.Complaint.{Complaint}
+use Rattle.capdiag.specs.declared.complaints.Complaint.TheVariants.{NoCommand, UnknownCommand, UnknownOption, NoValue, UnknownValue}
+use Rattle.capdiag.specs.declared.complaints.Complaint.TheVariants.{SecondFile, Twice, Alone}
+use Rattle.capdiag.specs.declared.words.Order.{Order, TheVariants.{Help, Version, Why, Heap, Run}}
+use Rattle.capdiag.specs.declared.words.Freed.TheVariants.{Held, Used, Both}
+use Rattle.capdiag.specs.declared.words.Due.{Due, TheVariants.{Any, Value, File}}
 
--- the words ask how the program is used (this profile's own)
-abbrev pub AsksHelp : List (List ℕ) → Type 0
-AsksHelp words =
-    (words ≡ codes "--help" ∷ []) ⊎ ((words ≡ codes "why" ∷ codes "--help" ∷ []) ⊎ (words ≡ codes "heap" ∷ codes "--help" ∷ []))
+-- what is asked for: what the next word is, an order that doesn't have its file yet, and the operand
+abbrev pub Asked : Type 0
+Asked = Due × Order × Option (List ℕ)
 
--- the words ask for this order (this profile's own)
+-- what was read: what is asked for, or what is wrong, and with which word
+abbrev pub Read : Type 0
+Read = Result Asked (Complaint × List ℕ)
+
+-- an order with an option, if it wasn't given before
+abbrev pub once : Bool → Order → Result Order Complaint
+once false order = Ok order
+once true order = Err Twice
+
+-- an order with one option more
+abbrev pub with_option : Order → List ℕ → Result Order Complaint
+with_option (Why origins file) word = if bytes_eq word (codes "--origins") then once origins (Why true file) else Err UnknownOption
+with_option (Heap report why file) word =
+    if bytes_eq word (codes "--report") then once report (Heap true why file)
+    else if bytes_eq word (codes "--why") then once why (Heap report true file)
+    else Err UnknownOption
+with_option (Run freed owned owners file) word =
+    if bytes_eq word (codes "--owned") then once owned (Run freed true owners file)
+    else if bytes_eq word (codes "--owners") then once owners (Run freed owned true file)
+    else Err UnknownOption
+with_option order word = Err UnknownOption
+
+-- whether a word is an option of the order that takes a value, and whether the order has that value
+abbrev pub takes_value : Order → List ℕ → Bool
+takes_value (Run freed owned owners file) word = bytes_eq word (codes "--freed")
+takes_value order word = false
+
+abbrev pub has_value : Order → Bool
+has_value (Run freed owned owners file) = is_some freed
+has_value order = false
+
+-- an order with the value of its option
+abbrev pub with_value : Order → List ℕ → Result Order Complaint
+with_value (Run freed owned owners file) word =
+    if bytes_eq word (codes "held") then Ok (Run (Some Held) owned owners file)
+    else if bytes_eq word (codes "used") then Ok (Run (Some Used) owned owners file)
+    else if bytes_eq word (codes "both") then Ok (Run (Some Both) owned owners file)
+    else Err UnknownValue
+with_value order word = Err UnknownValue
+
+-- what is asked for after an option
+abbrev pub after_option : Asked → List ℕ → Result Order Complaint → Read
+after_option (due, order, operand) word (Ok more) = Ok (due, more, operand)
+after_option asked word (Err complaint) = Err (complaint, word)
+
+-- what is asked for with one operand more: there is one at most
+abbrev pub with_operand : Asked → List ℕ → Read
+with_operand (due, order, None) word = Ok (due, order, Some word)
+with_operand (due, order, Some other) word = Err (SecondFile, word)
+
+-- whether a word is an operand before the options have ended: it is a minus sign alone, or doesn't begin with one
+abbrev pub is_taken : List ℕ → Bool
+is_taken word = bytes_eq word (codes "-") || is_operand word
+
+-- what is asked for with one word more
+abbrev pub with_word : Asked → List ℕ → Read
+with_word (Value, order, operand) word = after_option (Any, order, operand) word (with_value order word)
+with_word (File, order, operand) word = with_operand (File, order, operand) word
+with_word (Any, order, operand) word =
+    if is_taken word then with_operand (Any, order, operand) word
+    else if bytes_eq word (codes "--") then Ok (File, order, operand)
+    else if bytes_eq word (codes "--help") then Err (Alone, word)
+    else if takes_value order word then after_option (Value, order, operand) word (once (has_value order) order)
+    else after_option (Any, order, operand) word (with_option order word)
+
+-- what is asked for where the words end
+abbrev pub at_end : Asked → Read
+at_end (Value, order, operand) = Err (NoValue, codes "--freed")
+at_end (Any, order, operand) = Ok (Any, order, operand)
+at_end (File, order, operand) = Ok (File, order, operand)
+
+-- what is asked for with more words, read from left to right until one is wrong
+abbrev pub with_words : Read → List (List ℕ) → Read
+with_words (Err wrong) words = Err wrong
+with_words (Ok asked) [] = at_end asked
+with_words (Ok asked) (word ∷ words) = with_words (with_word asked word) words
+
+-- whether the words after a command ask for help
+abbrev pub is_help : List (List ℕ) → Bool
+is_help (word ∷ []) = bytes_eq word (codes "--help")
+is_help words = false
+
+-- what a command and the words after it ask for
+abbrev pub after_command : Order → List (List ℕ) → Read
+after_command order words = if is_help words then Ok (Any, Help, None) else with_words (Ok (Any, order, None)) words
+
+-- what an option in place of a command asks for: no other word stands beside it
+abbrev pub alone : Order → List ℕ → List (List ℕ) → Read
+alone order option [] = Ok (Any, order, None)
+alone order option (word ∷ words) = Err (Alone, option)
+
+-- what the words ask for
+abbrev pub read_words : List (List ℕ) → Read
+read_words [] = Err (NoCommand, [])
+read_words (command ∷ words) =
+    if bytes_eq command (codes "why") then after_command (Why false None) words
+    else if bytes_eq command (codes "heap") then after_command (Heap false false None) words
+    else if bytes_eq command (codes "run") then after_command (Run None false false false None) words
+    else if bytes_eq command (codes "--help") then alone Help command words
+    else if bytes_eq command (codes "--version") then alone Version command words
+    else if is_operand command then Err (UnknownCommand, command)
+    else Err (UnknownOption, command)
+
+-- an order without its file
+abbrev pub without_file : Order → Order
+without_file (Why origins file) = Why origins None
+without_file (Heap report why file) = Heap report why None
+without_file (Run freed owned owners file) = Run freed owned owners None
+without_file order = order
+
+-- the file that an operand names: a minus sign alone names standard input, as no operand does
+abbrev pub file_of : Option (List ℕ) → Option (List ℕ)
+file_of None = None
+file_of (Some word) = if bytes_eq word (codes "-") then None else Some word
+
+-- an order that judges has the file that the operand names
+abbrev pub HasFile : Order → Option (List ℕ) → Type 0
+HasFile (Why origins file) operand = file_of operand ≡ option_map (λ word. word.now) file
+HasFile (Heap report why file) operand = file_of operand ≡ option_map (λ word. word.now) file
+HasFile (Run freed owned owners file) operand = file_of operand ≡ option_map (λ word. word.now) file
+HasFile order operand = Unit {0}
+
+-- the words ask for this order
 abbrev pub Asks : List (List ℕ) → Order → Type 0
-Asks words Help = AsksHelp words
-Asks words Version = words ≡ codes "--version" ∷ []
-Asks words (Why origins None) = words ≡ codes "why" ∷ option_word origins (codes "--origins")
-Asks words (Why origins (Some file)) =
-    (words ≡ codes "why" ∷ (option_word origins (codes "--origins") ++ file.now ∷ [])) × IsTrue (is_operand file.now)
-Asks words (Heap report why None) = words ≡ codes "heap" ∷ (option_word report (codes "--report") ++ option_word why (codes "--why"))
-Asks words (Heap report why (Some file)) =
-    (words ≡ codes "heap" ∷ (option_word report (codes "--report") ++ (option_word why (codes "--why") ++ file.now ∷ [])))
-    × IsTrue (is_operand file.now)
+Asks words order =
+    (asked : Asked) × (read_words words ≡ Ok asked) × (without_file asked.1 ≡ without_file order) × HasFile order asked.2
+
+-- what is wrong with words that ask for no order, and the word that is wrong
+abbrev pub IsComplaint : List (List ℕ) → Complaint → List ℕ → Type 0
+IsComplaint words complaint wrong = read_words words ≡ Err (complaint, wrong)

@@ -1,29 +1,42 @@
-//! What the program says of words that spell no order, of a file that cannot be opened, and where it waits for a terminal.
+//! What the program says of words that ask for no order, of a file that cannot be opened, and where it waits for a terminal.
 
-ghost use Rattle.std.specs.Prelude.{◌≡◌, ℕ, List, ◌+◌, ◌≤◌, ◌↔◌, IsTrue, length, map, take};
+ghost use Rattle.std.specs.Prelude.{◌≡◌, ◌+◌, ◌≤◌, length, take};
 ghost use Rattle.cap_streams.specs.Written.{Writes};
 ghost use Rattle.cap_program.specs.Doings.{IsPushed};
-ghost use Rattle.capdiag.specs.Complaints.{IsComplaint, IsKnown, IsOperandComplaint, IsWordsLine, complaint_line};
-ghost use Rattle.capdiag.specs.Complaints.{front_text, quoted, reason_text, subject, unopened_line, waiting_line};
+ghost use Rattle.capdiag.specs.Complaints.{complaint_line, front_text, quoted, reason_text, subject, unopened_line, waiting_line};
 
 use cap_log::buffers::put;
 use cap_log::{Sink, push_all};
-use cap_program::is_operand;
 use cap_texts::shown_bytes::put_shown;
 
-/// Why words spell no order.
+/// What is wrong with the words after the program's name.
 #[derive(Debug, Clone, Copy, PartialEq, Eq)]
 pub enum Complaint {
-    /// There is none.
+    /// There is no word.
     NoCommand,
-    /// The first is no command.
-    Command,
-    /// One is no option of its command.
-    Option,
-    /// One follows the file.
-    AfterFile,
-    /// Each is an option or the file, but they spell no order together.
-    Together,
+    /// The first word is no command.
+    UnknownCommand,
+    /// A word is no option of its command.
+    UnknownOption,
+    /// The value of an option is missing.
+    NoValue,
+    /// A word is no value of the option before it.
+    UnknownValue,
+    /// A word names a second file.
+    SecondFile,
+    /// An option is given twice.
+    Twice,
+    /// An option that takes no other word is given with one.
+    Alone,
+}
+
+/// Why the words after the program's name ask for no order.
+#[derive(Debug, Clone, Copy, PartialEq, Eq)]
+pub struct Wrong<'a> {
+    /// What is wrong.
+    pub complaint: Complaint,
+    /// The word that is wrong, empty where there is none.
+    pub word: &'a str,
 }
 
 /// Why a file cannot be opened.
@@ -45,14 +58,12 @@ pub enum Unopened {
     Other,
 }
 
-/// Pushes the line that says why these words spell no order. Where the sink fails it took a beginning of the line.
-pub fn tell_words<F: Sink>(words: &[&str], faults: &mut F)
-    ensures told { (line : List ℕ) × IsWordsLine (map (λ word. word.now) words.now) line
-        × IsPushed F.took F.faults faults.old faults.new line }
+/// Pushes the line that says why words ask for no order. Where the sink fails it took a beginning of the line.
+pub fn tell_words<F: Sink>(wrong: Wrong<'_>, faults: &mut F)
+    ensures told { IsPushed F.took F.faults faults.old faults.new (complaint_line wrong.entry.complaint wrong.entry.word.now) }
 {
-    let (complaint, word) = complaint_of(words);
     let mut line = [0u8; 512];
-    let length = put_complaint(complaint, word, &mut line);
+    let length = put_complaint(wrong.complaint, wrong.word, &mut line);
     let _pushed = push_all(faults, &line[..length]);
 }
 
@@ -75,10 +86,14 @@ fn put_subject(buffer: &mut [u8], at: usize, complaint: Complaint, word: &str) -
     ensures fits { result ≤ at + 258 }
 {
     match complaint {
-        Complaint::NoCommand | Complaint::Together => at,
-        Complaint::Command | Complaint::Option | Complaint::AfterFile => {
-            put_quoted(buffer, at, word)
-        }
+        Complaint::NoCommand => at,
+        Complaint::UnknownCommand
+        | Complaint::UnknownOption
+        | Complaint::NoValue
+        | Complaint::UnknownValue
+        | Complaint::SecondFile
+        | Complaint::Twice
+        | Complaint::Alone => put_quoted(buffer, at, word),
     }
 }
 
@@ -134,57 +149,6 @@ fn front(bytes: &[u8]) -> &[u8]
     &bytes[..bytes.len().min(64)]
 }
 
-// What is wrong with words that spell no order, and with which of them.
-fn complaint_of<'a>(words: &[&'a str]) -> (Complaint, &'a str)
-    ensures found { IsComplaint (map (λ word. word.now) words.now) result.0 result.1.now }
-{
-    let Some((command, operands)) = words.split_first() else {
-        return (Complaint::NoCommand, "");
-    };
-    match *command {
-        "why" => operand_complaint(false, false, operands),
-        "heap" => operand_complaint(true, false, operands),
-        "--help" | "--version" => (Complaint::Together, ""),
-        command if is_operand(command) => (Complaint::Command, command),
-        command => (Complaint::Option, command),
-    }
-}
-
-// What is wrong with the words after a command, before or after the file was seen.
-fn operand_complaint<'a>(
-    is_heap: bool,
-    is_after: bool,
-    operands: &[&'a str],
-) -> (Complaint, &'a str)
-    ensures found { IsOperandComplaint is_heap is_after (map (λ word. word.now) operands.now) result.0 result.1.now }
-{
-    let Some((word, rest)) = operands.split_first() else {
-        return (Complaint::Together, "");
-    };
-    if is_after {
-        return (Complaint::AfterFile, word);
-    }
-    if is_operand(word) {
-        return operand_complaint(is_heap, true, rest);
-    }
-    if is_known(is_heap, word) {
-        return operand_complaint(is_heap, false, rest);
-    }
-    (Complaint::Option, word)
-}
-
-// Whether a word is an option of its command.
-fn is_known(is_heap: bool, word: &str) -> bool
-    ensures known { IsTrue result ↔ IsKnown is_heap word.now }
-{
-    match word {
-        "--help" => true,
-        "--report" | "--why" => is_heap,
-        "--origins" => !is_heap,
-        _ => false,
-    }
-}
-
 // What stands before the word.
 fn front_text(complaint: Complaint) -> &'static [u8]
     ensures text { result.now ≡ front_text complaint }
@@ -192,10 +156,13 @@ fn front_text(complaint: Complaint) -> &'static [u8]
 {
     match complaint {
         Complaint::NoCommand => b"no command",
-        Complaint::Command => b"unknown command ",
-        Complaint::Option => b"unknown option ",
-        Complaint::AfterFile => b"a word after the file: ",
-        Complaint::Together => b"an option is given twice, out of order, or beside --help",
+        Complaint::UnknownCommand => b"unknown command ",
+        Complaint::UnknownOption => b"unknown option ",
+        Complaint::NoValue => b"held, used or both is missing after ",
+        Complaint::UnknownValue => b"--freed takes held, used or both, not ",
+        Complaint::SecondFile => b"one file at most: ",
+        Complaint::Twice => b"given twice: ",
+        Complaint::Alone => b"other words beside ",
     }
 }
 

@@ -12,7 +12,7 @@ mod runs;
 mod tests;
 mod words;
 
-pub use crate::complaints::{Unopened, tell_unopened, tell_waiting, tell_words};
+pub use crate::complaints::{Complaint, Unopened, Wrong, tell_unopened, tell_waiting, tell_words};
 pub use crate::runs::run;
 pub use crate::words::{Order, read_words};
 use cap_log::WriteSink;
@@ -34,7 +34,7 @@ fn main(rt: HostRuntime) -> ExitCode {
     })
 }
 
-// Collects the words, and follows the order that they spell, or says why they spell none.
+// Collects the words, and follows the order that they ask for, or says why they ask for none.
 fn answer(rt: &HostRuntime) -> Result<u8, AllocError> {
     let Some(texts) = collect_words(rt)? else {
         let done = Err(Fault::BadWords);
@@ -45,9 +45,12 @@ fn answer(rt: &HostRuntime) -> Result<u8, AllocError> {
     for text in &texts {
         words.push(text.as_str())?;
     }
-    let Some(order) = read_words(words.as_slice()) else {
-        tell_words(words.as_slice(), &mut WriteSink::new(&mut rt.stderr()));
-        return Ok(Fault::BadWords.status());
+    let order = match read_words(words.as_slice()) {
+        Ok(order) => order,
+        Err(wrong) => {
+            tell_words(wrong, &mut WriteSink::new(&mut rt.stderr()));
+            return Ok(Fault::BadWords.status());
+        }
     };
     let (out, errors) = (&mut rt.stdout(), &mut rt.stderr());
     Ok(match file_of(order) {
@@ -83,7 +86,7 @@ fn open(rt: &HostRuntime, path: &str) -> Result<File, Unopened> {
 // Whether an order judges a log.
 fn reads_log(order: Order) -> bool {
     match order {
-        Order::Why { .. } | Order::Heap { .. } => true,
+        Order::Why { .. } | Order::Heap { .. } | Order::Run { .. } => true,
         Order::Help | Order::Version => false,
     }
 }
@@ -91,7 +94,7 @@ fn reads_log(order: Order) -> bool {
 // The file that an order names.
 pub(crate) fn file_of<'a>(order: Order<'a>) -> Option<&'a str> {
     match order {
-        Order::Why { file, .. } | Order::Heap { file, .. } => file,
+        Order::Why { file, .. } | Order::Heap { file, .. } | Order::Run { file, .. } => file,
         Order::Help | Order::Version => None,
     }
 }

@@ -18,17 +18,50 @@ pub const ROWS: &str = r#"
 2 --orgins / why --orgins log
 ! capdiag: unknown option '--orgins'; see capdiag --help
 
-2 why - / heap -
+2 why --why / why log --why --origins
+! capdiag: unknown option '--why'; see capdiag --help
+
+2 - / - why
 ! capdiag: unknown option '-'; see capdiag --help
 
-2 why log --origins
-! capdiag: a word after the file: '--origins'; see capdiag --help
+2 run --origins / run log --freed used --origins
+! capdiag: unknown option '--origins'; see capdiag --help
 
-2 why a b / heap a b
-! capdiag: a word after the file: 'b'; see capdiag --help
+2 run --freed / run log --freed / run --owned --freed
+! capdiag: held, used or both is missing after '--freed'; see capdiag --help
 
-2 why --origins --origins / why --help log / heap --report --report / heap --why --report / --help why / --version log
-! capdiag: an option is given twice, out of order, or beside --help; see capdiag --help
+2 run --freed log / run --owned --freed log held
+! capdiag: --freed takes held, used or both, not 'log'; see capdiag --help
+
+2 run --freed -- / run --freed -- held
+! capdiag: --freed takes held, used or both, not '--'; see capdiag --help
+
+2 run --freed held --freed held / run --freed both log --freed / run --freed used --freed --owned
+! capdiag: given twice: '--freed'; see capdiag --help
+
+2 run --owned log --owners --owned
+! capdiag: given twice: '--owned'; see capdiag --help
+
+2 why a b / run --freed used a b / run a --why b / run --owned -- a b / why a --origins b c / heap a -- b / heap -- - b
+! capdiag: one file at most: 'b'; see capdiag --help
+
+2 why log - / heap - -
+! capdiag: one file at most: '-'; see capdiag --help
+
+2 why -- log -- / heap log -- --
+! capdiag: one file at most: '--'; see capdiag --help
+
+2 why --origins --origins / why --origins log --origins log
+! capdiag: given twice: '--origins'; see capdiag --help
+
+2 heap --report --report / heap --report --why log --report --why
+! capdiag: given twice: '--report'; see capdiag --help
+
+2 --help why / why --help log / why log --help / heap --report --help / heap --help --help
+! capdiag: other words beside '--help'; see capdiag --help
+
+2 --version log
+! capdiag: other words beside '--version'; see capdiag --help
 
 # a word is cut after its first 64 bytes, and shown in ASCII
 2 12345678901234567890123456789012345678901234567890123456789012345678
@@ -56,8 +89,9 @@ pub const ROWS: &str = r#"
 0 --version
 = capdiag 1.2.0
 
-# no steps
-0 why / why log / why --origins / why --origins log
+# no steps, with the options before the file and after it
+0 why / why log / why --origins / why --origins log / why log --origins / why - / why - --origins / why -- / why -- log
+0 why --origins -- log / why log -- / why --origins -- / why -- -
 | capcheck 1 / end 0
 = yes 0 0
 
@@ -71,12 +105,20 @@ pub const ROWS: &str = r#"
 | capcheck 1 / end 0
 ! capdiag: cannot open 'gone': no such file
 
+3 why -- --origins / why --origins -- --origins
+| capcheck 1 / end 0
+! capdiag: cannot open '--origins': no such file
+
+3 run gone / run --freed used gone / run gone --freed both / run --owned gone --owners / run -- gone
+| run 1 / mode strict / end 0
+! capdiag: cannot open 'gone': no such file
+
 3 why ''
 | capcheck 1 / end 0
 ! capdiag: cannot open '': no such file
 
 # a register that was cleared, and a granule
-0 why --origins / why --origins log
+0 why --origins / why --origins log / why log --origins / why --origins - / why - --origins
 | capcheck 1 / root c1 ffff1ffffc0180040000000000000000 / move c2 c1 = 1 ffff1ffffc0180040000000000000000
 | sc c2 c1 16 / cleartag c1 c1 = 0 ffff1ffffc0180040000000000000000 / end 3
 = yes 3 1 / origin c2 c1 / origin @0000000000000010 c1
@@ -131,7 +173,8 @@ pub const ROWS: &str = r#"
 = no 4 28 Overlaps
 
 # the same with what its tests saw
-1 heap --why / heap --why log / heap --report --why / heap --report --why log
+1 heap --why / heap --why log / heap --report --why / heap --report --why log / heap --why --report / heap log --why
+1 heap --why log --report / heap --why -- log / heap - --report --why
 | heap 1 / root 0000000000000000 10000000000000000 / malloc 0000000000010000 0000000000001001
 | malloc 0000000000011001 0000000000000001 / end 2
 = no 4 28 Overlaps / line malloc 0000000000011001 0000000000000001 / request 0000000000011001 00000000000011002
@@ -140,7 +183,8 @@ pub const ROWS: &str = r#"
 = live length 00000000000001008 / live alignment 00000000000000008
 
 # objects that lie apart, with what their bounds cost
-0 heap --report / heap --report log / heap --report --why / heap --report --why log
+0 heap --report / heap --report log / heap --report --why / heap --report --why log / heap log --report --why
+0 heap --why --report / heap --why log --report / heap --report -
 | heap 1 / root 0000000000000000 10000000000000000 / malloc 0000000000010000 0000000000001001 / end 1
 = yes 1 1 / objects 1 / most 1 / inexact 1 / excess 7 / padding 7 / gaps 0
 

@@ -39,6 +39,7 @@ impl Command for Order<'_> {
                 Some(source) => explain_source(alloc, origins, source, out),
                 None => Err(Fault::Read),
             },
+            Order::Run { .. } => Err(Fault::Read),
             Order::Heap { report, why, .. } => match input {
                 Some(source) => judge_heap_source(alloc, report, why, source, out),
                 None => Err(Fault::Read),

@@ -35,9 +35,12 @@ fn outcome<'a>(
     text: &mut Vec<u8>,
     told: &mut Vec<u8>,
 ) -> u8 {
-    let Some(order) = read_words(words) else {
-        tell_words(words, &mut WriteSink::new(told));
-        return 2;
+    let order = match read_words(words) {
+        Ok(order) => order,
+        Err(wrong) => {
+            tell_words(wrong, &mut WriteSink::new(told));
+            return 2;
+        }
     };
     match file_of(order) {
         None | Some("log") => run(alloc, Some(order), Some(input), text, told),

@@ -1,9 +1,13 @@
 //! The words after the program's name.
 
-ghost use Rattle.std.specs.Prelude.{◌≡◌, [], ◌∷◌, IfSome, IfNone, codes, false, map, true};
-ghost use Rattle.capdiag.specs.Orders.{Asks};
+ghost use Rattle.std.specs.Prelude.{◌≡◌, IfErr, IfOk, Ok, map, option_map};
+ghost use Rattle.capdiag.specs.Orders.{Asks, HasFile, IsComplaint, after_command, after_option, alone, at_end, file_of, has_value, is_help};
+ghost use Rattle.capdiag.specs.Orders.{is_taken, once, read_words, takes_value, with_operand, with_option, with_value, with_word, with_words};
+ghost use Rattle.capdiag.specs.Orders.{without_file};
+ghost use Rattle.capdiag.specs.Readings.{asked_of, read_of};
 
-use cap_program::{is_operand, take_option};
+use crate::complaints::{Complaint, Wrong};
+use cap_program::is_operand;
 
 /// What the program was asked to do.
 #[derive(Debug, Clone, Copy, PartialEq, Eq)]
@@ -16,7 +20,7 @@ pub enum Order<'a> {
     Why {
         /// Whether the root of each capability in the last state is asked for.
         origins: bool,
-        /// The file's name, which does not begin with `-`.
+        /// The file's name, which is not `-`.
         file: Option<&'a str>,
     },
     /// `heap [--report] [--why] [FILE]`: judge the file, or standard input where no file is named, as an allocator's
@@ -26,67 +30,405 @@ pub enum Order<'a> {
         report: bool,
         /// Whether after a `no` the report is asked for.
         why: bool,
-        /// The file's name, which does not begin with `-`.
+        /// The file's name, which is not `-`.
+        file: Option<&'a str>,
+    },
+    /// `run [--freed held|used|both] [--owned] [--owners] [FILE]`: judge the file, or standard input where no file is
+    /// named, as a run log.
+    Run {
+        /// What is asked of freed objects, where `--freed` says it.
+        freed: Option<Freed>,
+        /// Whether an access without owner may touch no live object.
+        owned: bool,
+        /// Whether after a `yes` the objects and the owners are asked for.
+        owners: bool,
+        /// The file's name, which is not `-`.
         file: Option<&'a str>,
     },
 }
 
-/// Reads the words after the program's name: the order that they spell, and `None` where they have
-/// none of the program's forms.
-pub fn read_words<'a>(words: &[&'a str]) -> Option<Order<'a>>
-    ensures some { IfSome result (λ order. Asks (map (λ word. word.now) words.now) order) }
-    ensures none { IfNone result ((order : Order) → Asks (map (λ word. word.now) words.now) order → ⊥) }
+/// What is asked of freed objects.
+#[derive(Debug, Clone, Copy, PartialEq, Eq)]
+pub enum Freed {
+    /// `held`: no place holds an object whose memory is handed out again.
+    Held,
+    /// `used`: no access goes through a capability of a freed object.
+    Used,
+    /// `both` of these.
+    Both,
+}
+
+// An order with an option, if it wasn't given before.
+fn once<'a>(is_given: bool, order: Order<'a>) -> Result<Order<'a>, Complaint>
+    ensures value { result ≡ once is_given order.entry }
 {
-    let (command, operands) = words.split_first()?;
-    match *command {
-        "why" => read_why(operands),
-        "heap" => read_heap(operands),
-        "--help" if operands.is_empty() => Some(Order::Help),
-        "--version" if operands.is_empty() => Some(Order::Version),
-        _ => None,
+    if is_given {
+        return Err(Complaint::Twice);
+    }
+    Ok(order)
+}
+
+// An order with one option more.
+fn with_option<'a>(order: Order<'a>, word: &str) -> Result<Order<'a>, Complaint>
+    ensures value { result ≡ with_option order.entry word.now }
+{
+    match order {
+        Order::Why { origins, file } => match word {
+            "--origins" => once(
+                origins,
+                Order::Why {
+                    origins: true,
+                    file,
+                },
+            ),
+            _ => Err(Complaint::UnknownOption),
+        },
+        Order::Heap { report, why, file } => match word {
+            "--report" => once(
+                report,
+                Order::Heap {
+                    report: true,
+                    why,
+                    file,
+                },
+            ),
+            "--why" => once(
+                why,
+                Order::Heap {
+                    report,
+                    why: true,
+                    file,
+                },
+            ),
+            _ => Err(Complaint::UnknownOption),
+        },
+        Order::Run {
+            freed,
+            owned,
+            owners,
+            file,
+        } => match word {
+            "--owned" => once(
+                owned,
+                Order::Run {
+                    freed,
+                    owned: true,
+                    owners,
+                    file,
+                },
+            ),
+            "--owners" => once(
+                owners,
+                Order::Run {
+                    freed,
+                    owned,
+                    owners: true,
+                    file,
+                },
+            ),
+            _ => Err(Complaint::UnknownOption),
+        },
+        Order::Help | Order::Version => Err(Complaint::UnknownOption),
+    }
+}
+
+// Whether a word is an option of the order that takes a value.
+fn takes_value(order: Order<'_>, word: &str) -> bool
+    ensures value { result ≡ takes_value order.entry word.now }
+{
+    match order {
+        Order::Run { .. } => word == "--freed",
+        Order::Help | Order::Version | Order::Why { .. } | Order::Heap { .. } => false,
+    }
+}
+
+// Whether an order has the value of its option.
+fn has_value(order: Order<'_>) -> bool
+    ensures value { result ≡ has_value order.entry }
+{
+    match order {
+        Order::Run { freed, .. } => freed.is_some(),
+        Order::Help | Order::Version | Order::Why { .. } | Order::Heap { .. } => false,
+    }
+}
+
+// An order with the value of its option.
+fn with_value<'a>(order: Order<'a>, word: &str) -> Result<Order<'a>, Complaint>
+    ensures value { result ≡ with_value order.entry word.now }
+{
+    let Order::Run {
+        owned,
+        owners,
+        file,
+        ..
+    } = order
+    else {
+        return Err(Complaint::UnknownValue);
+    };
+    let freed = match word {
+        "held" => Freed::Held,
+        "used" => Freed::Used,
+        "both" => Freed::Both,
+        _ => return Err(Complaint::UnknownValue),
+    };
+    Ok(Order::Run {
+        freed: Some(freed),
+        owned,
+        owners,
+        file,
+    })
+}
+
+// Whether a word is an operand before the options have ended.
+fn is_taken(word: &str) -> bool
+    ensures value { result ≡ is_taken word.now }
+{
+    word == "-" || is_operand(word)
+}
+
+// What the next word is.
+#[derive(Clone, Copy)]
+enum Due {
+    // An option, or the file.
+    Any,
+    // The value of the option before it.
+    Value,
+    // The file, since the options have ended.
+    File,
+}
+
+// What is asked for by the words that were read.
+#[derive(Clone, Copy)]
+struct Asked<'a> {
+    // What the next word is.
+    due: Due,
+    // The order, which doesn't have its file yet.
+    order: Order<'a>,
+    // The operand, if there is one.
+    operand: Option<&'a str>,
+}
+
+// What is asked for with one operand more.
+fn with_operand<'a>(asked: Asked<'a>, word: &'a str) -> Result<Asked<'a>, Wrong<'a>>
+    ensures value { with_operand (asked_of asked.entry) word.now ≡ read_of result }
+{
+    match asked.operand {
+        Some(_) => Err(Wrong {
+            complaint: Complaint::SecondFile,
+            word,
+        }),
+        None => Ok(Asked {
+            operand: Some(word),
+            ..asked
+        }),
+    }
+}
+
+// What is asked for after an option.
+fn after_option<'a>(
+    asked: Asked<'a>,
+    word: &'a str,
+    more: Result<Order<'a>, Complaint>,
+) -> Result<Asked<'a>, Wrong<'a>>
+    ensures value { after_option (asked_of asked.entry) word.now more.entry ≡ read_of result }
+{
+    match more {
+        Ok(order) => Ok(Asked { order, ..asked }),
+        Err(complaint) => Err(Wrong { complaint, word }),
+    }
+}
+
+// What is asked for with one word more.
+fn with_word<'a>(asked: Asked<'a>, word: &'a str) -> Result<Asked<'a>, Wrong<'a>>
+    ensures value { with_word (asked_of asked.entry) word.now ≡ read_of result }
+{
+    let order = asked.order;
+    let any = Asked {
+        due: Due::Any,
+        ..asked
+    };
+    match asked.due {
+        Due::Value => after_option(any, word, with_value(order, word)),
+        Due::File => with_operand(asked, word),
+        Due::Any if is_taken(word) => with_operand(asked, word),
+        Due::Any => match word {
+            "--" => Ok(Asked {
+                due: Due::File,
+                ..asked
+            }),
+            "--help" => Err(Wrong {
+                complaint: Complaint::Alone,
+                word,
+            }),
+            _ if takes_value(order, word) => after_option(
+                Asked {
+                    due: Due::Value,
+                    ..asked
+                },
+                word,
+                once(has_value(order), order),
+            ),
+            _ => after_option(any, word, with_option(order, word)),
+        },
+    }
+}
+
+// What is asked for where the words end.
+fn at_end<'a>(asked: Asked<'a>) -> Result<Asked<'a>, Wrong<'a>>
+    ensures value { at_end (asked_of asked.entry) ≡ read_of result }
+{
+    match asked.due {
+        Due::Value => Err(Wrong {
+            complaint: Complaint::NoValue,
+            word: "--freed",
+        }),
+        Due::Any | Due::File => Ok(asked),
+    }
+}
+
+// What is asked for with more words.
+fn with_words<'a>(asked: Asked<'a>, words: &[&'a str]) -> Result<Asked<'a>, Wrong<'a>>
+    ensures value { with_words (Ok (asked_of asked.entry)) (map (λ word. word.now) words.now) ≡ read_of result }
+{
+    let Some((word, words)) = words.split_first() else {
+        return at_end(asked);
+    };
+    match with_word(asked, word) {
+        Ok(asked) => with_words(asked, words),
+        Err(wrong) => Err(wrong),
     }
 }
 
 // Whether the words after a command ask for help.
-fn is_help(operands: &[&str]) -> bool
-    ensures yes { result ≡ true → map (λ word. word.now) operands.now ≡ codes "--help" ∷ [] }
-    ensures no { result ≡ false → map (λ word. word.now) operands.now ≡ codes "--help" ∷ [] → ⊥ }
+fn is_help(words: &[&str]) -> bool
+    ensures value { result ≡ is_help (map (λ word. word.now) words.now) }
 {
-    let (is_help, rest) = take_option("--help", operands);
-    is_help && rest.is_empty()
+    match words {
+        [word] => *word == "--help",
+        _ => false,
+    }
 }
 
-// Reads the words after `why`.
-fn read_why<'a>(operands: &[&'a str]) -> Option<Order<'a>>
-    ensures some { IfSome result (λ order. Asks (codes "why" ∷ map (λ word. word.now) operands.now) order) }
-    ensures none { IfNone result ((order : Order) → Asks (codes "why" ∷ map (λ word. word.now) operands.now) order → ⊥) }
+// What a command and the words after it ask for.
+fn after_command<'a>(order: Order<'a>, words: &[&'a str]) -> Result<Asked<'a>, Wrong<'a>>
+    ensures value { after_command order.entry (map (λ word. word.now) words.now) ≡ read_of result }
 {
-    if is_help(operands) {
-        return Some(Order::Help);
-    }
-    let (origins, operands) = take_option("--origins", operands);
-    let file = match operands {
-        [] => None,
-        [file] if is_operand(file) => Some(*file),
-        _ => return None,
+    let start = Asked {
+        due: Due::Any,
+        order,
+        operand: None,
     };
-    Some(Order::Why { origins, file })
+    if is_help(words) {
+        return Ok(Asked {
+            due: Due::Any,
+            order: Order::Help,
+            operand: None,
+        });
+    }
+    with_words(start, words)
 }
 
-// Reads the words after `heap`.
-fn read_heap<'a>(operands: &[&'a str]) -> Option<Order<'a>>
-    ensures some { IfSome result (λ order. Asks (codes "heap" ∷ map (λ word. word.now) operands.now) order) }
-    ensures none { IfNone result ((order : Order) → Asks (codes "heap" ∷ map (λ word. word.now) operands.now) order → ⊥) }
+// What an option in place of a command asks for: no other word stands beside it.
+fn alone<'a>(order: Order<'a>, option: &'a str, words: &[&'a str]) -> Result<Asked<'a>, Wrong<'a>>
+    ensures value { alone order.entry option.now (map (λ word. word.now) words.now) ≡ read_of result }
 {
-    if is_help(operands) {
-        return Some(Order::Help);
+    if words.is_empty() {
+        return Ok(Asked {
+            due: Due::Any,
+            order,
+            operand: None,
+        });
     }
-    let (report, operands) = take_option("--report", operands);
-    let (why, operands) = take_option("--why", operands);
-    let file = match operands {
-        [] => None,
-        [file] if is_operand(file) => Some(*file),
-        _ => return None,
+    Err(Wrong {
+        complaint: Complaint::Alone,
+        word: option,
+    })
+}
+
+// What the words ask for.
+fn read_all<'a>(words: &[&'a str]) -> Result<Asked<'a>, Wrong<'a>>
+    ensures value { read_words (map (λ word. word.now) words.now) ≡ read_of result }
+{
+    let Some((command, words)) = words.split_first() else {
+        return Err(Wrong {
+            complaint: Complaint::NoCommand,
+            word: "",
+        });
     };
-    Some(Order::Heap { report, why, file })
+    match *command {
+        "why" => after_command(
+            Order::Why {
+                origins: false,
+                file: None,
+            },
+            words,
+        ),
+        "heap" => after_command(
+            Order::Heap {
+                report: false,
+                why: false,
+                file: None,
+            },
+            words,
+        ),
+        "run" => after_command(
+            Order::Run {
+                freed: None,
+                owned: false,
+                owners: false,
+                file: None,
+            },
+            words,
+        ),
+        "--help" => alone(Order::Help, command, words),
+        "--version" => alone(Order::Version, command, words),
+        word if is_operand(word) => Err(Wrong {
+            complaint: Complaint::UnknownCommand,
+            word,
+        }),
+        word => Err(Wrong {
+            complaint: Complaint::UnknownOption,
+            word,
+        }),
+    }
+}
+
+// The order with the file that the operand names.
+fn order_of<'a>(asked: Asked<'a>) -> Order<'a>
+    ensures same { without_file asked.entry.order ≡ without_file result }
+    ensures file { HasFile result (option_map (λ word. word.now) asked.entry.operand) }
+{
+    let file = match asked.operand {
+        None | Some("-") => None,
+        Some(name) => Some(name),
+    };
+    match asked.order {
+        Order::Why { origins, .. } => Order::Why { origins, file },
+        Order::Heap { report, why, .. } => Order::Heap { report, why, file },
+        Order::Run {
+            freed,
+            owned,
+            owners,
+            ..
+        } => Order::Run {
+            freed,
+            owned,
+            owners,
+            file,
+        },
+        order => order,
+    }
+}
+
+/// Reads the words after the program's name: the order that they ask for, and where they ask for none what is wrong
+/// with them. Options stand before the file or after it, in any order.
+pub fn read_words<'a>(words: &[&'a str]) -> Result<Order<'a>, Wrong<'a>>
+    ensures ok { IfOk result (λ order. Asks (map (λ word. word.now) words.now) order) }
+    ensures err { IfErr result (λ wrong. IsComplaint (map (λ word. word.now) words.now) wrong.complaint wrong.word.now) }
+    ensures none { IfErr result (λ wrong. (order : Order) → Asks (map (λ word. word.now) words.now) order → ⊥) }
+{
+    match read_all(words) {
+        Ok(asked) => Ok(order_of(asked)),
+        Err(wrong) => Err(wrong),
+    }
 }

@@ -1,11 +1,11 @@
 use Rattle.std.proofs.Common.{IfErr, IfOk, arith, rules}
-use Rattle.cap_run_judge.specs.Verdicts.{IsVerdict, NoVerdictIn}
+use Rattle.cap_run_judge.specs.Verdicts.{IsRunVerdict, NoRunVerdictIn}
 use Rattle.cap_run_judge.proofs.SourceLemmas.{of_all}
 use Rattle.cap_run_judge.proofs.streams.judge_run_bytes.Goals as goal
 
 -- a slice counts no fault
 both : (c : goal.After-judge_run)
-    → IfOk c.judge_run.result (IsVerdict c.args.asks c.args.bytes.now) × IfErr c.judge_run.result (NoVerdictIn c.args.asks c.args.bytes.now)
+    → IfOk c.judge_run.result (IsRunVerdict c.args.asks c.args.bytes.now) × IfErr c.judge_run.result (NoRunVerdictIn c.args.asks c.args.bytes.now)
 both c =
     let judged = c.judge_run.ensures.judged in
     of_all c.args.asks c.args.bytes.now judged.given c.judge_run.new.source.rest.now c.judge_run.new.source.is_ended c.judge_run.result

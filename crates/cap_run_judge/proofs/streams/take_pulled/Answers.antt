@@ -1,4 +1,4 @@
-use Rattle.std.proofs.Common.{ℕ, List, ◌++◌, ◌∙◌, ap, drop, subst, sym, take, take-append-drop}
+use Rattle.std.proofs.Common.{ℕ, List, ◌++◌, ◌∙◌, ap, subst, sym, take, take-append-drop}
 use Rattle.cap_streams.specs.ReadBuffers.{items}
 use Rattle.cap_run_judge.specs.Readings.{StopsAt, stage_of}
 use Rattle.cap_run_judge.proofs.streams.take_pulled.Goals as goal

@@ -1,4 +1,4 @@
-use Rattle.std.proofs.Common.{◌≡◌, ◌≤◌, ◌<◌, ap, arith, sym, ◌∙◌}
+use Rattle.std.proofs.Common.{ap, arith, ◌∙◌}
 use Rattle.cap_objects.specs.HandoutsIn.{objects_of}
 use Rattle.cap_run.specs.Numbers.{by_number}
 use Rattle.cap_run.proofs.{RunNumberLemmas.index_in, ToldLemmas.{next-before, next-is, next-none}}
@@ -16,5 +16,5 @@ returns-in-Some-clause-some g c =
       ap (by_number (index_in s.objects) (objects_of s.objects)) is.0 ∙ is.1,
       (let low = next.0 in let same = is.0 in omega (arith, low, same)),
       λ number more less. next-before s.objects s.objects.kept.numbered c.args.from c.in-Some.field-0-0 c.in-Some.slot next number more
-      (let same = is.0 in omega (arith, less, same)),
+          (let same = is.0 in omega (arith, less, same)),
     )

@@ -1,7 +1,7 @@
-use Rattle.std.proofs.Common.{◌≡◌, ◌≤◌, ap, arith, sym, ◌∙◌}
+use Rattle.std.proofs.Common.{ap, arith, sym, ◌∙◌}
 use Rattle.cap_objects.specs.HandoutsIn.{objects_of}
 use Rattle.cap_run.specs.Numbers.{by_number}
-use Rattle.cap_run.proofs.{RunNumberLemmas.index_in, ToldLemmas.{next-before, next-is, next-none, next-other}}
+use Rattle.cap_run.proofs.{RunNumberLemmas.index_in, ToldLemmas.{next-is, next-none, next-other}}
 use Rattle.cap_run.proofs.run_machine.RunMachine.object_numbered.Goals as goal
 
 pub returns-in-None : goal.returns-in-None

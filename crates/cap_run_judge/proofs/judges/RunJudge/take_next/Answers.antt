@@ -1,4 +1,4 @@
-use Rattle.std.proofs.Common.{◌≡◌, [], inl, refl, rules, subst, sym}
+use Rattle.std.proofs.Common.{[], inl, refl, rules, subst, sym}
 use Rattle.cap_run_judge.specs.{Readings.{EndsAt, IsAtFault, StopsAt, stage_of}, Turns.Stage}
 use Rattle.cap_run_judge.proofs.TurnLemmas.{clear_of, ends_at, goes_none}
 use Rattle.cap_run_judge.proofs.judges.RunJudge.take_next.Goals as goal
@@ -12,7 +12,7 @@ pub stop-requires : goal.stop-requires
 stop-requires g c =
     let old = stage_of c.args.self.now in
     let bytes = c.args.bytes.now in
-    let answer = c.in-Err.ensures.answers in
+    let answer = c.in-Err.ensures in
     record {
       found = c.front.ensures.found;
       clear = subst (λ (s : Stage). IsAtFault s.due → ⊥) (sym answer.1) (clear_of c.args.self.now.stage c.in_default.not-Refused);
@@ -23,6 +23,6 @@ stop-requires g c =
 pub returns-in-Err : goal.returns-in-Err
 returns-in-Err g c = record {
   ok = tt;
-  err = subst (λ (s : Stage). StopsAt s [] c.args.bytes.now c.stop.result (stage_of c.stop.new.self)) c.in-Err.ensures.answers.1
+  err = subst (λ (s : Stage). StopsAt s [] c.args.bytes.now c.stop.result (stage_of c.stop.new.self)) c.in-Err.ensures.1
       c.stop.ensures.stops;
 }
