@@ -19,7 +19,7 @@ offers() {
     [ "$got" = "$(printf '%s\n' "$@" | { grep . || :; } | sort | tr '\n' ' ')" ] ||
         { echo "completions: '$line' is completed by $got" >&2; exit 1; }
 }
-offers 'capdiag ' why heap --help --version
+offers 'capdiag ' why heap run --help --version
 offers 'capdiag w' why
 offers 'capdiag why ' --origins --help
 offers 'capdiag why --o' --origins
@@ -30,6 +30,11 @@ offers 'capdiag heap --why -' --report
 offers 'capdiag heap --why log --' --report
 offers 'capdiag heap --why --report -'
 offers 'capdiag why log --o' --origins
+offers 'capdiag run ' --freed --owned --owners --help
+offers 'capdiag run --freed ' held used both
+offers 'capdiag run --freed u' used
+offers 'capdiag run --freed used --' --owned --owners
+offers 'capdiag run log --owned --' --freed --owners
 offers 'capdiag why -- -'
 offers 'capcheck ' explain round judge vectors
 offers 'capcheck j' judge

@@ -439,8 +439,10 @@ def check_definitions(page, prose):
 
 
 def check_corpus():
-    """Sees that the corpus has the files of its index, and no others."""
+    """Sees that the corpus has the files of its indexes, and no others."""
     rows = {name for name, *_ in index_rows() if not name.startswith("limits/")}
+    with open("conformance/RUNS.tsv", encoding="utf-8") as it:
+        rows |= {"runs/" + line.split("\t")[0] for line in list(it)[1:]}
     there = {it[len("conformance/"):] for it in glob.glob("conformance/*/*.*") if "__" not in it}
     if rows != there:
         fail(f"{CORPUS} and its folder differ: " + ", ".join(sorted(rows ^ there)))

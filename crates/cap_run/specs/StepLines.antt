@@ -9,7 +9,8 @@ use Rattle.cap_run.specs.{declared.asks.Asks.Asks, Run.Run, RunChanges.usual_aft
 -- steps that no check refuses lead from a run to a run
 abbrev pub LeadBy : Asks → Run → List Step → Run → Type 0
 LeadBy asks old [] new = old ≡ new
-LeadBy asks old (step ∷ steps) new = (usual_end asks old step ≡ None) × LeadBy asks (usual_after old step) steps new
+LeadBy asks old (step ∷ steps) new =
+    (usual_end asks old step ≡ None) × LeadBy asks (usual_after old step) steps new
 
 -- the text of steps: each line's spelling and a line feed
 abbrev pub text_of_steps : List Step → List ℕ

@@ -5,3 +5,5 @@ mod EndLemmas
 mod SourceLemmas
 mod TextLemmas
 mod OneVerdict
+mod OwnerLemmas
+mod RunReportLemmas

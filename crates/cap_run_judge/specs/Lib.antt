@@ -2,4 +2,6 @@ pub mod Turns
 pub mod Verdicts
 pub mod VerdictLines
 pub mod Judgings
+pub mod OwnerLists
+pub mod Reports
 pub mod Readings

@@ -1,3 +1,4 @@
 mod ComplaintLemmas
 mod HeapLemmas
+mod RunLogLemmas
 mod RunLemmas

@@ -14,8 +14,9 @@ use Rattle.cap_program.specs.{Commands.IsMeant, Doings.IsDone}
 use Rattle.cap_program.specs.{Faults.status_of, Judging.{ShowsVerdict, StopsJudging, judged}}
 use Rattle.cap_program.proofs.Judgements.{known_of, stopped_unfaulty}
 use Rattle.capdiag.specs.declared.words.Order.{Order, TheVariants.{Help, Version, Why, Heap, Run}}
-use Rattle.capdiag.specs.Answers.{Fails, IsFaulty, Prints, Shows, order_meaning}
-use Rattle.capdiag.proofs.HeapLemmas.{heap_few, heap_known}
+use Rattle.cap_run_judge.specs.Judgings.{IsAnswerOf as IsRunAnswerOf}
+use Rattle.capdiag.specs.Answers.{Fails, IsFaulty, Prints, Shows, asks_of, order_meaning}
+use Rattle.capdiag.proofs.{HeapLemmas.{heap_few, heap_known}, RunLogLemmas.{run_few, run_known}}
 
 -- what was pushed for an answer is what was done for the order
 pub judged_done : (tells : Verdict → List ℕ → Type 0) (given : List ℕ) (ended : Bool) (took : List ℕ → Type 0)
@@ -63,7 +64,9 @@ shows_known (Some (Why origins file)) left rest given ended text status gives al
 shows_known (Some (Heap report why file)) left rest given ended text status gives all shows =
     let k = known_of left rest given ended gives all in
     (k.bytes, k.are, heap_known report why k.bytes given k.more ended text status k.bytes_are k.none_more shows)
-shows_known (Some (Run freed owned owners file)) left rest given ended text status gives all shows = absurd shows
+shows_known (Some (Run freed owned owners file)) left rest given ended text status gives all shows =
+    let k = known_of left rest given ended gives all in
+    (k.bytes, k.are, run_known (asks_of freed owned) owners k.bytes given k.more ended text status k.bytes_are k.none_more shows)
 
 -- the status of a text
 few : (order : Option Order) (given : List ℕ) (ended : Bool) (text : List ℕ) (status : ℕ) → Shows order given ended text status
@@ -73,7 +76,7 @@ few (Some Help) given ended text status shows = let is = shows.1 in omega arith
 few (Some Version) given ended text status shows = let is = shows.1 in omega arith
 few (Some (Why origins file)) given ended text status shows = let is = shows.3 in let at = verdict_few shows.0 in omega arith
 few (Some (Heap report why file)) given ended text status shows = let is = shows.3 in let at = heap_few shows.0 in omega arith
-few (Some (Run freed owned owners file)) given ended text status shows = absurd shows
+few (Some (Run freed owned owners file)) given ended text status shows = let is = shows.3 in let at = run_few shows.0 in omega arith
 
 -- an order with a text can be followed
 unfaulty : (order : Option Order) (given : List ℕ) (ended : Bool) (text : List ℕ) (status : ℕ) → Shows order given ended text status
@@ -90,7 +93,7 @@ asked_fault (Some Help) given fault fails = absurd fails
 asked_fault (Some Version) given fault fails = absurd fails
 asked_fault (Some (Why origins file)) given fault fails = stopped_unfaulty (IsAnswerOf given true) fault fails
 asked_fault (Some (Heap report why file)) given fault fails = stopped_unfaulty (IsHeapAnswerOf given true) fault fails
-asked_fault (Some (Run freed owned owners file)) given fault fails = absurd fails
+asked_fault (Some (Run freed owned owners file)) given fault fails = stopped_unfaulty (IsRunAnswerOf (asks_of freed owned) given true) fault fails
 
 -- the meaning of an order, its faults and its status agree
 pub orders_meant : IsMeant order_meaning

@@ -5,14 +5,20 @@ ghost use Rattle.cap_heap.specs.{HeapVerdicts.IsHeapAnswerOf, VerdictLines.heap_
 ghost use Rattle.cap_judge.specs.{Judgings.IsAnswerOf, VerdictLines.verdict_status};
 ghost use Rattle.cap_report.specs.Whys.{Explains};
 ghost use Rattle.cap_program.specs.{Doings.{IsCounted, IsDone}, Judging.{ShowsVerdict, StopsJudging, judged}};
-ghost use Rattle.capdiag.specs.Answers.{ShowsHeap};
+ghost use Rattle.cap_run_judge.specs.{Judgings.IsAnswerOf as IsRunAnswerOf, VerdictLines.run_verdict_status};
+ghost use Rattle.capdiag.specs.Answers.{ShowsHeap, ShowsRun, asks_of};
 
 use cap_heap::{HeapVerdict, heap_status, judge_heap_to};
 use cap_judge::{JudgeToFault, Verdict, verdict_status};
 use cap_log::{Sink, Source};
 use cap_program::{Fault, fault_of};
 use cap_report::judge_why;
+use cap_run::Asks;
+use cap_run_judge::{RunVerdict, judge_run_to, run_verdict_status};
 use std::alloc::Global;
+use tagmem::PageStore;
+
+use crate::words::Freed;
 
 /// Judges what a source gives, pushes the line of the verdict, after a `no` with the report and after a `yes` with
 /// the origins where they are asked for, and answers the status that goes with the verdict.
@@ -65,6 +71,56 @@ fn heap_judged(answer: Result<HeapVerdict, JudgeToFault>) -> Result<u8, Fault>
 {
     match answer {
         Ok(verdict) => Ok(heap_status(&verdict)),
+        Err(fault) => Err(fault_of(fault)),
+    }
+}
+
+// What is asked of a run log.
+fn asks_of(freed: Option<Freed>, owned: bool) -> Asks
+    ensures value { result ≡ asks_of freed owned }
+{
+    let (held, used) = match freed {
+        None | Some(Freed::Held) => (true, false),
+        Some(Freed::Used) => (false, true),
+        Some(Freed::Both) => (true, true),
+    };
+    Asks { held, used, owned }
+}
+
+/// Judges what a source gives as a run log, by what is asked of freed objects and of authorities without owner, pushes the
+/// line of the verdict and, where they are asked for, after a `yes` the lines of the present objects and of the places that
+/// they own, and answers the status that goes with the verdict.
+pub fn judge_run_source<S: Source, K: Sink>(
+    alloc: Global,
+    freed: Option<Freed>,
+    owned: bool,
+    owners: bool,
+    source: &mut S,
+    sink: &mut K,
+) -> Result<u8, Fault>
+    ensures done { (given : List ℕ) × S.gave source.old source.new given
+        × IsDone (ShowsRun (asks_of freed owned) owners given (S.ended source.new)) (StopsJudging (IsRunAnswerOf (asks_of freed owned) given true))
+        (K.took sink.old sink.new) result }
+    ensures read { IsCounted Fault.Read result (S.faults source.old) (S.faults source.new) }
+    ensures written { IsCounted Fault.Write result (K.faults sink.old) (K.faults sink.new) }
+{
+    let asks = asks_of(freed, owned);
+    run_judged(judge_run_to(
+        source,
+        PageStore::new(alloc),
+        alloc,
+        asks,
+        owners,
+        sink,
+    ))
+}
+
+// The status that goes with a verdict, or the fault that came instead.
+fn run_judged(answer: Result<RunVerdict, JudgeToFault>) -> Result<u8, Fault>
+    ensures value { result ≡ judged run_verdict_status answer }
+{
+    match answer {
+        Ok(verdict) => Ok(run_verdict_status(&verdict)),
         Err(fault) => Err(fault_of(fault)),
     }
 }

@@ -71,18 +71,17 @@ pub const ROWS: &str = r#"
 ! capdiag: unknown command 'h\xc3\xa4p'; see capdiag --help
 
 # how it is used
-0 --help / why --help / heap --help
+0 --help / why --help / heap --help / run --help
 = usage: capdiag why [--origins] [FILE]
 =        capdiag heap [--report] [--why] [FILE]
+=        capdiag run [--freed held|used|both] [--owned] [--owners] [FILE]
 =        capdiag --help | --version
 =
 = Judge a log, from FILE or standard input. See capdiag(1), docs/FORMAT.md.
 =
-=   why        the log of a machine: the verdict, after a no the diagnosis
-=   --origins  after a yes, the root of each tagged capability at the end
-=   heap       the log of an allocator: the verdict
-=   --report   after a yes, what exact bounds would cost
-=   --why      after a no, the diagnosis
+=   why   the log of a machine: the verdict, after a no the diagnosis
+=   heap  the log of an allocator: the verdict
+=   run   the run log of a program: the verdict
 =
 = Exit status: 0 yes, 1 no, 2 wrong arguments, 3 failed input, output or memory.
 
@@ -116,6 +115,44 @@ pub const ROWS: &str = r#"
 3 why ''
 | capcheck 1 / end 0
 ! capdiag: cannot open '': no such file
+
+# run logs: an object whose memory is handed out again while a register holds it
+0 run / run log / run --freed used - / run --owned --freed both log / run -- log
+| run 1 / mode strict / end 0
+= yes 0 0 0
+
+1 run log / run --freed held log / run log --freed both --owners
+| run 1 / mode strict / root c1 ffff1ffffc0180040000000000000000
+| setaddr c2 c1 0000000000001000 = 1 ffff1ffffc0180040000000000001000
+| setbounds c2 c2 0000000000000020 = 1 ffff1ffff80810000000000000001000
+| object c2 / free c2 / setaddr c3 c1 0000000000001000 = 1 ffff1ffffc0180040000000000001000
+| setbounds c3 c3 0000000000000020 = 1 ffff1ffff80810000000000000001000 / object c3 / end 7
+= no 10 36 StillHeld
+
+0 run --freed used --owners log / run --owned --owners --freed used -
+| run 1 / mode strict / root c1 ffff1ffffc0180040000000000000000
+| setaddr c2 c1 0000000000001000 = 1 ffff1ffffc0180040000000000001000
+| setbounds c2 c2 0000000000000020 = 1 ffff1ffff80810000000000000001000
+| object c2 / free c2 / setaddr c3 c1 0000000000001000 = 1 ffff1ffffc0180040000000000001000
+| setbounds c3 c3 0000000000000020 = 1 ffff1ffff80810000000000000001000 / object c3 / end 7
+= yes 7 1 2 / object 1 6 0000000000001000 00000000000001020 freed 1
+= object 2 10 0000000000001000 00000000000001020 live 1 / owner c2 1 / owner c3 2
+
+# an access through a freed object's capability, and one without owner
+1 run --freed used log
+| run 1 / mode strict / root c1 ffff1ffff80810000000000000001000
+| object c1 / free c1 / load c1 0 8 = 0000000000000000 / end 3
+= no 6 39 OwnerFreed
+
+1 run log --owned
+| run 1 / mode strict / root c1 ffff1ffff80810000000000000001000 / move c2 c1 = 1 ffff1ffff80810000000000000001000
+| object c1 / load c2 0 8 = 0000000000000000 / end 3
+= no 6 41 NotOwned
+
+# a log of another kind
+1 run log
+| capcheck 2 / mode strict / end 0
+= no 1 1 BadHeader
 
 # a register that was cleared, and a granule
 0 why --origins / why --origins log / why log --origins / why --origins - / why - --origins

@@ -5,7 +5,7 @@ ghost use Rattle.cap_program.specs.{Doings.known_bytes, Runs.IsRan};
 ghost use Rattle.capdiag.specs.Answers.{order_meaning};
 
 use crate::help::{show_help, show_version};
-use crate::judges::{explain_source, judge_heap_source};
+use crate::judges::{explain_source, judge_heap_source, judge_run_source};
 use crate::words::Order;
 use cap_log::{Sink, Source};
 use cap_program::{Command, Fault};
@@ -39,9 +39,17 @@ impl Command for Order<'_> {
                 Some(source) => explain_source(alloc, origins, source, out),
                 None => Err(Fault::Read),
             },
-            Order::Run { .. } => Err(Fault::Read),
             Order::Heap { report, why, .. } => match input {
                 Some(source) => judge_heap_source(alloc, report, why, source, out),
+                None => Err(Fault::Read),
+            },
+            Order::Run {
+                freed,
+                owned,
+                owners,
+                ..
+            } => match input {
+                Some(source) => judge_run_source(alloc, freed, owned, owners, source, out),
                 None => Err(Fault::Read),
             },
         }

@@ -1,0 +1,65 @@
+#!/usr/bin/env python3
+"""Writes a run log to standard output, to measure `capdiag run` with.
+
+    bench/run_log.py steps FILE         the steps of a log of version 2, as a run log
+    bench/run_log.py calls COUNT        calls and returns: each line is an exchange with PCC
+    bench/run_log.py moves COUNT        moves, to compare calls with
+    bench/run_log.py objects LIVE COUNT LIVE objects are handed out; then COUNT of them are freed, and others handed out in their place
+    bench/run_log.py frame LIVE COUNT   the same without the lines of objects, to subtract"""
+import os
+import sys
+
+sys.path.insert(0, os.path.join(os.path.dirname(os.path.abspath(__file__)), "..", "conformance"))
+from transcribed import set_bounds_result, tagged  # noqa: E402
+
+WHOLE, SENTRY = 0xFFFF1FFFFC018004, 0xFFFF1FFFF4018004
+HEAD = "run 1\nmode strict\n"
+
+
+def word(high, address): return f"{high:016x}{address:016x}"
+
+
+def steps(path):
+    with open(path, encoding="ascii") as it:
+        it.readline()
+        sys.stdout.write("run 1\n")
+        for line in it:
+            sys.stdout.write(line)
+
+
+def calls(count):
+    out = [HEAD, f"root c1 {word(WHOLE, 0)}\n", f"root scr0 {word(WHOLE, 0x2000)}\n"]
+    here, there = 0x2000, 0
+    for _ in range(count):
+        out.append(f"exchange c1 c1 scr0 = 1 {word(SENTRY, here + 4)} 1 {word(WHOLE, there)}\n")
+        here, there = there, here + 4
+    sys.stdout.write("".join(out) + f"end {count}\n")
+
+
+def moves(count):
+    line = f"move c1 c1 = 1 {word(WHOLE, 0)}\n"
+    sys.stdout.write(HEAD + f"root c1 {word(WHOLE, 0)}\nroot scr0 {word(WHOLE, 0x2000)}\n" + line * count + f"end {count}\n")
+
+
+def objects(live, count, told):
+    """Each object has 64 bytes. Its capability is overwritten by the next one's."""
+    out, total = [HEAD, f"root c1 {word(WHOLE, 0)}\n"], 0
+    for number in range(live + count):
+        at = 0x10000 + 64 * (number % live)
+        if number >= live and told:
+            out.append(f"free {number - live + 1}\n")
+        bounded = set_bounds_result(tagged(WHOLE * 2**64 + at), 64).word
+        out.append(f"setaddr c2 c1 {at:016x} = 1 {word(WHOLE, at)}\nsetbounds c2 c2 0000000000000040 = 1 {bounded:032x}\n")
+        out.append("object c2\n" if told else "")
+        total += 2 + told + (told and number >= live)
+    sys.stdout.write("".join(out) + f"end {total}\n")
+
+
+if __name__ == "__main__":
+    kind, *rest = sys.argv[1:]
+    if kind == "steps":
+        steps(rest[0])
+    elif kind in ("calls", "moves"):
+        {"calls": calls, "moves": moves}[kind](int(rest[0]))
+    else:
+        objects(int(rest[0]), int(rest[1]), kind == "objects")

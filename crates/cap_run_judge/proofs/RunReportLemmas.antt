@@ -1,0 +1,90 @@
+-- The report of a machine's run is that of the log that led to it.
+use Rattle.std.specs.BTreeMap as tree
+use Rattle.std.specs.{List.slice_get, Ordering.nat_cmp}
+use Rattle.std.proofs.Common.{◌≡◌, ℕ, ◌+◌, ◌≤◌, ◌<◌, ◌++◌, List, [], Bool, true, false, Option, Some, None, Err, option_and_then}
+use Rattle.std.proofs.Common.{refl, sym, ap, subst, ◌∙◌, inl, inr, arith}
+use Rattle.std.proofs.lemmas.{Bool.{cases_Bool, cond-true, cond-false}, Option.{none-some, same_Some}}
+use Rattle.cap_streams.specs.{FaultLines.told_fault, declared.judge_faults.JudgeFault.{JudgeFault, TheVariants.{NoMemory, Pull}}}
+use Rattle.cap_machine.specs.Helds.{Held}
+use Rattle.cap_objects.specs.{declared.{handouts.Handouts.Handouts, objects.Object.Object}, Extents.{Objects, is_present}}
+use Rattle.cap_objects.specs.{HandoutsIn.objects_of, Indexes.{kept, number_key, object_at}}
+use Rattle.cap_run_log.specs.declared.lines.RunPlace.{RunPlace, TheVariants.Granule}
+use Rattle.cap_run.specs.{declared.{asks.Asks.Asks, specials.Specials.Specials}, Numbers.{by_number, numbered_run}, Run.Run}
+use Rattle.cap_run.specs.{RunChanges.place_key, Safety.IsSafe}
+use Rattle.cap_run_judge.specs.declared.verdict.RunVerdict.{RunVerdict, TheVariants.{Yes, No}}
+use Rattle.cap_run_judge.specs.{Judgings.{IsAnswerOf, StopsIn}, OwnerLists.{line_of_object, line_of_place, numbered_line, object_line, place_line}}
+use Rattle.cap_run_judge.specs.OwnerLists.{object_lines, owner_lines, run_report_text}
+use Rattle.cap_run_judge.specs.{Reports.{AreNumbered, IsNumbered, IsRunPushed, LeadsAfter, TellsRun}, VerdictLines.run_verdict_line}
+
+-- an object's line
+pub object_told : (run : Run) (number roots : ℕ) (object : Object) → roots ≡ run.roots → run.objects number ≡ Some object
+    → object_line roots object ≡ numbered_line run number
+object_told run number roots object same is =
+    ap (λ (r : ℕ). object_line r object) same ∙ ap (line_of_object run.roots) (sym is)
+
+pub object_untold : (run : Run) (number : ℕ) → run.objects number ≡ None → numbered_line run number ≡ []
+object_untold run number is = ap (line_of_object run.roots) is
+
+pub place_untold : (run : Run) (place : RunPlace) → run.owners (place_key place) ≡ None → place_line run place ≡ []
+place_untold run place is = ap (line_of_place place) is
+
+-- what an index finds
+found : (objects : Objects) (slot : Option ℕ) (object : Object) → option_and_then objects slot ≡ Some object
+    → (s : ℕ) × (slot ≡ Some s) × (objects s ≡ Some object)
+found objects None object is = absurd (none-some object is)
+found objects (Some s) object is = (s, refl, is)
+
+kept_present : (o : Option Object) (object : Object) → option_and_then kept o ≡ Some object → is_present object ≡ true
+kept_present None object is = absurd (none-some object is)
+kept_present (Some o) object is = elim (cases_Bool (is_present o)) [
+  | inl there ↦ ap is_present (sym (same_Some o object (sym (cond-true (is_present o) (Some o) None there) ∙ is))) ∙ there
+  | inr gone ↦ absurd (none-some object (sym (cond-false (is_present o) (Some o) None gone) ∙ is))
+]
+
+-- the object with a number, its slot, and that its number is one of those handed out
+pub record IsListed (h : Handouts) (number : ℕ) (object : Object) : Type 0 where
+  pub own : object.number ≡ number
+  pub some : 1 ≤ number
+  pub few : number ≤ h.count
+  pub present : is_present object ≡ true
+
+pub listed : (h : Handouts) (number : ℕ) (object : Object) → by_number (tree.get nat_cmp h.numbers) (objects_of h) number ≡ Some object
+    → IsListed h number object
+listed h number object is =
+    let at = found (objects_of h) (tree.get nat_cmp h.numbers number) object is in
+    let own : object.number ≡ number =
+    same_Some object.number number (sym (ap (option_and_then number_key) at.2) ∙ h.kept.numbered.only number at.0 at.1) in
+    let some = h.kept.some at.0 object at.2 in
+    let few = h.kept.few at.0 object at.2 in
+    record {
+      own = own;
+      some = omega (arith, own, some);
+      few = omega (arith, own, few);
+      present = kept_present (slice_get h.slots.objects.items at.0) object at.2;
+    }
+
+-- all objects of a machine's run are listed
+pub are_numbered : (held : Held) (specials : Specials) (h : Handouts) (keeps : Bool) → IsSafe keeps (numbered_run held specials h)
+    → AreNumbered (numbered_run held specials h)
+are_numbered held specials h keeps safe number object is =
+    let l = listed h number object is in
+    record { own = l.own; some = l.some; few = l.few; present = l.present; held = safe.held number object is }
+
+-- after a yes
+pub leads : (asks : Asks) (bytes : List ℕ) (ended : Bool) (run : Run) (text : List ℕ) (verdict : RunVerdict)
+    → AreNumbered run → StopsIn asks bytes ended run text verdict → LeadsAfter asks bytes run verdict
+leads asks bytes ended run text (Yes steps roots objects) are to = (to, are)
+leads asks bytes ended run text (No line refusal) are to = tt
+
+-- the text after a yes, if owners are asked for
+pub asked_text : (owners : Bool) (run : Run) (verdict : RunVerdict) (steps roots objects : ℕ) → owners ≡ true → verdict ≡ Yes steps roots objects
+    → run_verdict_line verdict ++ (object_lines run ++ owner_lines run) ≡ run_report_text owners run verdict
+asked_text owners run verdict steps roots objects asked is =
+    ap (λ (v : RunVerdict). run_verdict_line v ++ (object_lines run ++ owner_lines run)) is
+    ∙ sym (ap (λ (b : Bool). run_report_text b run verdict) asked ∙ ap (run_report_text true run) is)
+
+-- without a verdict nothing is pushed
+pub pushed_nothing : (asks : Asks) (owners : Bool) (bytes : List ℕ) (ended : Bool) (took : List ℕ → Type 0) (fault : JudgeFault)
+    → IsAnswerOf asks bytes ended (Err fault) → took [] → IsRunPushed asks owners bytes ended took (Err (told_fault fault))
+pushed_nothing asks owners bytes ended took Pull answer nothing = (answer, nothing)
+pushed_nothing asks owners bytes ended took NoMemory answer nothing = (answer, nothing)

@@ -1,0 +1,21 @@
+use Rattle.cap_run_judge.specs.Readings.{run_in}
+use Rattle.cap_run_judge.proofs.{OwnerLemmas.{both_ok, both_err, first_err}, RunReportLemmas.asked_text}
+use Rattle.cap_run_judge.proofs.output.push_run_report.Goals as goal
+
+pub returns-in-Ok-clause-ok : goal.returns-in-Ok-clause-ok
+returns-in-Ok-clause-ok g c =
+    both_ok g.K.Sink.took c.args.sink.now c.push_run_verdict-in-Yes.new.sink c.push_owners.new.sink g.met.K.Sink.joined _ _ _
+    (asked_text c.args.owners (run_in c.args.machine.now) c.args.verdict.now c.in-Yes.steps c.in-Yes.roots c.in-Yes.objects c.if-not-owners.false c.in-Yes.is)
+    c.push_owners.result c.in-Ok.ensures.ok c.push_owners.ensures.ok
+
+pub returns-in-Ok-clause-err : goal.returns-in-Ok-clause-err
+returns-in-Ok-clause-err g c =
+    both_err g.K.Sink.took c.args.sink.now c.push_run_verdict-in-Yes.new.sink c.push_owners.new.sink g.met.K.Sink.joined _ _ _
+    (asked_text c.args.owners (run_in c.args.machine.now) c.args.verdict.now c.in-Yes.steps c.in-Yes.roots c.in-Yes.objects c.if-not-owners.false c.in-Yes.is)
+    c.push_owners.result c.in-Ok.ensures.ok c.push_owners.ensures.err
+
+pub returns-in-Err-clause-err : goal.returns-in-Err-clause-err
+returns-in-Err-clause-err g c =
+    first_err (g.K.Sink.took c.args.sink.now c.push_run_verdict-in-Yes.new.sink) _ _ _
+    (asked_text c.args.owners (run_in c.args.machine.now) c.args.verdict.now c.in-Yes.steps c.in-Yes.roots c.in-Yes.objects c.if-not-owners.false c.in-Yes.is)
+    c.in-Err.ensures.err

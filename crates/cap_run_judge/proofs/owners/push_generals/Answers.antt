@@ -1,0 +1,41 @@
+use Rattle.std.proofs.Common.{◌≡◌, ◌+◌, ◌-◌, ℕ, List, [], refl, subst, ◌∙◌, arith}
+use Rattle.cap_run_log.specs.declared.lines.RunPlace.TheVariants.{General}
+use Rattle.cap_run_judge.specs.{OwnerLists.place_line, Readings.run_in}
+use Rattle.cap_run_judge.proofs.OwnerLemmas.{no_lines, one_more, stopped}
+use Rattle.cap_run_judge.proofs.owners.push_generals.Goals as goal
+
+pub loop-number-init : goal.loop-number-init
+loop-number-init g c = record {
+  taken = subst (λ text. g.K.Sink.took c.args.sink.now c.args.sink.now text)
+      (no_lines (λ number. place_line (run_in c.args.machine.now) (General number)) 1) (g.met.K.Sink.nothing c.args.sink.now);
+  counted = refl;
+}
+
+pub returns-in-Err-clause-err : goal.returns-in-Err-clause-err
+returns-in-Err-clause-err g c =
+    let line : ℕ → List ℕ = λ number. place_line (run_in c.args.machine.now) (General number) in
+    let number = c.loop-number.number in
+    let least = c.loop-number.auto.number in
+    let less = c.loop-number-test.true in
+    let here : number ≡ 1 + (number - 1) = omega arith in
+    let part = c.in-Err.ensures.err in
+    let m = stopped line 1 (number - 1) number 31 part.0 here (omega arith) in (
+      m.0,
+      subst (λ text. g.K.Sink.took c.args.sink.now c.push_owner.new.sink text) m.1
+          (g.met.K.Sink.joined c.args.sink.now c.loop-number.sink c.push_owner.new.sink _ _ c.loop-number.invariant.taken part.1),
+    )
+
+pub loop-number-preserved : goal.loop-number-preserved
+loop-number-preserved g c =
+    let line : ℕ → List ℕ = λ number. place_line (run_in c.args.machine.now) (General number) in
+    let number = c.loop-number.number in
+    let least = c.loop-number.auto.number in
+    let here : number ≡ 1 + (number - 1) = omega arith in
+    let more : number + 1 - 1 ≡ (number - 1) + 1 = omega arith in
+    record {
+      taken = subst (λ text. g.K.Sink.took c.args.sink.now c.push_owner.new.sink text)
+          (one_more line 1 (number - 1) number (number + 1 - 1) here more)
+          (g.met.K.Sink.joined c.args.sink.now c.loop-number.sink c.push_owner.new.sink _ _
+          c.loop-number.invariant.taken c.in_default.ensures.ok);
+      counted = c.in_default.ensures.counted ∙ c.loop-number.invariant.counted;
+    }

@@ -1,0 +1,11 @@
+use Rattle.std.proofs.Common.{◌≡◌, ◌-◌}
+use Rattle.cap_run_log.specs.declared.lines.RunPlace.TheVariants.{General}
+use Rattle.cap_run_judge.specs.{OwnerLists.{lines_from, place_line}, Readings.run_in}
+use Rattle.cap_run_judge.proofs.owners.push_generals.Given as goal
+
+-- the lines of the registers below this one were pushed
+abbrev pub invariant-loop-number : goal.invariant-loop-number
+invariant-loop-number g l = record {
+  taken : g.K.Sink.took l.fn.sink l.sink (lines_from (λ number. place_line (run_in l.fn.machine) (General number)) 1 (l.number - 1));
+  counted : g.K.Sink.faults l.sink ≡ g.K.Sink.faults l.fn.sink;
+}
