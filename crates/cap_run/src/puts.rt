@@ -57,7 +57,7 @@ pub(crate) fn label_for(cap: Cap, label: u64) -> u64
 {
     if !cap.tag {
         0
-    } else if is_empty(cap.word) {
+    } else if label >= 32 && is_empty(cap.word) {
         1
     } else {
         label
