@@ -6,6 +6,7 @@ _capcheck_options() {
         'capcheck explain') echo '--memory --tag' ;;
         'capcheck judge' | 'capdiag why') echo '--origins' ;;
         'capdiag heap') echo '--report --why' ;;
+        'capdiag run') echo '--freed --owned --owners --why' ;;
     esac
 }
 
@@ -13,10 +14,14 @@ _capcheck() {
     local program=${1##*/} word=$2 command=${COMP_WORDS[1]} offered='' option
     if [ "$COMP_CWORD" = 1 ]; then
         case $program in
-            capdiag) offered='why heap --help --version' ;;
+            capdiag) offered='why heap run --help --version' ;;
             *) offered='explain round judge vectors' ;;
         esac
         mapfile -t COMPREPLY < <(compgen -W "$offered" -- "$word")
+        return
+    fi
+    if [ "$program $command ${COMP_WORDS[COMP_CWORD-1]}" = 'capdiag run --freed' ]; then
+        mapfile -t COMPREPLY < <(compgen -W 'held used both' -- "$word")
         return
     fi
     # An option that was given is left out, in capcheck with those that come before it, and after -- each is.
@@ -32,7 +37,7 @@ _capcheck() {
     mapfile -t COMPREPLY < <(compgen -W "$offered" -- "$word")
     case "$program $command $word" in
         *' -'*) ;;
-        'capcheck judge '* | 'capcheck vectors '* | 'capdiag why '* | 'capdiag heap '*)
+        'capcheck judge '* | 'capcheck vectors '* | 'capdiag why '* | 'capdiag heap '* | 'capdiag run '*)
             mapfile -t -O "${#COMPREPLY[@]}" COMPREPLY < <(compgen -f -- "$word") ;;
     esac
 }

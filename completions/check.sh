@@ -19,7 +19,11 @@ offers() {
     [ "$got" = "$(printf '%s\n' "$@" | { grep . || :; } | sort | tr '\n' ' ')" ] ||
         { echo "completions: '$line' is completed by $got" >&2; exit 1; }
 }
-offers 'capdiag ' why heap --help --version
+offers 'capdiag ' why heap run --help --version
+offers 'capdiag run ' --freed --owned --owners --why --help
+offers 'capdiag run log --freed ' held used both
+offers 'capdiag run --freed used log --own' --owned --owners
+offers 'capdiag run --owned --freed held --' --owners --why
 offers 'capdiag w' why
 offers 'capdiag why ' --origins --help
 offers 'capdiag why --o' --origins

@@ -51,6 +51,7 @@ fn options_of(command: &str) -> &'static [&'static str]
     match command {
         "why" => &["--origins", "--help"],
         "heap" => &["--report", "--why", "--help"],
+        "run" => &["--freed", "--owners", "--owned", "--why", "--help"],
         _ => &["--help", "--version"],
     }
 }
@@ -60,12 +61,17 @@ fn known_words(complaint: Complaint, words: &[&str]) -> &'static [&'static str]
     ensures value { map (λ it. it.now) result.now ≡ known_words complaint (map (λ word. word.now) words.now) }
 {
     match complaint {
-        Complaint::UnknownCommand => &["why", "heap"],
+        Complaint::UnknownCommand => &["why", "heap", "run"],
         Complaint::UnknownOption => match words.split_first() {
             Some((command, _)) => options_of(command),
             None => &[],
         },
-        Complaint::NoCommand | Complaint::SecondFile | Complaint::Twice | Complaint::Alone => &[],
+        Complaint::NoCommand
+        | Complaint::NoValue
+        | Complaint::UnknownValue
+        | Complaint::SecondFile
+        | Complaint::Twice
+        | Complaint::Alone => &[],
     }
 }
 

@@ -28,6 +28,12 @@ pub const ROWS: &str = r#"
 2 heap log --whi
 ! capdiag: unknown option '--whi'; did you mean --why? see capdiag --help
 
+2 run --owner / run log --owner
+! capdiag: unknown option '--owner'; did you mean --owners? see capdiag --help
+
+2 rnu log
+! capdiag: unknown command 'rnu'; did you mean run? see capdiag --help
+
 2 haep log
 ! capdiag: unknown command 'haep'; did you mean heap? see capdiag --help
 
