@@ -1,6 +1,6 @@
 -- What the program says of words that spell no order, of a file that cannot be opened, and where it waits for a terminal. All of it is this profile's
 -- own.
-use Rattle.std.specs.Prelude.{ℕ, List, [], ◌++◌, take, codes}
+use Rattle.std.specs.Prelude.{ℕ, List, [], ◌++◌, Option, Some, None, take, codes}
 use Rattle.cap_texts.specs.ShownBytes.{shown}
 use Rattle.capdiag.specs.declared.complaints.Complaint.{Complaint}
 use Rattle.capdiag.specs.declared.complaints.Complaint.TheVariants.{NoCommand, UnknownCommand, UnknownOption, NoValue}
@@ -28,9 +28,19 @@ abbrev pub subject : Complaint → List ℕ → List ℕ
 subject NoCommand word = []
 subject complaint word = quoted word
 
--- the line of a complaint
-unfoldable pub complaint_line : Complaint → List ℕ → List ℕ
-complaint_line complaint word = codes "capdiag: " ++ front_text complaint ++ subject complaint word ++ codes "; see capdiag --help\n"
+-- the question whether another word was meant: its first 64 bytes
+unfoldable pub asked : List ℕ → List ℕ
+asked guess = codes " did you mean " ++ take 64 guess ++ codes "?"
+
+-- that question, where there is another word
+abbrev pub question : Option (List ℕ) → List ℕ
+question None = []
+question (Some guess) = asked guess
+
+-- the line of a complaint, with the word that may have been meant
+unfoldable pub complaint_line : Complaint → List ℕ → Option (List ℕ) → List ℕ
+complaint_line complaint word guess =
+    codes "capdiag: " ++ front_text complaint ++ subject complaint word ++ codes ";" ++ question guess ++ codes " see capdiag --help\n"
 
 -- a reason in words
 abbrev pub reason_text : Unopened → List ℕ

@@ -1,4 +1,5 @@
 pub mod Complaints
+pub mod Guesses
 pub mod Showings
 pub mod Orders
 pub mod Readings

@@ -1,10 +1,12 @@
 //! What the program says of words that ask for no order, of a file that cannot be opened, and where it waits for a terminal.
 
-ghost use Rattle.std.specs.Prelude.{◌≡◌, ◌+◌, ◌≤◌, length, take};
+ghost use Rattle.std.specs.Prelude.{◌≡◌, ◌+◌, ◌≤◌, length, map, option_map, take};
 ghost use Rattle.cap_streams.specs.Written.{Writes};
 ghost use Rattle.cap_program.specs.Doings.{IsPushed};
-ghost use Rattle.capdiag.specs.Complaints.{complaint_line, front_text, quoted, reason_text, subject, unopened_line, waiting_line};
+ghost use Rattle.capdiag.specs.Guesses.{guess_of};
+ghost use Rattle.capdiag.specs.Complaints.{asked, complaint_line, front_text, question, quoted, reason_text, subject, unopened_line, waiting_line};
 
+use crate::guesses::guess_of;
 use cap_log::buffers::put;
 use cap_log::{Sink, push_all};
 use cap_texts::shown_bytes::put_shown;
@@ -58,25 +60,35 @@ pub enum Unopened {
     Other,
 }
 
-/// Pushes the line that says why words ask for no order. Where the sink fails it took a beginning of the line.
-pub fn tell_words<F: Sink>(wrong: Wrong<'_>, faults: &mut F)
-    ensures told { IsPushed F.took F.faults faults.old faults.new (complaint_line wrong.entry.complaint wrong.entry.word.now) }
+/// Pushes the line that says what is wrong with words, and which word may have been meant. Where the sink fails it took
+/// a beginning of the line.
+pub fn tell_words<F: Sink>(words: &[&str], wrong: Wrong<'_>, faults: &mut F)
+    ensures told { IsPushed F.took F.faults faults.old faults.new (complaint_line wrong.entry.complaint wrong.entry.word.now
+        (guess_of wrong.entry.complaint (map (λ word. word.now) words.now) wrong.entry.word.now)) }
 {
     let mut line = [0u8; 512];
-    let length = put_complaint(wrong.complaint, wrong.word, &mut line);
+    let guess = guess_of(wrong.complaint, words, wrong.word);
+    let length = put_complaint(wrong.complaint, wrong.word, guess, &mut line);
     let _pushed = push_all(faults, &line[..length]);
 }
 
 // Writes the line of a complaint at the front of a buffer, and answers its length.
 #[tactic(auto, unfolding(crate::specs::Complaints::complaint_line))]
-fn put_complaint(complaint: Complaint, word: &str, buffer: &mut [u8; 512]) -> usize
+fn put_complaint(
+    complaint: Complaint,
+    word: &str,
+    guess: Option<&str>,
+    buffer: &mut [u8; 512],
+) -> usize
     ensures fits { result ≤ 512 }
-    ensures line { take result buffer.new ≡ complaint_line complaint word.now }
+    ensures line { take result buffer.new ≡ complaint_line complaint word.now (option_map (λ it. it.now) guess.entry) }
 {
     let at = put(buffer, 0, b"capdiag: ");
     let at = put(buffer, at, front_text(complaint));
     let at = put_subject(buffer, at, complaint, word);
-    put(buffer, at, b"; see capdiag --help\n")
+    let at = put(buffer, at, b";");
+    let at = put_question(buffer, at, guess);
+    put(buffer, at, b" see capdiag --help\n")
 }
 
 // Writes the word, where the complaint is of one.
@@ -95,6 +107,29 @@ fn put_subject(buffer: &mut [u8], at: usize, complaint: Complaint, word: &str) -
         | Complaint::Twice
         | Complaint::Alone => put_quoted(buffer, at, word),
     }
+}
+
+// Writes the question whether another word was meant, where there is one.
+fn put_question(buffer: &mut [u8], at: usize, guess: Option<&str>) -> usize
+    requires room { at + 80 ≤ length buffer.old }
+    ensures written { Writes at (question (option_map (λ it. it.now) guess.entry)) buffer.old buffer.new result }
+    ensures fits { result ≤ at + 80 }
+{
+    match guess {
+        Some(guess) => put_asked(buffer, at, guess),
+        None => at,
+    }
+}
+
+// Writes the question whether this word was meant.
+fn put_asked(buffer: &mut [u8], at: usize, guess: &str) -> usize
+    requires room { at + 80 ≤ length buffer.old }
+    ensures written { Writes at (asked guess.now) buffer.old buffer.new result }
+    ensures fits { result ≤ at + 80 }
+{
+    let at = put(buffer, at, b" did you mean ");
+    let at = put(buffer, at, front(guess.as_bytes()));
+    put(buffer, at, b"?")
 }
 
 /// Pushes the line that says that a file cannot be opened. Where the sink fails it took a beginning of the line.

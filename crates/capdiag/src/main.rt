@@ -3,6 +3,7 @@
 #![tactic(auto)]
 
 mod complaints;
+mod guesses;
 mod help;
 mod judges;
 #[cfg(test)]
@@ -48,7 +49,11 @@ fn answer(rt: &HostRuntime) -> Result<u8, AllocError> {
     let order = match read_words(words.as_slice()) {
         Ok(order) => order,
         Err(wrong) => {
-            tell_words(wrong, &mut WriteSink::new(&mut rt.stderr()));
+            tell_words(
+                words.as_slice(),
+                wrong,
+                &mut WriteSink::new(&mut rt.stderr()),
+            );
             return Ok(Fault::BadWords.status());
         }
     };

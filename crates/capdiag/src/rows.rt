@@ -13,10 +13,38 @@ pub const ROWS: &str = r#"
 ! capdiag: no command; see capdiag --help
 
 2 whys / whys log
-! capdiag: unknown command 'whys'; see capdiag --help
+! capdiag: unknown command 'whys'; did you mean why? see capdiag --help
 
-2 --orgins / why --orgins log
+2 --orgins / heap log --orgins
 ! capdiag: unknown option '--orgins'; see capdiag --help
+
+# one character missing, more or changed, or two neighbours in the other order
+2 why --orgins log / why log --orgins
+! capdiag: unknown option '--orgins'; did you mean --origins? see capdiag --help
+
+2 heap --reports
+! capdiag: unknown option '--reports'; did you mean --report? see capdiag --help
+
+2 heap log --whi
+! capdiag: unknown option '--whi'; did you mean --why? see capdiag --help
+
+2 run --owner / run log --owner
+! capdiag: unknown option '--owner'; did you mean --owners? see capdiag --help
+
+2 rnu log
+! capdiag: unknown command 'rnu'; did you mean run? see capdiag --help
+
+2 haep log
+! capdiag: unknown command 'haep'; did you mean heap? see capdiag --help
+
+2 -help
+! capdiag: unknown option '-help'; did you mean --help? see capdiag --help
+
+2 hea
+! capdiag: unknown command 'hea'; did you mean heap? see capdiag --help
+
+2 ehpa
+! capdiag: unknown command 'ehpa'; see capdiag --help
 
 2 why --why / why log --why --origins
 ! capdiag: unknown option '--why'; see capdiag --help
@@ -42,7 +70,7 @@ pub const ROWS: &str = r#"
 2 run --owned log --owners --owned
 ! capdiag: given twice: '--owned'; see capdiag --help
 
-2 why a b / run --freed used a b / run a --why b / run --owned -- a b / why a --origins b c / heap a -- b / heap -- - b
+2 why a b / run --freed used a b / run a --owned b / run --owned -- a b / why a --origins b c / heap a -- b / heap -- - b
 ! capdiag: one file at most: 'b'; see capdiag --help
 
 2 why log - / heap - -

@@ -38,7 +38,7 @@ fn outcome<'a>(
     let order = match read_words(words) {
         Ok(order) => order,
         Err(wrong) => {
-            tell_words(wrong, &mut WriteSink::new(told));
+            tell_words(words, wrong, &mut WriteSink::new(told));
             return 2;
         }
     };
