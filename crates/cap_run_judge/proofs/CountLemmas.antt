@@ -3,9 +3,9 @@ use Rattle.std.proofs.Common.{◌≡◌, ℕ, ◌+◌, Bool, true, false, if◌t
 use Rattle.std.specs.Option.{option_map_or}
 use Rattle.std.proofs.lemmas.Option.{none-some}
 use Rattle.cap_run_log.specs.declared.lines.{RunLine.RunLine, RunStep.RunStep}
-use Rattle.cap_run.specs.declared.{asks.Asks.Asks, ends.RunRefusal.{RunRefusal, TheVariants.{NoCapability, NoOwner}}}
+use Rattle.cap_run.specs.declared.{asks.Asks.Asks, ends.RunRefusal.{TheVariants.{NoCapability, NoOwner}}}
 use Rattle.cap_run.specs.{Run.Run, RunChanges.{line_after, run_after, with_freed}, RunChecks.{number_end, run_end}, RunSteps.{or_later, step_limit}}
-use Rattle.cap_run_judge.specs.Turns.{Allows, Body, Due, Ended, First, Goes, Reads, Refused, Second, Stage, next_due, refusal_by, stage_after, unread}
+use Rattle.cap_run_judge.specs.Turns.{Body, Due, First, Goes, Reads, Second, Stage, next_due, refusal_by, stage_after, unread}
 use Rattle.cap_run_judge.specs.Readings.{IsAtFault, lines_by, lines_read}
 
 -- the object that a register's owner is, freed

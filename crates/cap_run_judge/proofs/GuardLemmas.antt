@@ -1,6 +1,6 @@
 -- What is true along the lines of a run log that is read.
 use Rattle.std.specs.List.{AllByRecursion}
-use Rattle.std.proofs.Common.{◌≡◌, List, [], ◌∷◌, ◌++◌, sym, subst, None, Some}
+use Rattle.std.proofs.Common.{◌≡◌, List, [], ◌∷◌, sym, subst, None, Some}
 use Rattle.std.proofs.lemmas.Option.{none-some}
 use Rattle.cap_ops.specs.declared.refusal.Refusal.TheVariants.{BadHeader, BadMode, Misplaced}
 use Rattle.cap_run_log.specs.{declared.lines.RunLine.RunLine, RunLines.IsRunLineInRange}

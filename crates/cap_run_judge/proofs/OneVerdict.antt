@@ -3,7 +3,7 @@ use Rattle.std.specs.List.{AllByRecursion}
 use Rattle.std.proofs.Common.{◌≡◌, ℕ, ◌+◌, inl, inr, List, [], ◌∷◌, ◌++◌, length, refl, sym, ap, subst, ◌∙◌, append_assoc, append-nil, arith, Option, Some, None}
 use Rattle.std.proofs.{Common.length-append, lemmas.Option.{none-some, same_Some}}
 use Rattle.cap_ops.specs.declared.refusal.Refusal.TheVariants.{Misplaced}
-use Rattle.cap_streams.specs.Front.{IsLine, IsTooLong}
+use Rattle.cap_streams.specs.Front.{IsLine}
 use Rattle.cap_streams.proofs.FrontLemmas.{IsLine-same, IsLine-not_too_long, IsLine-not_cut, IsTooLong-not_cut}
 use Rattle.cap_log.specs.Parts.{ReadsAs}
 use Rattle.cap_run_log.specs.{declared.lines.RunLine.RunLine, RunLines.{IsRunLineInRange, run_spelling}}

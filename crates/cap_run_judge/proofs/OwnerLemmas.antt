@@ -1,5 +1,5 @@
 -- Lines of one number after another, and the texts that a sink took of them.
-use Rattle.std.proofs.Common.{◌≡◌, ℕ, zero, suc, ◌+◌, ◌-◌, ◌≤◌, ◌<◌, List, [], ◌∷◌, ◌++◌, take, Option, Some, None}
+use Rattle.std.proofs.Common.{◌≡◌, ℕ, zero, suc, ◌+◌, ◌-◌, ◌≤◌, ◌<◌, List, [], ◌∷◌, ◌++◌, take}
 use Rattle.std.proofs.Common.{Result, Ok, Err, OnOk, OnErr, refl, sym, ap, subst, ◌∙◌, append-nil, append_assoc, arith}
 use Rattle.cap_streams.specs.declared.sinks.PushFault.{PushFault}
 use Rattle.cap_run_judge.specs.OwnerLists.{lines_from}

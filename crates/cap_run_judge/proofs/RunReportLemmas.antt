@@ -1,20 +1,20 @@
 -- The report of a machine's run is that of the log that led to it.
 use Rattle.std.specs.BTreeMap as tree
 use Rattle.std.specs.{List.slice_get, Ordering.nat_cmp}
-use Rattle.std.proofs.Common.{◌≡◌, ℕ, ◌+◌, ◌≤◌, ◌<◌, ◌++◌, List, [], Bool, true, false, Option, Some, None, Err, option_and_then}
-use Rattle.std.proofs.Common.{refl, sym, ap, subst, ◌∙◌, inl, inr, arith}
+use Rattle.std.proofs.Common.{◌≡◌, ℕ, ◌≤◌, ◌++◌, List, [], Bool, true, Option, Some, None, Err, option_and_then}
+use Rattle.std.proofs.Common.{refl, sym, ap, ◌∙◌, inl, inr, arith}
 use Rattle.std.proofs.lemmas.{Bool.{cases_Bool, cond-true, cond-false}, Option.{none-some, same_Some}}
 use Rattle.cap_streams.specs.{FaultLines.told_fault, declared.judge_faults.JudgeFault.{JudgeFault, TheVariants.{NoMemory, Pull}}}
 use Rattle.cap_machine.specs.Helds.{Held}
 use Rattle.cap_objects.specs.{declared.{handouts.Handouts.Handouts, objects.Object.Object}, Extents.{Objects, is_present}}
-use Rattle.cap_objects.specs.{HandoutsIn.objects_of, Indexes.{kept, number_key, object_at}}
-use Rattle.cap_run_log.specs.declared.lines.RunPlace.{RunPlace, TheVariants.Granule}
+use Rattle.cap_objects.specs.{HandoutsIn.objects_of, Indexes.{kept, number_key}}
+use Rattle.cap_run_log.specs.declared.lines.RunPlace.{RunPlace}
 use Rattle.cap_run.specs.{declared.{asks.Asks.Asks, specials.Specials.Specials}, Numbers.{by_number, numbered_run}, Run.Run}
 use Rattle.cap_run.specs.{RunChanges.place_key, Safety.IsSafe}
 use Rattle.cap_run_judge.specs.declared.verdict.RunVerdict.{RunVerdict, TheVariants.{Yes, No}}
 use Rattle.cap_run_judge.specs.{Judgings.{IsAnswerOf, StopsIn}, OwnerLists.{line_of_object, line_of_place, numbered_line, object_line, place_line}}
 use Rattle.cap_run_judge.specs.OwnerLists.{object_lines, owner_lines, run_report_text}
-use Rattle.cap_run_judge.specs.{Reports.{AreNumbered, IsNumbered, IsRunPushed, LeadsAfter, TellsRun}, VerdictLines.run_verdict_line}
+use Rattle.cap_run_judge.specs.{Reports.{AreNumbered, IsRunPushed, LeadsAfter}, VerdictLines.run_verdict_line}
 
 -- an object's line
 pub object_told : (run : Run) (number roots : ℕ) (object : Object) → roots ≡ run.roots → run.objects number ≡ Some object

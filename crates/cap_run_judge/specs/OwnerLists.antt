@@ -2,11 +2,11 @@
 -- profile's own.
 use Rattle.std.specs.Prelude.{ℕ, zero, suc, ◌+◌, ◌^◌, Bool, true, false, List, [], ◌++◌, codes, decimal, Option, Some, None}
 use Rattle.cap_word.specs.Digits.{hex_digits}
-use Rattle.cap_objects.specs.{Counts.Owners, declared.objects.Object.Object, Objects.top_of_extent}
+use Rattle.cap_objects.specs.{declared.objects.Object.Object, Objects.top_of_extent}
 use Rattle.cap_run_log.specs.declared.lines.RunPlace.{RunPlace, TheVariants.{General, Special, Granule}}
 use Rattle.cap_run_log.specs.RunLines.{run_place_spelling}
 use Rattle.cap_run.specs.{Run.Run, RunChanges.place_key}
-use Rattle.cap_run_judge.specs.declared.verdict.RunVerdict.{RunVerdict, TheVariants.{Yes, No}}
+use Rattle.cap_run_judge.specs.declared.verdict.RunVerdict.{RunVerdict, TheVariants.{Yes}}
 use Rattle.cap_run_judge.specs.VerdictLines.{run_verdict_line}
 
 -- the lines of so many numbers, from one on

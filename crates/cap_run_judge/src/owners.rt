@@ -186,7 +186,11 @@ pub fn object_text(roots: u32, object: Object, buffer: &mut [u8; 128]) -> usize
     let at = put(buffer, 0, b"object ");
     let at = put_decimal(buffer, at, u64::from(object.number));
     let at = put(buffer, at, b" ");
-    let at = put_decimal(buffer, at, 2 + u64::from(roots) + u64::from(object.handed_at));
+    let at = put_decimal(
+        buffer,
+        at,
+        2 + u64::from(roots) + u64::from(object.handed_at),
+    );
     let at = put(buffer, at, b" ");
     let at = put_extent(buffer, at, object);
     let at = put(buffer, at, b" ");

@@ -3,7 +3,7 @@ use Rattle.std.proofs.lemmas.List.Elements.{All-nil}
 use Rattle.std.proofs.Common.{◌≡◌, ◌≢◌, ◌≤◌, ℕ, Bool, true, false, List, [], ◌++◌, Result, Ok, Err, refl, sym, ap, subst, ◌∙◌, append-nil, arith}
 use Rattle.cap_streams.specs.declared.judge_faults.JudgeFault.{JudgeFault}
 use Rattle.cap_streams.specs.declared.judge_faults.JudgeToFault.{JudgeToFault, TheVariants.{Pull, NoMemory, Push}}
-use Rattle.cap_run.specs.declared.{asks.Asks.Asks, ends.RunRefusal.RunRefusal}
+use Rattle.cap_run.specs.declared.{asks.Asks.Asks}
 use Rattle.cap_run_judge.specs.declared.verdict.RunVerdict.{RunVerdict, TheVariants.{Yes, No}}
 use Rattle.cap_run_judge.specs.{Judgings.IsAnswerOf, Reports.{IsRunPushed, TellsRun}, Turns.unread, VerdictLines.run_verdict_status, Verdicts.IsFirstFault}
 use Rattle.cap_program.specs.{Doings.IsDone, Judging.{StopsJudging, judged}}

@@ -8,6 +8,7 @@ ghost use Rattle.cap_program.specs.{Doings.{IsCounted, IsDone}, Judging.{ShowsVe
 ghost use Rattle.cap_run_judge.specs.{Judgings.IsAnswerOf as IsRunAnswerOf, VerdictLines.run_verdict_status};
 ghost use Rattle.capdiag.specs.Answers.{ShowsHeap, ShowsRun, asks_of};
 
+use crate::words::Freed;
 use cap_heap::{HeapVerdict, heap_status, judge_heap_to};
 use cap_judge::{JudgeToFault, Verdict, verdict_status};
 use cap_log::{Sink, Source};
@@ -17,8 +18,6 @@ use cap_run::Asks;
 use cap_run_judge::{RunVerdict, judge_run_to, run_verdict_status};
 use std::alloc::Global;
 use tagmem::PageStore;
-
-use crate::words::Freed;
 
 /// Judges what a source gives, pushes the line of the verdict, after a `no` with the report and after a `yes` with
 /// the origins where they are asked for, and answers the status that goes with the verdict.
@@ -105,14 +104,7 @@ pub fn judge_run_source<S: Source, K: Sink>(
     ensures written { IsCounted Fault.Write result (K.faults sink.old) (K.faults sink.new) }
 {
     let asks = asks_of(freed, owned);
-    run_judged(judge_run_to(
-        source,
-        PageStore::new(alloc),
-        alloc,
-        asks,
-        owners,
-        sink,
-    ))
+    run_judged(judge_run_to(source, PageStore::new(alloc), alloc, asks, owners, sink))
 }
 
 // The status that goes with a verdict, or the fault that came instead.

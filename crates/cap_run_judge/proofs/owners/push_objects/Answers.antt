@@ -1,5 +1,5 @@
-use Rattle.std.proofs.Common.{◌≡◌, ◌+◌, ◌-◌, ◌≤◌, ◌<◌, ◌++◌, ℕ, List, [], take, refl, subst, ◌∙◌, arith}
-use Rattle.cap_run_judge.specs.{OwnerLists.{lines_from, numbered_line, object_line, object_lines}, Readings.run_in}
+use Rattle.std.proofs.Common.{◌≡◌, ◌+◌, ◌-◌, ℕ, List, take, refl, subst, ◌∙◌, arith}
+use Rattle.cap_run_judge.specs.{OwnerLists.{numbered_line}, Readings.run_in}
 use Rattle.cap_run_judge.proofs.{OwnerLemmas.{no_lines, one_more, skip_lines, stopped}, RunReportLemmas.{listed, object_told, object_untold}}
 use Rattle.cap_run_judge.proofs.owners.push_objects.Goals as goal
 

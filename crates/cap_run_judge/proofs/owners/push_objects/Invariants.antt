@@ -1,4 +1,4 @@
-use Rattle.std.proofs.Common.{◌≡◌, ◌+◌, ◌-◌, ◌≤◌, ◌^◌}
+use Rattle.std.proofs.Common.{◌≡◌, ◌+◌, ◌-◌, ◌≤◌}
 use Rattle.cap_run_judge.specs.{OwnerLists.{lines_from, numbered_line}, Readings.run_in}
 use Rattle.cap_run_judge.proofs.owners.push_objects.Given as goal
 

@@ -1,4 +1,4 @@
-use Rattle.std.proofs.Common.{◌≡◌, ◌+◌, ◌-◌, ℕ, List, [], refl, subst, ◌∙◌, arith}
+use Rattle.std.proofs.Common.{◌≡◌, ◌+◌, ℕ, List, refl, subst, ◌∙◌, arith}
 use Rattle.cap_run_log.specs.declared.lines.RunPlace.TheVariants.{Special}
 use Rattle.cap_run_judge.specs.{OwnerLists.place_line, Readings.run_in}
 use Rattle.cap_run_judge.proofs.OwnerLemmas.{no_lines, one_more, stopped}
