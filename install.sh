@@ -46,7 +46,7 @@ done
 RT_LIB=true sh judge/build.sh
 
 mkdir -p "$to/bin" "$to/lib/pkgconfig" "$to/include" "$to/share/man/man1" "$to/share/capcheck/capcheck"
-mkdir -p "$to/share/capcheck/rust/src" "$to/share/capcheck/examples/emulator" "$to/share/capcheck/examples/objects" "$to/share/capcheck/examples/allocator"
+mkdir -p "$to/share/capcheck/rust/src" "$to/share/capcheck/examples/emulator" "$to/share/capcheck/examples/objects" "$to/share/capcheck/examples/allocator" "$to/share/capcheck/examples/revoker"
 cp "$program" "$to/bin/capcheck"
 cp "$diagnosis" "$to/bin/capdiag"
 cp "$library" "$to/lib/libcapcheck_c.a"
@@ -68,6 +68,7 @@ cp examples/*.log "$to/share/capcheck/examples/"
 cp examples/emulator/first.c examples/emulator/emulator.c "$to/share/capcheck/examples/emulator/"
 cp examples/objects/objects.c examples/objects/overruns.c "$to/share/capcheck/examples/objects/"
 cp examples/allocator/*.c "$to/share/capcheck/examples/allocator/"
+cp examples/revoker/revoker.c "$to/share/capcheck/examples/revoker/"
 mkdir -p "$to/share/gdb/auto-load$prefix/lib"
 echo "import sys; sys.path.insert(0, '$prefix/share/capcheck'); import capcheck_gdb" > "$to/share/gdb/auto-load$prefix/lib/libcapcheck_c.so.1-gdb.py"
 # shared NAME HEADER: makes a shared library of an archive. It exports the functions that the header declares.
