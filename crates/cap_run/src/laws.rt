@@ -65,7 +65,7 @@ pub fn owned_accesses_have_owners()
 {}
 
 /// Without the lines of objects, lines that are each allowed in its turn are allowed, whatever is asked, and lead to the
-/// same run but for its objects and how many steps it has.
+/// same run, except its objects and how many steps it has.
 pub fn lines_are_allowed_without_objects()
     ensures law { (asks other : AsksIn) (read : List RunLine) → AreAllowed asks no_run read → AllowsErased other read }
 {}
