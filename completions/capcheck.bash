@@ -6,7 +6,7 @@ _capcheck_options() {
         'capcheck explain') echo '--memory --tag' ;;
         'capcheck judge' | 'capdiag why') echo '--origins' ;;
         'capdiag heap') echo '--report --why' ;;
-        'capdiag run') echo '--freed --owned --owners' ;;
+        'capdiag run') echo '--freed --owned --owners --why' ;;
     esac
 }
 

@@ -30,11 +30,11 @@ offers 'capdiag heap --why -' --report
 offers 'capdiag heap --why log --' --report
 offers 'capdiag heap --why --report -'
 offers 'capdiag why log --o' --origins
-offers 'capdiag run ' --freed --owned --owners --help
+offers 'capdiag run ' --freed --owned --owners --why --help
 offers 'capdiag run --freed ' held used both
 offers 'capdiag run --freed u' used
-offers 'capdiag run --freed used --' --owned --owners
-offers 'capdiag run log --owned --' --freed --owners
+offers 'capdiag run --freed used --' --owned --owners --why
+offers 'capdiag run log --owned --' --freed --owners --why
 offers 'capdiag why -- -'
 offers 'capcheck ' explain round judge vectors
 offers 'capcheck j' judge

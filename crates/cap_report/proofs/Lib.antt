@@ -1,4 +1,4 @@
 pub mod AnswerLemmas
 mod DetailLemmas
 pub mod TextLemmas
-mod WhyLemmas
+pub mod WhyLemmas

@@ -53,9 +53,13 @@ AreBadLines text told =
 abbrev pub first_lines : List ℕ
 first_lines = codes "capcheck 1 or capcheck 2"
 
--- what is told of a first line that is none: that the log is an allocator's, where it is the first line of one
+-- what is told of the first line of another log: which program judges that
+abbrev pub other_log : List ℕ → List ℕ
+other_log hint = text_line (codes "expected") first_lines ++ hint_line hint
+
+-- what is told of a first line that is none: that the log is an allocator's or a run log, where it is the first line of one
 abbrev pub AreFirstLines : List ℕ → List ℕ → Type 0
 AreFirstLines text told =
-    ((text ≡ codes "heap 1")
-    × (told ≡ text_line (codes "expected") first_lines ++ hint_line (codes "the log of an allocator: capdiag heap judges it")))
-    ⊎ ((text ≡ codes "heap 1" → ⊥) × (told ≡ header_lines text first_lines))
+    ((text ≡ codes "heap 1") × (told ≡ other_log (codes "the log of an allocator: capdiag heap judges it")))
+    ⊎ (((text ≡ codes "run 1") × (told ≡ other_log (codes "a run log: capdiag run judges it")))
+    ⊎ ((text ≡ codes "heap 1" → ⊥) × (text ≡ codes "run 1" → ⊥) × (told ≡ header_lines text first_lines)))

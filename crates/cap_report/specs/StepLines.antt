@@ -1,5 +1,5 @@
 -- What the report on a step shows (this profile's own).
-use Rattle.std.specs.Prelude.{ℕ, ◌+◌, ◌*◌, ◌%◌, ◌^◌, nat_le, if◌then◌else◌, List, [], ◌∷◌, ◌++◌, Option, Some, None}
+use Rattle.std.specs.Prelude.{ℕ, Bool, ◌+◌, ◌*◌, ◌%◌, ◌^◌, nat_le, if◌then◌else◌, List, [], ◌∷◌, ◌++◌, Option, Some, None}
 use Rattle.std.specs.Prelude.{codes}
 use Rattle.cap_word.specs.{Digits.hex_digits, Fields.address_of}
 use Rattle.cap_bounds.specs.{Bounds.{base_of, top_of, cut_exponent_of, window_size}, Range.{window_start, with_address}}
@@ -13,6 +13,10 @@ use Rattle.cap_machine.specs.States.{key_of}
 use Rattle.cap_machine.specs.declared.shown.Request.TheVariants as requests
 use Rattle.cap_report.specs.{declared.parts.ReportPart.ReportPart, Parts.lines_of_parts}
 use Rattle.cap_report.specs.declared.parts.ReportPart.TheVariants as parts
+
+-- an account whose origins are shown, or are not
+abbrev pub seen : Bool → Account → Account
+seen origins account = record account { origin = λ key. if origins then account.origin key else None }
 
 -- what a place holds as a source, and the place of the root of that
 abbrev pub source_part : Account → Place → ReportPart

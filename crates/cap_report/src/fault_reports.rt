@@ -67,7 +67,7 @@ fn put_details<M: TaggedStore>(
                 Line::Root(place, word) => {
                     put_root_lines(machine, place, word, refusal, buffer, at)
                 }
-                Line::Step(step) => put_step_lines(machine, &step, refusal, buffer, at),
+                Line::Step(step) => put_step_lines(machine, true, &step, refusal, buffer, at),
                 Line::Version(_) => at,
                 Line::Mode(_) => at,
                 Line::End(_) => at,
@@ -77,8 +77,8 @@ fn put_details<M: TaggedStore>(
     }
 }
 
-// Writes the counts of what was taken so far, and what has to come then.
-fn put_counted_lines<M: TaggedStore>(
+/// Writes the counts of what was taken so far, and what has to come then.
+pub fn put_counted_lines<M: TaggedStore>(
     machine: &Machine<M>,
     refusal: Refusal,
     buffer: &mut [u8],

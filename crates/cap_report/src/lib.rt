@@ -10,12 +10,12 @@
 #![tactic(auto)]
 
 pub mod answers;
-mod bad_lines;
+pub mod bad_lines;
 mod explanations;
-mod fault_reports;
+pub mod fault_reports;
 mod operands;
 mod parts;
-mod step_lines;
+pub mod step_lines;
 pub mod texts;
 
 pub use crate::explanations::{judge_why, judge_why_bytes, push_ending, push_refused};

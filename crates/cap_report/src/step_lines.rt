@@ -7,7 +7,7 @@ ghost use Rattle.cap_streams.specs.Written.{Writes};
 ghost use Rattle.cap_machine.specs.{Helds.account_of, Shown.{IsRead, IsShown}};
 ghost use Rattle.cap_machine.specs.declared.shown.Given.TheVariants as givens;
 ghost use Rattle.cap_report.specs.{Parts.lines_of_parts, StepLines.{access_parts, asked_parts, given_lines}};
-ghost use Rattle.cap_report.specs.StepLines.{operand_parts, range_part, request_parts, step_lines};
+ghost use Rattle.cap_report.specs.StepLines.{operand_parts, range_part, request_parts, seen, step_lines};
 ghost use Rattle.cap_report.specs.declared.parts.ReportPart.TheVariants as parts;
 
 use crate::operands::{authority_in, held_in};
@@ -19,46 +19,49 @@ use cap_texts::text_lines::put_hex_line;
 use cap_word::{Cap, Word};
 use tagmem::TaggedStore;
 
-/// Writes the report on a step that was refused at an index of the buffer, and returns the index after it.
-/// The machine is as it was before the step.
+/// Writes the report on a step that was refused at an index of the buffer, and returns the index after it: with the
+/// origins of what it read, or without. The machine is as it was before the step.
 pub fn put_step_lines<M: TaggedStore>(
     machine: &Machine<M>,
+    origins: bool,
     step: &Step,
     refusal: Refusal,
     buffer: &mut [u8],
     at: usize,
 ) -> usize
     requires { at + 2560 ≤ length buffer.old }
-    ensures written { Writes at (step_lines (account_of machine.now) step.now refusal) buffer.old buffer.new result }
+    ensures written { Writes at (step_lines (seen origins (account_of machine.now)) step.now refusal) buffer.old buffer.new result }
     ensures fits { result ≤ at + 2560 }
 {
     let shown = machine.shown(step);
-    let at = put_asked(machine, &shown, buffer, at);
+    let at = put_asked(machine, origins, &shown, buffer, at);
     match refusal {
         Refusal::WrongResult => put_given(shown.given, buffer, at),
         _ => at,
     }
 }
 
-// Writes what a step read and asked for.
-fn put_asked<M: TaggedStore>(
+/// Writes what a step read and asked for, as [`put_step_lines`] does.
+pub fn put_asked<M: TaggedStore>(
     machine: &Machine<M>,
+    origins: bool,
     shown: &Shown,
     buffer: &mut [u8],
     at: usize,
 ) -> usize
     requires in_range { IsShown shown.now }
     requires room { at + 1536 ≤ length buffer.old }
-    ensures written { Writes at (lines_of_parts (asked_parts (account_of machine.now) shown.now)) buffer.old buffer.new result }
+    ensures written { Writes at (lines_of_parts (asked_parts (seen origins (account_of machine.now)) shown.now)) buffer.old buffer.new result }
     ensures fits { result ≤ at + 1536 }
 {
-    let at = put_operands(machine, shown.source, shown.request, buffer, at);
-    put_access(machine, shown.access, buffer, at)
+    let at = put_operands(machine, origins, shown.source, shown.request, buffer, at);
+    put_access(machine, origins, shown.access, buffer, at)
 }
 
 // Writes what a step's result comes from or what is stored, and what an operation on registers asks for.
 fn put_operands<M: TaggedStore>(
     machine: &Machine<M>,
+    origins: bool,
     source: Option<Place>,
     request: Request,
     buffer: &mut [u8],
@@ -66,14 +69,14 @@ fn put_operands<M: TaggedStore>(
 ) -> usize
     requires source { IfSome source IsRead }
     requires room { at + 768 ≤ length buffer.old }
-    ensures written { Writes at (lines_of_parts (operand_parts (account_of machine.now) source request)) buffer.old buffer.new result }
+    ensures written { Writes at (lines_of_parts (operand_parts (seen origins (account_of machine.now)) source request)) buffer.old buffer.new result }
     ensures fits { result ≤ at + 768 }
 {
     match source {
         Some(place) => {
-            let (held, root) = held_in(machine, place);
+            let (held, root) = held_in(machine, origins, place);
             let at = put_parts(buffer, at, &[ReportPart::Source(place, held, root)]);
-            put_request(machine, held.word, request, buffer, at)
+            put_request(machine, origins, held.word, request, buffer, at)
         }
         None => at,
     }
@@ -82,13 +85,14 @@ fn put_operands<M: TaggedStore>(
 // Writes what an operation on registers asks for, of a source that holds a word.
 fn put_request<M: TaggedStore>(
     machine: &Machine<M>,
+    origins: bool,
     held: Word,
     request: Request,
     buffer: &mut [u8],
     at: usize,
 ) -> usize
     requires { at + 512 ≤ length buffer.old }
-    ensures written { Writes at (lines_of_parts (request_parts (account_of machine.now) held.0 request)) buffer.old buffer.new result }
+    ensures written { Writes at (lines_of_parts (request_parts (seen origins (account_of machine.now)) held.0 request)) buffer.old buffer.new result }
     ensures fits { result ≤ at + 512 }
 {
     match request {
@@ -98,7 +102,7 @@ fn put_request<M: TaggedStore>(
             put_parts(buffer, at, &[ReportPart::Moved(base, top), range_of(held)])
         }
         Request::Authority(register, needs) => {
-            let authority = authority_in(machine, register);
+            let authority = authority_in(machine, origins, register);
             put_parts(buffer, at, &[authority, ReportPart::Needs(needs)])
         }
         Request::Nothing => at,
@@ -138,17 +142,18 @@ fn range_of(word: Word) -> ReportPart
 // Writes an access to memory, its authority, and the permissions that it needs.
 fn put_access<M: TaggedStore>(
     machine: &Machine<M>,
+    origins: bool,
     access: Option<Reached>,
     buffer: &mut [u8],
     at: usize,
 ) -> usize
     requires { at + 768 ≤ length buffer.old }
-    ensures written { Writes at (lines_of_parts (access_parts (account_of machine.now) access)) buffer.old buffer.new result }
+    ensures written { Writes at (lines_of_parts (access_parts (seen origins (account_of machine.now)) access)) buffer.old buffer.new result }
     ensures fits { result ≤ at + 768 }
 {
     match access {
         Some(access) => {
-            let authority = authority_in(machine, access.authority);
+            let authority = authority_in(machine, origins, access.authority);
             let end = u128::from(access.address) + u128::from(access.size);
             let bytes = ReportPart::Access(access.address, end);
             put_parts(

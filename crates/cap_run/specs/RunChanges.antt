@@ -36,6 +36,10 @@ in_run (Granule number) = places.Granule number
 abbrev pub main_of : State → State
 main_of state key = if nat_lt key first_special then state key else untagged_null
 
+-- an account that says nothing of origins
+abbrev pub without_origins : Account → Account
+without_origins account = record account { origin = λ key. None }
+
 -- the account of a run, which the steps of version 2 see: no special register, no object
 abbrev pub account_in : Run → Account
 account_in run = record {

@@ -3,7 +3,7 @@
 ghost use Rattle.std.specs.Prelude.{◌≡◌, ◌≤◌, ◌<◌, ◌^◌, ℕ, None, Some, IfNone, IfSome};
 ghost use Rattle.cap_machine.specs.States.{granule_key};
 ghost use Rattle.cap_run_log.specs.RunLines.{IsRunPlace};
-ghost use Rattle.cap_run.specs.{Numbers.numbered_run, RunChanges.place_key, RunOf.run_owners};
+ghost use Rattle.cap_run.specs.{Numbers.numbered_run, Run.{IsSource, register_key}, RunChanges.place_key, RunOf.run_owners};
 
 use crate::run_machine::RunMachine;
 use cap_objects::Object;
@@ -30,6 +30,17 @@ impl<M: TaggedStore> RunMachine<M> {
         ensures value { result ≡ (let run = numbered_run self.now.machine self.now.specials self.now.objects in run.owners (place_key place)) }
     {
         match self.owner_at(place) {
+            Some(slot) => Some(self.objects.object(slot).number),
+            None => None,
+        }
+    }
+
+    /// The number of the object that owns a register, if there is one: c0 has none.
+    pub fn register_owner(&self, register: RunRegister) -> Option<u32>
+        requires { IsSource register }
+        ensures value { result ≡ (let run = numbered_run self.now.machine self.now.specials self.now.objects in run.owners (register_key register)) }
+    {
+        match self.owner(register) {
             Some(slot) => Some(self.objects.object(slot).number),
             None => None,
         }

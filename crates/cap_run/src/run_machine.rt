@@ -5,7 +5,8 @@ ghost use Rattle.std.specs.FinMap as map;
 ghost use Rattle.cap_machine.specs.{Parents.IsSoundCap, Places.{IsCoded, place_at}};
 ghost use Rattle.cap_objects.specs.{Counts.CountsAre, Handed.held_of, HandoutsIn.objects_of};
 ghost use Rattle.cap_run.specs.{Owned.{AreWithin, object_by}, Run.{IsSource, IsTargetOf, register_key}, RunOf.{run_owners, run_state}};
-ghost use Rattle.cap_run.specs.{Numbers.numbered_run, RunChanges.no_run, Safety.IsSafe};
+ghost use Rattle.cap_machine.specs.Helds.{account_of};
+ghost use Rattle.cap_run.specs.{Numbers.numbered_run, RunChanges.{account_in, no_run, without_origins}, Safety.IsSafe};
 
 use crate::asks::Asks;
 use crate::specials::Specials;
@@ -57,6 +58,14 @@ impl<M: TaggedStore> RunMachine<M> {
         ensures safe { IsSafe self.now.asks.held (numbered_run self.now.machine self.now.specials self.now.objects) }
     {
         self.objects.kept();
+    }
+
+    /// The registers and the memory, as steps of version 2 see them: without special registers and objects.
+    pub fn machine(&self) -> &Machine<M>
+        ensures account { account_in (numbered_run self.now.machine self.now.specials self.now.objects) ≡ without_origins (account_of result.now) }
+    {
+        self.machine.kept();
+        &self.machine
     }
 
     /// From now on it follows these rules. All else is as before.

@@ -6,4 +6,4 @@ mod SourceLemmas
 mod TextLemmas
 mod OneVerdict
 mod OwnerLemmas
-mod RunReportLemmas
+pub mod RunReportLemmas

@@ -84,7 +84,7 @@ asked_text owners run verdict steps roots objects asked is =
     ∙ sym (ap (λ (b : Bool). run_report_text b run verdict) asked ∙ ap (run_report_text true run) is)
 
 -- without a verdict nothing is pushed
-pub pushed_nothing : (asks : Asks) (owners : Bool) (bytes : List ℕ) (ended : Bool) (took : List ℕ → Type 0) (fault : JudgeFault)
-    → IsAnswerOf asks bytes ended (Err fault) → took [] → IsRunPushed asks owners bytes ended took (Err (told_fault fault))
-pushed_nothing asks owners bytes ended took Pull answer nothing = (answer, nothing)
-pushed_nothing asks owners bytes ended took NoMemory answer nothing = (answer, nothing)
+pub pushed_nothing : (asks : Asks) (tells : RunVerdict → List ℕ → Type 0) (bytes : List ℕ) (ended : Bool) (took : List ℕ → Type 0) (fault : JudgeFault)
+    → IsAnswerOf asks bytes ended (Err fault) → took [] → IsRunPushed asks tells bytes ended took (Err (told_fault fault))
+pushed_nothing asks tells bytes ended took Pull answer nothing = (answer, nothing)
+pushed_nothing asks tells bytes ended took NoMemory answer nothing = (answer, nothing)

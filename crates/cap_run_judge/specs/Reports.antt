@@ -27,23 +27,24 @@ LeadsAfter asks bytes run (No line refusal) = Unit {0}
 
 -- the text that belongs to a verdict on bytes: its line, and if owners are asked for, after a yes the lines of the objects
 -- and owned places of the log's last state
-abbrev pub TellsRun : Asks → Bool → List ℕ → RunVerdict → List ℕ → Type 0
-TellsRun asks owners bytes verdict text = (run : Run) × LeadsAfter asks bytes run verdict × (text ≡ run_report_text owners run verdict)
+abbrev pub TellsRun : Asks → Bool → List ℕ → Bool → RunVerdict → List ℕ → Type 0
+TellsRun asks owners bytes ended verdict text = (run : Run) × LeadsAfter asks bytes run verdict × (text ≡ run_report_text owners run verdict)
 
 -- with a verdict a text that belongs to it was taken, without one nothing, and where the sink failed a beginning of such a
 -- text
-abbrev pub IsRunPushed : Asks → Bool → List ℕ → Bool → (List ℕ → Type 0) → Result RunVerdict JudgeToFault → Type 0
-IsRunPushed asks owners bytes ended took (Ok verdict) =
-    IsAnswerOf asks bytes ended (Ok verdict) × (text : List ℕ) × TellsRun asks owners bytes verdict text × took text
-IsRunPushed asks owners bytes ended took (Err Pull) = IsAnswerOf asks bytes ended (Err judge_faults.Pull) × took []
-IsRunPushed asks owners bytes ended took (Err NoMemory) = IsAnswerOf asks bytes ended (Err judge_faults.NoMemory) × took []
-IsRunPushed asks owners bytes ended took (Err Push) =
+abbrev pub IsRunPushed : Asks → (RunVerdict → List ℕ → Type 0) → List ℕ → Bool → (List ℕ → Type 0) → Result RunVerdict JudgeToFault → Type 0
+IsRunPushed asks tells bytes ended took (Ok verdict) =
+    IsAnswerOf asks bytes ended (Ok verdict) × (text : List ℕ) × tells verdict text × took text
+IsRunPushed asks tells bytes ended took (Err Pull) = IsAnswerOf asks bytes ended (Err judge_faults.Pull) × took []
+IsRunPushed asks tells bytes ended took (Err NoMemory) = IsAnswerOf asks bytes ended (Err judge_faults.NoMemory) × took []
+IsRunPushed asks tells bytes ended took (Err Push) =
     (verdict : RunVerdict) × IsAnswerOf asks bytes ended (Ok verdict)
-    × (text : List ℕ) × TellsRun asks owners bytes verdict text × (n : ℕ) × took (take n text)
+    × (text : List ℕ) × tells verdict text × (n : ℕ) × took (take n text)
 
--- an answer is that of the bytes that the source gave in the call, and what the sink took is a text that belongs to it
-pub record RunReported {S K : Type 0} (asks : Asks) (owners : Bool) (gave : S → S → List ℕ → Type 0) (ended : S → Bool)
-    (took : K → K → List ℕ → Type 0) (old new : S) (before after : K) (result : Result RunVerdict JudgeToFault) : Type 0 where
+-- an answer is that of the bytes that the source gave in the call, and what the sink took is a text that belongs to it, by
+-- these bytes and whether the source has ended
+pub record RunReported {S K : Type 0} (asks : Asks) (tells : List ℕ → Bool → RunVerdict → List ℕ → Type 0) (gave : S → S → List ℕ → Type 0)
+    (ended : S → Bool) (took : K → K → List ℕ → Type 0) (old new : S) (before after : K) (result : Result RunVerdict JudgeToFault) : Type 0 where
   pub given : List ℕ
   pub gives : gave old new given
-  pub report : IsRunPushed asks owners given (ended new) (took before after) result
+  pub report : IsRunPushed asks (tells given (ended new)) given (ended new) (took before after) result

@@ -4,7 +4,7 @@ ghost use Rattle.std.specs.Prelude.{◌≡◌, ◌≤◌, ℕ, length, take, Err
 ghost use Rattle.std.specs.FinMap as map;
 ghost use Rattle.cap_streams.specs.declared.judge_faults.JudgeToFault.TheVariants.{Pull, Push};
 ghost use Rattle.cap_streams.specs.Streams.{CountsFault, CountsOnly};
-ghost use Rattle.cap_run_judge.specs.{OwnerLists.run_report_text, Readings.run_in, Reports.RunReported, VerdictLines.run_verdict_line};
+ghost use Rattle.cap_run_judge.specs.{OwnerLists.run_report_text, Readings.run_in, Reports.{RunReported, TellsRun}, VerdictLines.run_verdict_line};
 
 use crate::owners::push_owners;
 use crate::streams::{RunJudgeEnd, judge_run_keeping};
@@ -27,7 +27,7 @@ pub fn judge_run_to<S: Source, M: TaggedStore, K: Sink>(
     sink: &mut K,
 ) -> Result<RunVerdict, JudgeToFault>
     requires { map.len (M.contents memory) ≡ 0 }
-    ensures reported { RunReported asks owners S.gave S.ended K.took source.old source.new sink.old sink.new result }
+    ensures reported { RunReported asks (TellsRun asks owners) S.gave S.ended K.took source.old source.new sink.old sink.new result }
 
     // Each fault of the source or the sink ends the call, and nothing else counts one.
     ensures pulls_counted { CountsOnly (Err Pull) (S.faults source.old) (S.faults source.new) result }

@@ -23,13 +23,14 @@ type_line name otype = name ++ codes " otype " ++ hex_digits 5 otype ++ codes " 
 unfoldable pub bounds_line : List ℕ → List ℕ → ℕ → ℕ → List ℕ
 bounds_line name word base top = name ++ word ++ hex_digits 16 base ++ codes " " ++ hex_digits 17 top ++ codes "\n"
 
+-- what a word stands for: permissions, object type, bounds
+unfoldable pub meaning_lines : List ℕ → ℕ → List ℕ
+meaning_lines name w =
+    perms_line name (perm_view_of w) ++ type_line name (otype_of w) ++ bounds_line name (codes " bounds ") (base_of w) (top_of w)
+
 -- the four lines
 unfoldable pub cap_lines : List ℕ → Place → Cap → List ℕ
-cap_lines name place cap =
-    cap_line name place cap
-    ++ perms_line name (perm_view_of cap.word.0)
-    ++ type_line name (otype_of cap.word.0)
-    ++ bounds_line name (codes " bounds ") (base_of cap.word.0) (top_of cap.word.0)
+cap_lines name place cap = cap_line name place cap ++ meaning_lines name cap.word.0
 
 -- the place of the root that a capability descends from
 unfoldable pub descent_line : List ℕ → Place → List ℕ

@@ -3,7 +3,7 @@
 
 ghost use Rattle.std.specs.Prelude.{◌+◌, ◌≤◌, length};
 ghost use Rattle.cap_streams.specs.Written.{Writes};
-ghost use Rattle.cap_texts.specs.CapLines.{bounds_line, cap_lines, cap_line, descent_lines};
+ghost use Rattle.cap_texts.specs.CapLines.{bounds_line, cap_lines, cap_line, descent_lines, meaning_lines};
 ghost use Rattle.cap_texts.specs.{CapLines.{operand_lines, perms_line, type_line}, ExplainLines.type_name};
 
 use crate::explain_lines::type_name;
@@ -11,7 +11,7 @@ use cap_bounds::{Interval, bounds};
 use cap_log::Place;
 use cap_log::buffers::{put, put_flag, put_hex, put_place};
 use cap_ops::perm_view;
-use cap_word::{Cap, split};
+use cap_word::{Cap, Word, split};
 
 /// Writes the lines of an operand that has this name in a report, and returns the index after them: the
 /// four of the capability that its place holds, and the place of the root that this descends from, where
@@ -55,16 +55,28 @@ fn put_descent_lines(buffer: &mut [u8], at: usize, name: &[u8], root: Option<Pla
 
 /// Writes the four lines of a capability that has this name in a report, and returns the index after
 /// them. Nothing else of the buffer changes.
+#[tactic(auto, unfolding(crate::specs::CapLines::cap_lines))]
 pub fn put_cap_lines(buffer: &mut [u8], at: usize, name: &[u8], place: Place, cap: Cap) -> usize
     requires name { length name.now ≤ 9 }
     requires room { at + 192 ≤ length buffer.old }
     ensures written { Writes at (cap_lines name.now place cap) buffer.old buffer.new result }
     ensures fits { result ≤ at + 192 }
 {
-    let Interval { base, top } = bounds(cap.word);
     let at = put_cap_line(buffer, at, name, place, cap);
-    let at = put_perms_line(buffer, at, name, perm_view(cap.word));
-    let at = put_type_line(buffer, at, name, split(cap.word).otype);
+    put_meaning_lines(buffer, at, name, cap.word)
+}
+
+/// Writes what a word stands for: the lines of its permissions, its object type and its bounds, after this name, and
+/// returns the index after them. Nothing else of the buffer changes.
+pub fn put_meaning_lines(buffer: &mut [u8], at: usize, name: &[u8], word: Word) -> usize
+    requires name { length name.now ≤ 9 }
+    requires room { at + 108 ≤ length buffer.old }
+    ensures written { Writes at (meaning_lines name.now word.0) buffer.old buffer.new result }
+    ensures fits { result ≤ at + 108 }
+{
+    let Interval { base, top } = bounds(word);
+    let at = put_perms_line(buffer, at, name, perm_view(word));
+    let at = put_type_line(buffer, at, name, split(word).otype);
     put_bounds_line(buffer, at, name, b" bounds ", base, top)
 }
 

@@ -64,9 +64,9 @@ shows_known (Some (Why origins file)) left rest given ended text status gives al
 shows_known (Some (Heap report why file)) left rest given ended text status gives all shows =
     let k = known_of left rest given ended gives all in
     (k.bytes, k.are, heap_known report why k.bytes given k.more ended text status k.bytes_are k.none_more shows)
-shows_known (Some (Run freed owned owners file)) left rest given ended text status gives all shows =
+shows_known (Some (Run freed owned owners why file)) left rest given ended text status gives all shows =
     let k = known_of left rest given ended gives all in
-    (k.bytes, k.are, run_known (asks_of freed owned) owners k.bytes given k.more ended text status k.bytes_are k.none_more shows)
+    (k.bytes, k.are, run_known (asks_of freed owned) owners why k.bytes given k.more ended text status k.bytes_are k.none_more shows)
 
 -- the status of a text
 few : (order : Option Order) (given : List ℕ) (ended : Bool) (text : List ℕ) (status : ℕ) → Shows order given ended text status
@@ -76,7 +76,7 @@ few (Some Help) given ended text status shows = let is = shows.1 in omega arith
 few (Some Version) given ended text status shows = let is = shows.1 in omega arith
 few (Some (Why origins file)) given ended text status shows = let is = shows.3 in let at = verdict_few shows.0 in omega arith
 few (Some (Heap report why file)) given ended text status shows = let is = shows.3 in let at = heap_few shows.0 in omega arith
-few (Some (Run freed owned owners file)) given ended text status shows = let is = shows.3 in let at = run_few shows.0 in omega arith
+few (Some (Run freed owned owners why file)) given ended text status shows = let is = shows.3 in let at = run_few shows.0 in omega arith
 
 -- an order with a text can be followed
 unfaulty : (order : Option Order) (given : List ℕ) (ended : Bool) (text : List ℕ) (status : ℕ) → Shows order given ended text status
@@ -93,7 +93,7 @@ asked_fault (Some Help) given fault fails = absurd fails
 asked_fault (Some Version) given fault fails = absurd fails
 asked_fault (Some (Why origins file)) given fault fails = stopped_unfaulty (IsAnswerOf given true) fault fails
 asked_fault (Some (Heap report why file)) given fault fails = stopped_unfaulty (IsHeapAnswerOf given true) fault fails
-asked_fault (Some (Run freed owned owners file)) given fault fails = stopped_unfaulty (IsRunAnswerOf (asks_of freed owned) given true) fault fails
+asked_fault (Some (Run freed owned owners why file)) given fault fails = stopped_unfaulty (IsRunAnswerOf (asks_of freed owned) given true) fault fails
 
 -- the meaning of an order, its faults and its status agree
 pub orders_meant : IsMeant order_meaning

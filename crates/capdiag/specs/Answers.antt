@@ -4,6 +4,8 @@ use Rattle.std.specs.Prelude.{◌≡◌, ℕ, Bool, true, false, List, Option, S
 use Rattle.cap_heap.specs.{HeapVerdicts.IsHeapAnswerOf, VerdictLines.{TellsHeap, heap_status}}
 use Rattle.cap_run.specs.declared.asks.Asks.{Asks}
 use Rattle.cap_run_judge.specs.{Judgings.{IsAnswerOf as IsRunAnswerOf}, Reports.TellsRun, VerdictLines.run_verdict_status}
+use Rattle.cap_run_judge.specs.declared.verdict.RunVerdict.{RunVerdict}
+use Rattle.cap_run_report.specs.Answers.{ExplainsRun}
 use Rattle.cap_judge.specs.{declared.verdict.Verdict.Verdict, Judgings.IsAnswerOf, VerdictLines.verdict_status}
 use Rattle.cap_judge.specs.Verdicts.{IsVerdict}
 use Rattle.cap_report.specs.Whys.{Explains}
@@ -26,10 +28,15 @@ asks_of (Some Held) owned_is = record { held = true; used = false; owned = owned
 asks_of (Some Used) owned_is = record { held = false; used = true; owned = owned_is }
 asks_of (Some Both) owned_is = record { held = true; used = true; owned = owned_is }
 
--- the text of the verdict on the bytes given as a run log, with the report of a yes if it is asked for, and its status
-abbrev pub ShowsRun : Asks → Bool → List ℕ → Bool → List ℕ → ℕ → Type 0
-ShowsRun asks owners given ended text status =
-    ShowsVerdict run_verdict_status (IsRunAnswerOf asks given ended) (TellsRun asks owners given) text status
+-- the text of a verdict on a run log, with the reports of a yes and of a no where they are asked for
+abbrev pub TellsAsked : Asks → Bool → Bool → List ℕ → Bool → RunVerdict → List ℕ → Type 0
+TellsAsked asks owners true = ExplainsRun asks owners
+TellsAsked asks owners false = TellsRun asks owners
+
+-- the text of the verdict on the bytes given as a run log, with the reports that are asked for, and its status
+abbrev pub ShowsRun : Asks → Bool → Bool → List ℕ → Bool → List ℕ → ℕ → Type 0
+ShowsRun asks owners why given ended text status =
+    ShowsVerdict run_verdict_status (IsRunAnswerOf asks given ended) (TellsAsked asks owners why given ended) text status
 
 -- the text that an order prints, and its status: that of the verdict on its bytes, with the report of a no and the
 -- origins that are asked for; or that of the verdict on them as an allocator's log or as a run log, with the reports that are
@@ -43,8 +50,8 @@ Prints (Some (Why origins file)) input text status =
     × (verdict : Verdict) × IsVerdict bytes verdict × Explains origins bytes true verdict text × (status ≡ verdict_status verdict)
 Prints (Some (Heap report why file)) input text status =
     (bytes : List ℕ) × IfSome input (λ known. known ≡ bytes) × ShowsHeap report why bytes true text status
-Prints (Some (Run freed owned owners file)) input text status =
-    (bytes : List ℕ) × IfSome input (λ known. known ≡ bytes) × ShowsRun (asks_of freed owned) owners bytes true text status
+Prints (Some (Run freed owned owners why file)) input text status =
+    (bytes : List ℕ) × IfSome input (λ known. known ≡ bytes) × ShowsRun (asks_of freed owned) owners why bytes true text status
 
 -- an order that cannot be followed: there is none
 abbrev pub IsFaulty : Option Order → Type 0
@@ -55,7 +62,7 @@ IsFaulty (Some order) = ⊥
 abbrev pub ReadsInput : Option Order → Type 0
 ReadsInput (Some (Why origins file)) = Unit {0}
 ReadsInput (Some (Heap report why file)) = Unit {0}
-ReadsInput (Some (Run freed owned owners file)) = Unit {0}
+ReadsInput (Some (Run freed owned owners why file)) = Unit {0}
 ReadsInput order = ⊥
 
 -- the text that belongs to an order and the bytes given for it, and its status
@@ -66,14 +73,14 @@ Shows (Some Version) given ended text status = (text ≡ version_line) × (statu
 Shows (Some (Why origins file)) given ended text status =
     ShowsVerdict verdict_status (IsAnswerOf given ended) (Explains origins given ended) text status
 Shows (Some (Heap report why file)) given ended text status = ShowsHeap report why given ended text status
-Shows (Some (Run freed owned owners file)) given ended text status = ShowsRun (asks_of freed owned) owners given ended text status
+Shows (Some (Run freed owned owners why file)) given ended text status = ShowsRun (asks_of freed owned) owners why given ended text status
 
 -- the fault that belongs to an order and the bytes given for it, but for one of the output
 abbrev pub Fails : Option Order → List ℕ → Fault → Type 0
 Fails None given BadWords = Unit {0}
 Fails (Some (Why origins file)) given fault = StopsJudging (IsAnswerOf given true) fault
 Fails (Some (Heap report why file)) given fault = StopsJudging (IsHeapAnswerOf given true) fault
-Fails (Some (Run freed owned owners file)) given fault = StopsJudging (IsRunAnswerOf (asks_of freed owned) given true) fault
+Fails (Some (Run freed owned owners why file)) given fault = StopsJudging (IsRunAnswerOf (asks_of freed owned) given true) fault
 Fails order given fault = ⊥
 
 -- what the orders of the program mean

@@ -25,7 +25,7 @@ abbrev pub options_of : List ℕ → List (List ℕ)
 options_of command =
     if bytes_eq command (codes "why") then codes "--origins" ∷ codes "--help" ∷ []
     else if bytes_eq command (codes "heap") then codes "--report" ∷ codes "--why" ∷ codes "--help" ∷ []
-    else if bytes_eq command (codes "run") then codes "--freed" ∷ codes "--owners" ∷ codes "--owned" ∷ codes "--help" ∷ []
+    else if bytes_eq command (codes "run") then codes "--freed" ∷ codes "--owners" ∷ codes "--owned" ∷ codes "--why" ∷ codes "--help" ∷ []
     else codes "--help" ∷ codes "--version" ∷ []
 
 -- the words for which an unknown one may stand: the commands, or the options of its command

@@ -29,27 +29,28 @@ with_option (Heap report why file) word =
     if bytes_eq word (codes "--report") then once report (Heap true why file)
     else if bytes_eq word (codes "--why") then once why (Heap report true file)
     else Err UnknownOption
-with_option (Run freed owned owners file) word =
-    if bytes_eq word (codes "--owned") then once owned (Run freed true owners file)
-    else if bytes_eq word (codes "--owners") then once owners (Run freed owned true file)
+with_option (Run freed owned owners why file) word =
+    if bytes_eq word (codes "--owned") then once owned (Run freed true owners why file)
+    else if bytes_eq word (codes "--owners") then once owners (Run freed owned true why file)
+    else if bytes_eq word (codes "--why") then once why (Run freed owned owners true file)
     else Err UnknownOption
 with_option order word = Err UnknownOption
 
 -- whether a word is an option of the order that takes a value, and whether the order has that value
 abbrev pub takes_value : Order → List ℕ → Bool
-takes_value (Run freed owned owners file) word = bytes_eq word (codes "--freed")
+takes_value (Run freed owned owners why file) word = bytes_eq word (codes "--freed")
 takes_value order word = false
 
 abbrev pub has_value : Order → Bool
-has_value (Run freed owned owners file) = is_some freed
+has_value (Run freed owned owners why file) = is_some freed
 has_value order = false
 
 -- an order with the value of its option
 abbrev pub with_value : Order → List ℕ → Result Order Complaint
-with_value (Run freed owned owners file) word =
-    if bytes_eq word (codes "held") then Ok (Run (Some Held) owned owners file)
-    else if bytes_eq word (codes "used") then Ok (Run (Some Used) owned owners file)
-    else if bytes_eq word (codes "both") then Ok (Run (Some Both) owned owners file)
+with_value (Run freed owned owners why file) word =
+    if bytes_eq word (codes "held") then Ok (Run (Some Held) owned owners why file)
+    else if bytes_eq word (codes "used") then Ok (Run (Some Used) owned owners why file)
+    else if bytes_eq word (codes "both") then Ok (Run (Some Both) owned owners why file)
     else Err UnknownValue
 with_value order word = Err UnknownValue
 
@@ -110,7 +111,7 @@ read_words [] = Err (NoCommand, [])
 read_words (command ∷ words) =
     if bytes_eq command (codes "why") then after_command (Why false None) words
     else if bytes_eq command (codes "heap") then after_command (Heap false false None) words
-    else if bytes_eq command (codes "run") then after_command (Run None false false None) words
+    else if bytes_eq command (codes "run") then after_command (Run None false false false None) words
     else if bytes_eq command (codes "--help") then alone Help command words
     else if bytes_eq command (codes "--version") then alone Version command words
     else if is_operand command then Err (UnknownCommand, command)
@@ -120,7 +121,7 @@ read_words (command ∷ words) =
 abbrev pub without_file : Order → Order
 without_file (Why origins file) = Why origins None
 without_file (Heap report why file) = Heap report why None
-without_file (Run freed owned owners file) = Run freed owned owners None
+without_file (Run freed owned owners why file) = Run freed owned owners why None
 without_file order = order
 
 -- the file that an operand names: a minus sign alone names standard input, as no operand does
@@ -132,7 +133,7 @@ file_of (Some word) = if bytes_eq word (codes "-") then None else Some word
 abbrev pub HasFile : Order → Option (List ℕ) → Type 0
 HasFile (Why origins file) operand = file_of operand ≡ option_map (λ word. word.now) file
 HasFile (Heap report why file) operand = file_of operand ≡ option_map (λ word. word.now) file
-HasFile (Run freed owned owners file) operand = file_of operand ≡ option_map (λ word. word.now) file
+HasFile (Run freed owned owners why file) operand = file_of operand ≡ option_map (λ word. word.now) file
 HasFile order operand = Unit {0}
 
 -- the words ask for this order
@@ -143,3 +144,9 @@ Asks words order =
 -- what is wrong with words that ask for no order, and the word that is wrong
 abbrev pub IsComplaint : List (List ℕ) → Complaint → List ℕ → Type 0
 IsComplaint words complaint wrong = read_words words ≡ Err (complaint, wrong)
+
+-- what an order means of an input that begins with these bytes: `why` judges a run log as `run --why` does, with the owners
+-- where the origins are asked for
+abbrev pub order_on : Order → List ℕ → Order
+order_on (Why origins file) front = if bytes_eq front (codes "run 1\n") then Run None false origins true file else Why origins file
+order_on order front = order

@@ -51,7 +51,7 @@ fn options_of(command: &str) -> &'static [&'static str]
     match command {
         "why" => &["--origins", "--help"],
         "heap" => &["--report", "--why", "--help"],
-        "run" => &["--freed", "--owners", "--owned", "--help"],
+        "run" => &["--freed", "--owners", "--owned", "--why", "--help"],
         _ => &["--help", "--version"],
     }
 }

@@ -1,12 +1,14 @@
 //! Judging an input, and pushing the verdict with what is asked for.
 
-ghost use Rattle.std.specs.Prelude.{◌≡◌, ℕ, List, true};
+ghost use Rattle.std.specs.Prelude.{◌≡◌, ℕ, List, true, Err};
 ghost use Rattle.cap_heap.specs.{HeapVerdicts.IsHeapAnswerOf, VerdictLines.heap_status};
 ghost use Rattle.cap_judge.specs.{Judgings.IsAnswerOf, VerdictLines.verdict_status};
 ghost use Rattle.cap_report.specs.Whys.{Explains};
 ghost use Rattle.cap_program.specs.{Doings.{IsCounted, IsDone}, Judging.{ShowsVerdict, StopsJudging, judged}};
 ghost use Rattle.cap_run_judge.specs.{Judgings.IsAnswerOf as IsRunAnswerOf, VerdictLines.run_verdict_status};
-ghost use Rattle.capdiag.specs.Answers.{ShowsHeap, ShowsRun, asks_of};
+ghost use Rattle.cap_run_judge.specs.Reports.{RunReported};
+ghost use Rattle.cap_streams.specs.{declared.judge_faults.JudgeToFault.TheVariants.{Pull, Push}, Streams.CountsOnly};
+ghost use Rattle.capdiag.specs.Answers.{ShowsHeap, ShowsRun, TellsAsked, asks_of};
 
 use crate::words::Freed;
 use cap_heap::{HeapVerdict, heap_status, judge_heap_to};
@@ -16,6 +18,7 @@ use cap_program::{Fault, fault_of};
 use cap_report::judge_why;
 use cap_run::Asks;
 use cap_run_judge::{RunVerdict, judge_run_to, run_verdict_status};
+use cap_run_report::judge_run_why;
 use std::alloc::Global;
 use tagmem::PageStore;
 
@@ -74,8 +77,8 @@ fn heap_judged(answer: Result<HeapVerdict, JudgeToFault>) -> Result<u8, Fault>
     }
 }
 
-// What is asked of a run log.
-fn asks_of(freed: Option<Freed>, owned: bool) -> Asks
+/// What is asked of a run log.
+pub fn asks_of(freed: Option<Freed>, owned: bool) -> Asks
     ensures value { result ≡ asks_of freed owned }
 {
     let (held, used) = match freed {
@@ -88,23 +91,42 @@ fn asks_of(freed: Option<Freed>, owned: bool) -> Asks
 
 /// Judges what a source gives as a run log, by what is asked of freed objects and of authorities without owner, pushes the
 /// line of the verdict and, where they are asked for, after a `yes` the lines of the present objects and of the places that
-/// they own, and answers the status that goes with the verdict.
+/// they own, and after a `no` the report of the line that was refused; and answers the status that goes with the verdict.
 pub fn judge_run_source<S: Source, K: Sink>(
     alloc: Global,
-    freed: Option<Freed>,
-    owned: bool,
+    asks: Asks,
     owners: bool,
+    why: bool,
     source: &mut S,
     sink: &mut K,
 ) -> Result<u8, Fault>
     ensures done { (given : List ℕ) × S.gave source.old source.new given
-        × IsDone (ShowsRun (asks_of freed owned) owners given (S.ended source.new)) (StopsJudging (IsRunAnswerOf (asks_of freed owned) given true))
-        (K.took sink.old sink.new) result }
+        × IsDone (ShowsRun asks owners why given (S.ended source.new)) (StopsJudging (IsRunAnswerOf asks given true)) (K.took sink.old sink.new) result }
     ensures read { IsCounted Fault.Read result (S.faults source.old) (S.faults source.new) }
     ensures written { IsCounted Fault.Write result (K.faults sink.old) (K.faults sink.new) }
 {
-    let asks = asks_of(freed, owned);
-    run_judged(judge_run_to(source, PageStore::new(alloc), alloc, asks, owners, sink))
+    run_judged(judge_asked(alloc, asks, owners, why, source, sink))
+}
+
+// Judges what a source gives as a run log, with the reports that are asked for.
+fn judge_asked<S: Source, K: Sink>(
+    alloc: Global,
+    asks: Asks,
+    owners: bool,
+    why: bool,
+    source: &mut S,
+    sink: &mut K,
+) -> Result<RunVerdict, JudgeToFault>
+    ensures reported { RunReported asks (TellsAsked asks owners why) S.gave S.ended K.took source.old source.new sink.old sink.new result }
+    ensures pulls_counted { CountsOnly (Err Pull) (S.faults source.old) (S.faults source.new) result }
+    ensures pushes_counted { CountsOnly (Err Push) (K.faults sink.old) (K.faults sink.new) result }
+{
+    let memory = PageStore::new(alloc);
+    if why {
+        judge_run_why(source, memory, alloc, asks, owners, sink)
+    } else {
+        judge_run_to(source, memory, alloc, asks, owners, sink)
+    }
 }
 
 // The status that goes with a verdict, or the fault that came instead.

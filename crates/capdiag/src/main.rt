@@ -3,6 +3,7 @@
 #![tactic(auto)]
 
 mod complaints;
+mod fronts;
 mod guesses;
 mod help;
 mod judges;
@@ -14,6 +15,7 @@ mod tests;
 mod words;
 
 pub use crate::complaints::{Complaint, Unopened, Wrong, tell_unopened, tell_waiting, tell_words};
+pub use crate::fronts::{order_on, read_front};
 pub use crate::runs::run;
 pub use crate::words::{Order, read_words};
 use cap_log::WriteSink;
@@ -21,7 +23,7 @@ pub use cap_program::carry_out;
 use cap_program::{Fault, collect_words, exit_status, tell};
 use std::alloc::AllocError;
 use std::fs::File;
-use std::io::{ErrorKind, IsTerminal};
+use std::io::{ErrorKind, IsTerminal, Read, Write};
 use std::process::ExitCode;
 
 fn main(rt: HostRuntime) -> ExitCode {
@@ -60,7 +62,7 @@ fn answer(rt: &HostRuntime) -> Result<u8, AllocError> {
     let (out, errors) = (&mut rt.stdout(), &mut rt.stderr());
     Ok(match file_of(order) {
         Some(path) => match open(rt, path) {
-            Ok(file) => run(rt.alloc(), Some(order), Some(file), out, errors),
+            Ok(file) => follow(rt, order, file, out, errors),
             Err(reason) => {
                 tell_unopened(path, reason, &mut WriteSink::new(errors));
                 Fault::Read.status()
@@ -71,9 +73,35 @@ fn answer(rt: &HostRuntime) -> Result<u8, AllocError> {
             if reads_log(order) && input.is_terminal() {
                 tell_waiting(&mut WriteSink::new(errors));
             }
-            run(rt.alloc(), Some(order), Some(input), out, errors)
+            follow(rt, order, input, out, errors)
         }
     })
+}
+
+// Follows an order on an input, whose first line says what `why` judges.
+fn follow<R: Read + Drop, O: Write, F: Write>(
+    rt: &HostRuntime,
+    order: Order,
+    mut input: R,
+    out: &mut O,
+    errors: &mut F,
+) -> u8 {
+    let Order::Why { .. } = order else {
+        return run(rt.alloc(), Some(order), Some(input), out, errors);
+    };
+    let mut front = [0u8; 6];
+    match read_front(&mut input, &mut front) {
+        Ok(length) => {
+            let order = order_on(order, &front[..length]);
+            let input = front[..length].chain(input);
+            run(rt.alloc(), Some(order), Some(input), out, errors)
+        }
+        Err(_) => {
+            let done = Err(Fault::Read);
+            tell("capdiag", done, &mut WriteSink::new(errors));
+            exit_status(done)
+        }
+    }
 }
 
 // Opens a file that is no directory.

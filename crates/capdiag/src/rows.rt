@@ -102,12 +102,12 @@ pub const ROWS: &str = r#"
 0 --help / why --help / heap --help / run --help
 = usage: capdiag why [--origins] [FILE]
 =        capdiag heap [--report] [--why] [FILE]
-=        capdiag run [--freed held|used|both] [--owned] [--owners] [FILE]
+=        capdiag run [--freed held|used|both] [--owned] [--owners] [--why] [FILE]
 =        capdiag --help | --version
 =
 = Judge a log, from FILE or standard input. See capdiag(1), docs/FORMAT.md.
 =
-=   why   the log of a machine: the verdict, after a no the diagnosis
+=   why   the log of a machine: the verdict and a diagnosis
 =   heap  the log of an allocator: the verdict
 =   run   the run log of a program: the verdict
 =
@@ -165,6 +165,41 @@ pub const ROWS: &str = r#"
 | setbounds c3 c3 0000000000000020 = 1 ffff1ffff80810000000000000001000 / object c3 / end 7
 = yes 7 1 2 / object 1 6 0000000000001000 00000000000001020 freed 1
 = object 2 10 0000000000001000 00000000000001020 live 1 / owner c2 1 / owner c3 2
+
+# why a line of a run log is refused
+1 run --freed used --why log / run --why --freed used
+| run 1 / mode strict / root c1 ffff1ffff80810000000000000001000
+| object c1 / free c1 / load c1 0 8 = 0000000000000000 / end 3
+= no 6 39 OwnerFreed / line load c1 0 8 = 0000000000000000
+= authority c1 1 ffff1ffff80810000000000000001000 / authority perms 00078fff / authority otype 3ffff unsealed
+= authority bounds 0000000000001000 00000000000001020
+= access 0000000000001000 00000000000001008 / needs 00000004
+= object 1 4 0000000000001000 00000000000001020 freed 1 / freed 5
+= holder c1 1 ffff1ffff80810000000000000001000 / holder perms 00078fff / holder otype 3ffff unsealed
+= holder bounds 0000000000001000 00000000000001020
+
+1 run log --why
+| run 1 / mode strict / root c1 ffff1ffff80810000000000000001000 / object c1 / object c1 / end 2
+= no 5 35 HasOwner / line object c1
+= register c1 1 ffff1ffff80810000000000000001000 / register perms 00078fff / register otype 3ffff unsealed
+= register bounds 0000000000001000 00000000000001020
+= register owner 1 / object 1 4 0000000000001000 00000000000001020 live 1
+= holder c1 1 ffff1ffff80810000000000000001000 / holder perms 00078fff / holder otype 3ffff unsealed
+= holder bounds 0000000000001000 00000000000001020
+
+1 run log --why --owned
+| run 1 / mode clear / root scr3 ffff1ffff80810000000000000001000 / derive c2 scr3 = 1 ffff1ffff80810000000000000001000
+| derive scr3 c0 = 0 ffff1ffff80810000000000000001000 / object c2 1 / end 3
+= no 6 40 NoObject / line object c2 1
+= register c2 1 ffff1ffff80810000000000000001000 / register perms 00078fff / register otype 3ffff unsealed
+= register bounds 0000000000001000 00000000000001020
+= objects 0
+
+2 run --whi log
+! capdiag: unknown option '--whi'; did you mean --why? see capdiag --help
+
+2 run --why log --why
+! capdiag: given twice: '--why'; see capdiag --help
 
 # an access through a freed object's capability, and one without owner
 1 run --freed used log

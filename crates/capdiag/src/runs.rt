@@ -5,7 +5,7 @@ ghost use Rattle.cap_program.specs.{Doings.known_bytes, Runs.IsRan};
 ghost use Rattle.capdiag.specs.Answers.{order_meaning};
 
 use crate::help::{show_help, show_version};
-use crate::judges::{explain_source, judge_heap_source, judge_run_source};
+use crate::judges::{asks_of, explain_source, judge_heap_source, judge_run_source};
 use crate::words::Order;
 use cap_log::{Sink, Source};
 use cap_program::{Command, Fault};
@@ -47,9 +47,17 @@ impl Command for Order<'_> {
                 freed,
                 owned,
                 owners,
+                why,
                 ..
             } => match input {
-                Some(source) => judge_run_source(alloc, freed, owned, owners, source, out),
+                Some(source) => judge_run_source(
+                    alloc,
+                    asks_of(freed, owned),
+                    owners,
+                    why,
+                    source,
+                    out,
+                ),
                 None => Err(Fault::Read),
             },
         }

@@ -33,8 +33,8 @@ pub enum Order<'a> {
         /// The file's name, which is not `-`.
         file: Option<&'a str>,
     },
-    /// `run [--freed held|used|both] [--owned] [--owners] [FILE]`: judge the file, or standard input where no file is
-    /// named, as a run log.
+    /// `run [--freed held|used|both] [--owned] [--owners] [--why] [FILE]`: judge the file, or standard input where no file
+    /// is named, as a run log.
     Run {
         /// What is asked of freed objects, where `--freed` says it.
         freed: Option<Freed>,
@@ -42,6 +42,8 @@ pub enum Order<'a> {
         owned: bool,
         /// Whether after a `yes` the objects and the owners are asked for.
         owners: bool,
+        /// Whether after a `no` the report is asked for.
+        why: bool,
         /// The file's name, which is not `-`.
         file: Option<&'a str>,
     },
@@ -106,6 +108,7 @@ fn with_option<'a>(order: Order<'a>, word: &str) -> Result<Order<'a>, Complaint>
             freed,
             owned,
             owners,
+            why,
             file,
         } => match word {
             "--owned" => once(
@@ -114,6 +117,7 @@ fn with_option<'a>(order: Order<'a>, word: &str) -> Result<Order<'a>, Complaint>
                     freed,
                     owned: true,
                     owners,
+                    why,
                     file,
                 },
             ),
@@ -123,6 +127,17 @@ fn with_option<'a>(order: Order<'a>, word: &str) -> Result<Order<'a>, Complaint>
                     freed,
                     owned,
                     owners: true,
+                    why,
+                    file,
+                },
+            ),
+            "--why" => once(
+                why,
+                Order::Run {
+                    freed,
+                    owned,
+                    owners,
+                    why: true,
                     file,
                 },
             ),
@@ -159,6 +174,7 @@ fn with_value<'a>(order: Order<'a>, word: &str) -> Result<Order<'a>, Complaint>
     let Order::Run {
         owned,
         owners,
+        why,
         file,
         ..
     } = order
@@ -175,6 +191,7 @@ fn with_value<'a>(order: Order<'a>, word: &str) -> Result<Order<'a>, Complaint>
         freed: Some(freed),
         owned,
         owners,
+        why,
         file,
     })
 }
@@ -376,6 +393,7 @@ fn read_all<'a>(words: &[&'a str]) -> Result<Asked<'a>, Wrong<'a>>
                 freed: None,
                 owned: false,
                 owners: false,
+                why: false,
                 file: None,
             },
             words,
@@ -409,11 +427,13 @@ fn order_of<'a>(asked: Asked<'a>) -> Order<'a>
             freed,
             owned,
             owners,
+            why,
             ..
         } => Order::Run {
             freed,
             owned,
             owners,
+            why,
             file,
         },
         order => order,

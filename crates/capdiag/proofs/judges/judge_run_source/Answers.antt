@@ -1,20 +1,14 @@
-use Rattle.std.specs.FinMap.{len, len-empty}
-use Rattle.std.proofs.Common.{ap, ◌∙◌, nat_cmp}
-use Rattle.tagmem.specs.Granules.{Entry}
 use Rattle.cap_program.proofs.Judgements.{judged_read, judged_written}
 use Rattle.cap_run_judge.specs.VerdictLines.{run_verdict_status}
 use Rattle.capdiag.proofs.RunLogLemmas.{run_done}
 use Rattle.capdiag.proofs.judges.judge_run_source.Goals as goal
 
-pub judge_run_to-requires : goal.judge_run_to-requires
-judge_run_to-requires g c = ap len c.new.ensures.empty ∙ len-empty nat_cmp Entry
-
 pub returns : goal.returns
 returns g c =
-    let e = c.judge_run_to.ensures in
-    let answer = c.judge_run_to.result in
-    rw (c.run_judged.ensures.value, ← c.asks_of-asks.ensures.value) (record {
-      done = (e.reported.given, e.reported.gives, run_done c.asks_of-asks.result c.args.owners e.reported.given _ _ answer e.reported.report);
+    let e = c.judge_asked.ensures in
+    let answer = c.judge_asked.result in
+    rw c.run_judged.ensures.value (record {
+      done = (e.reported.given, e.reported.gives, run_done c.args.asks c.args.owners c.args.why e.reported.given _ _ answer e.reported.report);
       read = judged_read run_verdict_status _ _ answer e.pulls_counted.0 e.pulls_counted.1;
       written = judged_written run_verdict_status _ _ answer e.pushes_counted.0 e.pushes_counted.1;
     })

@@ -1,11 +1,11 @@
 use Rattle.cap_streams.specs.Written.{◌⨾◌}
-use Rattle.cap_texts.specs.CapLines.{cap_lines}
-use Rattle.cap_texts.proofs.cap_lines.put_cap_lines.Goals as goal
+use Rattle.cap_texts.specs.CapLines.{meaning_lines}
+use Rattle.cap_texts.proofs.cap_lines.put_meaning_lines.Goals as goal
 
 pub returns-clause-written : goal.returns-clause-written
-unfolding cap_lines
+unfolding meaning_lines
 returns-clause-written c =
     let perms = rw c.perm_view.ensures.value at c.put_perms_line-at.ensures.written in
     let type = rw c.split.ensures.otype at c.put_type_line-at.ensures.written in
     let bounds = rw (c.bounds-base.ensures.base, c.bounds-base.ensures.top) at c.put_bounds_line.ensures.written in
-    c.put_cap_line-at.ensures.written ⨾ perms ⨾ type ⨾ bounds
+    perms ⨾ type ⨾ bounds

@@ -1,0 +1,3 @@
+mod ObjectLemmas
+mod StepLemmas
+mod WhyLemmas

@@ -1,0 +1,54 @@
+-- What is told of a line for its refusal.
+use Rattle.std.proofs.Common.{◌≡◌, ℕ, List, [], ◌++◌, Option, refl, subst}
+use Rattle.cap_ops.specs.declared.refusal.Refusal.{Refusal, TheVariants.{BadHeader, BadLine, BadMode, LimitPassed, LineTooLong, Misplaced}}
+use Rattle.cap_ops.specs.declared.refusal.Refusal.TheVariants.{Truncated, WrongCount}
+use Rattle.cap_log.specs.declared.kinds.Step.{Step}
+use Rattle.cap_machine.specs.{Accounts.Account, Shown.shown_of}
+use Rattle.cap_report.specs.{Parts.lines_of_parts, StepLines.asked_parts}
+use Rattle.cap_run.specs.declared.ends.RunRefusal.{RunRefusal}
+use Rattle.cap_run.specs.declared.ends.RunRefusal.TheVariants.{AlreadyFreed, HasOwner, NoObject, Overlaps, StillHeld, Usual}
+use Rattle.cap_run.specs.{Run.Run, RunChanges.account_in}
+use Rattle.cap_run_report.specs.{LineReports.{AreLineDetails, AreRunDetails, AreUsualDetails}, StepParts.{AreAccessLines, AreLifeLines, AreUsualLines}}
+
+-- a step of version 2 that is refused for its owner
+pub usual_other : (run : Run) (step : Step) (refusal : RunRefusal) (access : List ℕ) → ((usual : Refusal) → refusal ≡ Usual usual → ⊥)
+    → (let account = account_in run in let shown = shown_of account.state step in AreAccessLines run shown.access refusal access
+    → AreUsualLines run step refusal (lines_of_parts (asked_parts account shown) ++ access))
+usual_other run step (Usual usual) access other are = absurd (other usual refl)
+usual_other run step refusal access other are = (access, are, refl)
+
+pub usual_told : (run : Run) (step : Step) (refusal : RunRefusal) (access : List ℕ) (account : Account) → account_in run ≡ account
+    → ((usual : Refusal) → refusal ≡ Usual usual → ⊥) → (let shown = shown_of account.state step in AreAccessLines run shown.access refusal access
+    → AreUsualLines run step refusal (lines_of_parts (asked_parts account shown) ++ access))
+usual_told run step refusal access account is other =
+    subst (λ (a : Account). let shown = shown_of a.state step in AreAccessLines run shown.access refusal access
+    → AreUsualLines run step refusal (lines_of_parts (asked_parts a shown) ++ access)) is (usual_other run step refusal access other)
+
+-- what a register holds is handed out or freed in vain for another reason
+pub life_other : (run : Run) (register : ℕ) (number : Option ℕ) (refusal : RunRefusal) → (refusal ≡ HasOwner → ⊥) → (refusal ≡ AlreadyFreed → ⊥)
+    → (refusal ≡ NoObject → ⊥) → (refusal ≡ Overlaps → ⊥) → (refusal ≡ StillHeld → ⊥) → AreLifeLines run register number refusal []
+life_other run register number HasOwner n0 n1 n2 n3 n4 = absurd (n0 refl)
+life_other run register number AlreadyFreed n0 n1 n2 n3 n4 = absurd (n1 refl)
+life_other run register number NoObject n0 n1 n2 n3 n4 = absurd (n2 refl)
+life_other run register number Overlaps n0 n1 n2 n3 n4 = absurd (n3 refl)
+life_other run register number StillHeld n0 n1 n2 n3 n4 = absurd (n4 refl)
+life_other run register number refusal n0 n1 n2 n3 n4 = refl
+
+-- a line that is refused for what its checks saw
+pub details_other : (run : Run) (text : List ℕ) (refusal : Refusal) (told : List ℕ) → (refusal ≡ BadHeader → ⊥) → (refusal ≡ LineTooLong → ⊥)
+    → (refusal ≡ BadLine → ⊥) → (refusal ≡ BadMode → ⊥) → (refusal ≡ Misplaced → ⊥) → (refusal ≡ Truncated → ⊥) → (refusal ≡ WrongCount → ⊥)
+    → (refusal ≡ LimitPassed → ⊥) → AreLineDetails run text (Usual refusal) told → AreUsualDetails run text refusal told
+details_other run text BadHeader told n0 n1 n2 n3 n4 n5 n6 n7 is = absurd (n0 refl)
+details_other run text LineTooLong told n0 n1 n2 n3 n4 n5 n6 n7 is = absurd (n1 refl)
+details_other run text BadLine told n0 n1 n2 n3 n4 n5 n6 n7 is = absurd (n2 refl)
+details_other run text BadMode told n0 n1 n2 n3 n4 n5 n6 n7 is = absurd (n3 refl)
+details_other run text Misplaced told n0 n1 n2 n3 n4 n5 n6 n7 is = absurd (n4 refl)
+details_other run text Truncated told n0 n1 n2 n3 n4 n5 n6 n7 is = absurd (n5 refl)
+details_other run text WrongCount told n0 n1 n2 n3 n4 n5 n6 n7 is = absurd (n6 refl)
+details_other run text LimitPassed told n0 n1 n2 n3 n4 n5 n6 n7 is = absurd (n7 refl)
+details_other run text refusal told n0 n1 n2 n3 n4 n5 n6 n7 is = is
+
+pub run_details : (run : Run) (text : List ℕ) (refusal : RunRefusal) (told : List ℕ) → ((usual : Refusal) → refusal ≡ Usual usual → ⊥)
+    → AreLineDetails run text refusal told → AreRunDetails run text refusal told
+run_details run text (Usual usual) told other is = absurd (other usual refl)
+run_details run text refusal told other is = is

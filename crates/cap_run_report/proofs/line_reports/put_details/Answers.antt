@@ -1,0 +1,11 @@
+use Rattle.cap_run_judge.specs.Readings.{run_in}
+use Rattle.cap_run_report.proofs.StepLemmas.{run_details}
+use Rattle.cap_run_report.proofs.line_reports.put_details.Goals as goal
+
+pub returns-in_default-clause-written : goal.returns-in_default-clause-written
+returns-in_default-clause-written g c =
+    let told = c.put_line_details.ensures.written in (
+      told.0,
+      run_details (run_in c.args.machine.now) c.args.text.now c.args.refusal told.0 c.in_default.not-Usual told.1,
+      told.2,
+    )

@@ -1,0 +1,15 @@
+use Rattle.std.proofs.Common.{◌-◌, ◌≤◌, ◌^◌}
+use Rattle.cap_run_judge.specs.Readings.{run_in}
+use Rattle.cap_run_log.specs.declared.lines.RunPlace.TheVariants.{Granule}
+use Rattle.cap_run_report.specs.ObjectParts.{OwnsNone}
+use Rattle.cap_run_report.proofs.object_parts.granule_holder.Given as goal
+
+-- no granule below this one is the object's
+abbrev pub invariant-loop-granule : goal.invariant-loop-granule
+invariant-loop-granule g l = record {
+  none : OwnsNone (run_in l.fn.machine) l.fn.number Granule 0 l.from;
+  inside : l.from ≤ 2 ^ 60;
+}
+
+abbrev pub decreases-loop-granule : goal.decreases-loop-granule
+decreases-loop-granule g l = 2 ^ 60 - l.from

@@ -1,0 +1,20 @@
+-- What a judge of run logs that explains a no writes (this profile's own).
+use Rattle.std.specs.Prelude.{◌≡◌, ℕ, Bool, List, ◌++◌}
+use Rattle.cap_run.specs.{declared.asks.Asks.Asks, Run.Run}
+use Rattle.cap_run_judge.specs.declared.verdict.RunVerdict.{RunVerdict, TheVariants.{Yes, No}}
+use Rattle.cap_run_judge.specs.{Judgings.StopsBefore, OwnerLists.run_report_text, Reports.TellsRun, VerdictLines.run_verdict_line}
+use Rattle.cap_run_report.specs.LineReports.{IsRunLineReport}
+
+-- the text that belongs to a verdict on bytes: after a yes that of a judge that may be asked for owners, and after a no the
+-- verdict's line and the report of the first fault, by the run before it
+abbrev pub ExplainsRun : Asks → Bool → List ℕ → Bool → RunVerdict → List ℕ → Type 0
+ExplainsRun asks owners bytes ended (Yes steps roots objects) text = TellsRun asks owners bytes ended (Yes steps roots objects) text
+ExplainsRun asks owners bytes ended (No line refusal) text =
+    (run : Run) × (fault : List ℕ) × StopsBefore asks bytes ended run line fault
+    × (report : List ℕ) × IsRunLineReport run fault refusal report × (text ≡ run_verdict_line (No line refusal) ++ report)
+
+-- the text of a verdict by the run of a machine and the line that was refused
+abbrev pub IsRunWhyText : Bool → Run → List ℕ → RunVerdict → List ℕ → Type 0
+IsRunWhyText owners run fault (Yes steps roots objects) text = text ≡ run_report_text owners run (Yes steps roots objects)
+IsRunWhyText owners run fault (No line refusal) text =
+    (report : List ℕ) × IsRunLineReport run fault refusal report × (text ≡ run_verdict_line (No line refusal) ++ report)

@@ -1,0 +1,38 @@
+-- The lines that show what a place of a run holds (this profile's own).
+use Rattle.std.specs.Prelude.{ℕ, ◌^◌, ◌≤◌, ◌<◌, List, [], ◌++◌, Option, Some, None, codes, decimal}
+use Rattle.cap_word.specs.{declared.word.Cap.Cap, Digits.hex_digits}
+use Rattle.cap_log.specs.Lines.{tag_spelling}
+use Rattle.cap_texts.specs.CapLines.{meaning_lines}
+use Rattle.cap_run_log.specs.declared.lines.{RunPlace.{RunPlace, TheVariants.{General, Special, Granule}}, RunRegister.RunRegister}
+use Rattle.cap_run_log.specs.declared.lines.RunRegister.TheVariants as registers
+use Rattle.cap_run_log.specs.RunLines.{run_place_spelling}
+use Rattle.cap_run.specs.{Run.{Run, register_key}, RunChanges.place_key}
+
+-- a place that can be read: c0 too
+abbrev pub IsReadable : RunPlace → Type 0
+IsReadable (General number) = number ≤ 31
+IsReadable (Special number) = number ≤ 31
+IsReadable (Granule number) = number < 2 ^ 60
+
+-- a register as a place
+abbrev pub place_of : RunRegister → RunPlace
+place_of (registers.General number) = General number
+place_of (registers.Special number) = Special number
+
+-- a capability after a name and its place: its tag, its word, and what the word stands for
+unfoldable pub held_lines : List ℕ → RunPlace → Cap → List ℕ
+held_lines name place cap =
+    name ++ codes " " ++ run_place_spelling place ++ codes " " ++ tag_spelling cap.tag ++ codes " " ++ hex_digits 32 cap.word.0 ++ codes "\n"
+    ++ meaning_lines name cap.word.0
+
+-- what a register of a run holds
+abbrev pub register_lines : List ℕ → Run → RunRegister → List ℕ
+register_lines name run register = held_lines name (place_of register) (run.state (register_key register))
+
+-- the number of the object that owns a place, if there is one
+unfoldable pub owner_number_line : ℕ → List ℕ
+owner_number_line number = codes "register owner " ++ decimal number ++ codes "\n"
+
+abbrev pub owned_lines : Option ℕ → List ℕ
+owned_lines None = []
+owned_lines (Some number) = owner_number_line number

@@ -1,0 +1,6 @@
+pub mod Answers
+pub mod BadRunLines
+pub mod CapParts
+pub mod LineReports
+pub mod ObjectParts
+pub mod StepParts

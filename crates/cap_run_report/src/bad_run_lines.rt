@@ -1,0 +1,101 @@
+//! What is told of bytes that are no line of a run log.
+
+ghost use Rattle.std.specs.Prelude.{◌≡◌, ◌+◌, ◌≤◌, ◌∷◌, [], ◌++◌, ℕ, List, length};
+ghost use Rattle.cap_streams.specs.Written.{Writes};
+ghost use Rattle.cap_log.specs.Parts.{BeginsWithNone};
+ghost use Rattle.cap_run_log.specs.RunHeads.{IsRunHead, run_head_spelling};
+ghost use Rattle.cap_run_report.specs.BadRunLines.{AreBadRunLines, AreFirstRunLines, AreOtherLines, form_of, other_log};
+
+use cap_log::buffers::put;
+use cap_log::{Head, Part};
+use cap_report::bad_lines::put_bad_line;
+use cap_run_log::RunHead;
+use cap_texts::text_lines::put_line;
+use cap_texts::wrong_lines::{put_header_lines, put_hint_line};
+
+// Writes what the first line has to be, and which program judges this log.
+fn put_other_log(buffer: &mut [u8], at: usize, hint: &[u8]) -> usize
+    requires hint { length hint.now ≤ 64 }
+    requires room { at + 128 ≤ length buffer.old }
+    ensures written { Writes at (other_log hint.now) buffer.old buffer.new result }
+    ensures fits { result ≤ at + 128 }
+{
+    let at = put_line(buffer, at, b"expected", b"run 1");
+    put_hint_line(buffer, at, hint)
+}
+
+/// Writes what the first line of a run log has to be.
+pub fn put_bad_run_header(buffer: &mut [u8], at: usize, text: &[u8]) -> usize
+    requires room { at + 256 ≤ length buffer.old }
+    ensures written { (told : List ℕ) × AreFirstRunLines text.now told × Writes at told buffer.old buffer.new result }
+    ensures fits { result ≤ at + 256 }
+{
+    if text == b"capcheck 1".as_slice() || text == b"capcheck 2".as_slice() {
+        put_other_log(
+            buffer,
+            at,
+            b"a log of version 1 or 2: capcheck judge judges it",
+        )
+    } else if text == b"heap 1".as_slice() {
+        put_other_log(
+            buffer,
+            at,
+            b"the log of an allocator: capdiag heap judges it",
+        )
+    } else {
+        put_header_lines(buffer, at, text, b"run 1")
+    }
+}
+
+/// Writes what is told of a line that has no form.
+pub fn put_bad_run_line(buffer: &mut [u8], at: usize, text: &[u8]) -> usize
+    requires few { length text.now ≤ 96 }
+    requires room { at + 768 ≤ length buffer.old }
+    ensures written { (told : List ℕ) × AreBadRunLines text.now told × Writes at told buffer.old buffer.new result }
+    ensures fits { result ≤ at + 768 }
+{
+    let mut line = [0u8; 97];
+    let length = put(&mut line, 0, text);
+    let end = put(&mut line, length, b"\n");
+    match RunHead::take(&line[..end], b' ') {
+        Some((head, _)) => put_line(buffer, at, b"expected", form_of(head)),
+        None => put_other_line(buffer, at, text, &line[..end]),
+    }
+}
+
+// Writes what is told of a line whose first word isn't one of run logs alone.
+fn put_other_line(buffer: &mut [u8], at: usize, text: &[u8], line: &[u8]) -> usize
+    requires few { length text.now ≤ 96 }
+    requires line { line.now ≡ text.now ++ 10 ∷ [] }
+    requires room { at + 768 ≤ length buffer.old }
+    ensures written { (told : List ℕ) × AreOtherLines text.now told × Writes at told buffer.old buffer.new result }
+    ensures fits { result ≤ at + 768 }
+{
+    match Head::take(line, b' ') {
+        Some(_) => put_bad_line(buffer, at, text),
+        None => put_line(
+            buffer,
+            at,
+            b"expected",
+            b"derive, exchange, invoke, drop, fill, object, free, a step of version 2 or end",
+        ),
+    }
+}
+
+// The form of a line by its first word.
+fn form_of(head: RunHead) -> &'static [u8]
+    ensures form { result.now ≡ form_of head }
+    ensures short { length result.now ≤ 64 }
+{
+    match head {
+        RunHead::Version => b"run 1",
+        RunHead::Root => b"root PLACE WORD, PLACE cN, scrN or @ADDRESS",
+        RunHead::Derive => b"derive D S = T WORD, D and S cN or scrN",
+        RunHead::Exchange => b"exchange cD cS scrN = T WORD T WORD",
+        RunHead::Invoke => b"invoke cS cT = WORD WORD",
+        RunHead::Drop => b"drop PLACE, PLACE cN, scrN or @ADDRESS",
+        RunHead::Fill => b"fill @ADDRESS WORD",
+        RunHead::Object => b"object cN, or object cN K",
+        RunHead::Free => b"free cN, or free K",
+    }
+}

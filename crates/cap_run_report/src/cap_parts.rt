@@ -1,0 +1,107 @@
+//! The lines that show what a place of a run holds.
+
+ghost use Rattle.std.specs.Prelude.{◌≡◌, ◌+◌, ◌≤◌, length};
+ghost use Rattle.cap_streams.specs.Written.{Writes};
+ghost use Rattle.cap_run.specs.Run.{IsSource};
+ghost use Rattle.cap_run_judge.specs.Readings.{run_in};
+ghost use Rattle.cap_run_log.specs.RunLines.{run_place_spelling};
+ghost use Rattle.cap_run_report.specs.CapParts.{IsReadable, held_lines, owned_lines, owner_number_line, place_of, register_lines};
+
+use cap_log::Place;
+use cap_log::buffers::{put, put_decimal, put_flag, put_hex, put_place};
+use cap_run::RunMachine;
+use cap_run_log::{RunPlace, RunRegister};
+use cap_texts::cap_lines::put_meaning_lines;
+use cap_word::Cap;
+use tagmem::TaggedStore;
+
+/// A register as a place.
+pub fn place_of(register: RunRegister) -> RunPlace
+    requires { IsSource register }
+    ensures value { result ≡ place_of register }
+    ensures readable { IsReadable result }
+{
+    match register {
+        RunRegister::General(number) => RunPlace::General(number),
+        RunRegister::Special(number) => RunPlace::Special(number),
+    }
+}
+
+/// Writes the lines of a capability that has this name in a report, at its place, and returns the index after them.
+pub fn put_held(buffer: &mut [u8], at: usize, name: &[u8], place: RunPlace, cap: Cap) -> usize
+    requires name { length name.now ≤ 9 }
+    requires place { IsReadable place }
+    requires room { at + 192 ≤ length buffer.old }
+    ensures written { Writes at (held_lines name.now place cap) buffer.old buffer.new result }
+    ensures fits { result ≤ at + 192 }
+{
+    let at = put(buffer, at, name);
+    let at = put(buffer, at, b" ");
+    let at = put_run_place(buffer, at, place);
+    let at = put(buffer, at, b" ");
+    let at = put_flag(buffer, at, cap.tag);
+    let at = put(buffer, at, b" ");
+    let at = put_hex(buffer, at, 32, cap.word.0);
+    let at = put(buffer, at, b"\n");
+    put_meaning_lines(buffer, at, name, cap.word)
+}
+
+// Writes a place as a run log spells it.
+#[tactic(auto, using(cap_log::proofs::ElementLemmas::few_digits))]
+fn put_run_place(buffer: &mut [u8], at: usize, place: RunPlace) -> usize
+    requires place { IsReadable place }
+    requires room { at + 17 ≤ length buffer.old }
+    ensures text { Writes at (run_place_spelling place) buffer.old buffer.new result }
+    ensures fits { result ≤ at + 17 }
+{
+    match place {
+        RunPlace::General(number) => put_place(buffer, at, Place::Register(number)),
+        RunPlace::Granule(granule) => put_place(buffer, at, Place::Granule(granule)),
+        RunPlace::Special(number) => {
+            let at = put(buffer, at, b"scr");
+            put_decimal(buffer, at, u64::from(number))
+        }
+    }
+}
+
+/// Writes the lines of what a register holds.
+pub fn put_register<M: TaggedStore>(
+    machine: &RunMachine<M>,
+    buffer: &mut [u8],
+    at: usize,
+    name: &[u8],
+    register: RunRegister,
+) -> usize
+    requires name { length name.now ≤ 9 }
+    requires register { IsSource register }
+    requires room { at + 192 ≤ length buffer.old }
+    ensures written { Writes at (register_lines name.now (run_in machine.now) register) buffer.old buffer.new result }
+    ensures fits { result ≤ at + 192 }
+{
+    let cap = machine.register(register);
+    put_held(buffer, at, name, place_of(register), cap)
+}
+
+// Writes the number of the object that owns a register.
+#[tactic(auto, using(cap_log::proofs::ElementLemmas::short_decimal), unfolding(crate::specs::CapParts::owner_number_line))]
+fn put_owner_number(buffer: &mut [u8], at: usize, number: u32) -> usize
+    requires { at + 64 ≤ length buffer.old }
+    ensures written { Writes at (owner_number_line number) buffer.old buffer.new result }
+    ensures fits { result ≤ at + 64 }
+{
+    let at = put(buffer, at, b"register owner ");
+    let at = put_decimal(buffer, at, u64::from(number));
+    put(buffer, at, b"\n")
+}
+
+/// Writes the number of a register's owner, if it has one.
+pub fn put_owned(buffer: &mut [u8], at: usize, owner: Option<u32>) -> usize
+    requires { at + 64 ≤ length buffer.old }
+    ensures written { Writes at (owned_lines owner) buffer.old buffer.new result }
+    ensures fits { result ≤ at + 64 }
+{
+    match owner {
+        Some(number) => put_owner_number(buffer, at, number),
+        None => at,
+    }
+}
