@@ -87,6 +87,12 @@ ended_answer stage rest text (Ok (No line refusal)) answer is ends = absurd ends
 ended_answer stage rest text (Err fault) answer is ends =
     (No fault.line fault.refusal, is.0, subst (EndsIn stage rest (No fault.line fault.refusal)) (sym is.1) ends)
 
+-- which is no want of memory
+pub answered_some : (end : Result Verdict RefusedLine) (answer : Result Verdict JudgeFault) (text : List ℕ) → IsAnswered end answer text
+    → answer ≡ Err NoMemory → ⊥
+answered_some (Ok verdict) answer text is none = cc
+answered_some (Err fault) answer text is none = cc (is.0)
+
 module _ {S : Type 0} (gave : S → S → List ℕ → Type 0) (ended : S → Bool) (old new : S) (held : Held) (text given : List ℕ) where
   -- the answer of a verdict
   pub verdict_judged : (answer : Result Verdict JudgeFault) (verdict : Verdict) → answer ≡ Ok verdict

@@ -15,7 +15,7 @@ use Rattle.cap_machine.proofs.AccountLemmas.{account_after-grows}
 use Rattle.cap_judge.specs.declared.verdict.Verdict.{Verdict, TheVariants.{Yes, No}}
 use Rattle.cap_judge.specs.Judgings.{IsBehind, IsLastFront, IsVerdictOf, account_before}
 use Rattle.cap_judge.specs.Logs.{Beginning, Empty, NoMode, Body as BodyOf, Whole, body_lines, header_lines, lines_of}
-use Rattle.cap_judge.specs.Logs.{text_of, account_after, IsAccepted, IsFirstFault, MayLackMemory, Refuses, RefusesLine}
+use Rattle.cap_judge.specs.Logs.{text_of, account_after, IsAccepted, IsFirstFault, LacksRoom, MayLackMemory, Refuses, RefusesLine}
 use Rattle.cap_judge.specs.{Logs.{RefusesWhole, RunsBy, has_form, line_checks}, Readings.{BeginsWhole, EndsIn}}
 use Rattle.cap_judge.specs.Readings.{EndsWith, Faults, Follows, Goes, IsAtFault, IsReached, IsRest, Lacks, RefusesNext}
 use Rattle.cap_judge.specs.Readings.{Stands, due_at_end, lines_read, long_refusal, refused_at, verdict_so_far}
@@ -318,6 +318,23 @@ lacks_memory bytes rest more stage follows lacks =
     let b = begun bytes stage goes in
     subst (λ (t : List ℕ). MayLackMemory (t ++ rest) more) (ap text_of b.2 ∙ sym goes.bytes_are)
     (lacks_line b.0 rest more b.1 (subst (λ (s : Stage). Lacks s rest more) (sym b.3) lacks))
+
+-- where at least so many granules were named
+lacks_room_line : (room : ℕ) (beginning : Beginning) (rest more : List ℕ) → IsAccepted beginning
+    → Lacks (stage_after beginning) rest more → room ≤ (stage_after beginning).account.granules
+    → LacksRoom room (text_of (lines_of beginning) ++ rest)
+unfolding lacks_line
+lacks_room_line room (BodyOf rules_are roots steps) rest more runs lacks many =
+    (more, lacks_line (BodyOf rules_are roots steps) rest more runs lacks, many)
+lacks_room_line room beginning rest more accepted lacks many = let no : ⊥ = cc (lacks.names.0) in absurd no
+
+pub lacks_room : (room : ℕ) (bytes rest more : List ℕ) (stage : Stage) → Goes unread bytes stage → Lacks stage rest more
+    → room ≤ stage.account.granules → LacksRoom room (bytes ++ rest)
+lacks_room room bytes rest more stage goes lacks many =
+    let b = begun bytes stage goes in
+    subst (λ (t : List ℕ). LacksRoom room (t ++ rest)) (ap text_of b.2 ∙ sym goes.bytes_are)
+    (lacks_room_line room b.0 rest more b.1 (subst (λ (s : Stage). Lacks s rest more) (sym b.3) lacks)
+    (subst (λ (s : Stage). room ≤ s.account.granules) (sym b.3) many))
 
 -- Where the bytes end
 

@@ -22,7 +22,7 @@ use Rattle.cap_judge.specs.declared.{faults.RefusedLine.RefusedLine, judges.Stop
 use Rattle.cap_judge.specs.declared.verdict.{TakeFault.TheVariants.{NoLine, NoMemory}, Verdict.Verdict}
 use Rattle.cap_judge.specs.{declared.verdict.Verdict.TheVariants.{Yes, No}, Judgings.IsLastFront}
 use Rattle.cap_judge.specs.{Logs.{has_form, line_checks, text_of}, Readings.{AnswersLine, EndsAs, EndsText, EndsAt, EndsFor}}
-use Rattle.cap_judge.specs.Readings.{EndsIn, Follows, Goes, GoesOrStops, IsAtFault, IsNoLine, Known, Lacks, RefusesNext}
+use Rattle.cap_judge.specs.Readings.{EndsIn, Follows, Goes, GoesOrStops, IsAtFault, IsFullAt, IsNoLine, Known, Lacks, RefusesNext}
 use Rattle.cap_judge.specs.Readings.{MakesSteps, StopsAt, Takes, TakesAll, TakesStep, at, due_of, due_at_end, lines_read, refused_at, Faults}
 use Rattle.cap_judge.specs.Turns.{Body, Ended, Reads, Stage, behind, refusal_at, Due, Refused}
 use Rattle.cap_judge.specs.declared.judges.NextLine as code
@@ -74,7 +74,7 @@ goes_line first old new bytes front rest behind line is so_far begins takes =
 
 pub makes_none : (held : Held) → MakesSteps held [] held
 unfolding goes_none
-makes_none held = record { goes = goes_none (at stages.Body held); steps = []; lines_are = refl }
+makes_none held = record { goes = goes_none (at stages.Body held); steps = []; lines_are = refl; same_room = refl }
 
 pub makes_more : (first old new : Held) (bytes front rest more behind : List ℕ) → bytes ≡ front ++ rest → MakesSteps first front old
     → rest ≡ more ++ behind → MakesSteps old more new → (fronts : List ℕ) × (bytes ≡ fronts ++ behind) × MakesSteps first fronts new
@@ -88,6 +88,7 @@ makes_more first old new bytes front rest more behind is so_far is_more next =
         steps = so_far.steps ++ next.steps;
         lines_are = ap (λ (ls : List Line). ls ++ next.goes.lines) so_far.lines_are
             ∙ ap (λ (ls : List Line). map Line.Step so_far.steps ++ ls) next.lines_are ∙ sym (map-append Line.Step so_far.steps next.steps);
+        same_room = next.same_room ∙ so_far.same_room;
       },
     )
 
@@ -98,7 +99,7 @@ makes_one first old new bytes front rest behind is so_far taken =
     let line = Line.Step taken.0 in
     let one = one_goes (at stages.Body old) (at stages.Body new) line taken.1.0 taken.2 in
     makes_more first old new bytes front rest (spelling line ++ 10 ∷ []) behind is so_far
-    (taken.1.1 ∙ sym (append_assoc (spelling line) (10 ∷ []) behind)) (record { goes = one; steps = taken.0 ∷ []; lines_are = refl })
+    (taken.1.1 ∙ sym (append_assoc (spelling line) (10 ∷ []) behind)) (record { goes = one; steps = taken.0 ∷ []; lines_are = refl; same_room = taken.3 })
 
 -- what ends with a line feed is not empty
 feed_some : (front text : List ℕ) → front ++ (text ++ 10 ∷ []) ≢ []
@@ -176,14 +177,14 @@ pub makes_takes : (old new : Held) (step : Step) → Makes old step new → Take
 makes_takes old new step makes = (by_checks (account_of old) (Line.Step step) refl ∙ makes.checks, ap body makes.account)
 
 pub step_ends : (old new : Held) (step : Step) (end : StepEnd) → EndsStep old step end new
-    → EndsFor (at stages.Body old) (Line.Step step) end × (new ≡ old)
-step_ends old new step (StepEnd.Refused refusal) ended = (by_checks (account_of old) (Line.Step step) refl ∙ ended.0, ended.1)
+    → EndsFor (at stages.Body old) (Line.Step step) end × (new ≡ old) × IsFullAt end old
+step_ends old new step (StepEnd.Refused refusal) ended = (by_checks (account_of old) (Line.Step step) refl ∙ ended.0, ended.1, tt)
 step_ends old new step StepEnd.NoMemory ended =
-    ((refl, by_checks (account_of old) (Line.Step step) refl ∙ ended.0, ended.1), ended.2)
+    ((refl, by_checks (account_of old) (Line.Step step) refl ∙ ended.0, ended.1), ended.2, ended.3)
 
 pub step_answered : (old new : Held) (bytes : List ℕ) (step : Step) (result : Result (Unit {0}) StepEnd)
     → Begins IsInRange spelling 10 bytes (Line.Step step) [] → AnswersStep old step result new → TakesAll old bytes (Some result) new
-step_answered old new bytes step (Ok done) begins makes = (step, begins, makes_takes old new step makes)
+step_answered old new bytes step (Ok done) begins makes = (step, begins, makes_takes old new step makes, makes.same_room)
 step_answered old new bytes step (Err end) begins ends =
     let stop = step_ends old new step end ends in ((step, begins, stop.0), stop.1)
 
@@ -194,9 +195,9 @@ knowing stage held = record { held = held; stage = stage }
 pub step_outcome : (stage : code.NextLine) (old new : Held) (line : Line) (step : Step) (result : Result (Unit {0}) StepEnd)
     → stage ≡ stages.Body → line ≡ Line.Step step → AnswersStep old step result new
     → AnswersLine (knowing stage old) line result (knowing stage new)
-step_outcome stage old new line step (Ok done) is same makes = rw (is, same) (makes_takes old new step makes)
+step_outcome stage old new line step (Ok done) is same makes = rw (is, same) (makes_takes old new step makes, makes.same_room)
 step_outcome stage old new line step (Err end) is same ended =
-    let stop = step_ends old new step end ended in rw (is, same) (stop.0, ap (knowing stages.Body) stop.1)
+    let stop = step_ends old new step end ended in rw (is, same) (stop.0, ap (knowing stages.Body) stop.1, stop.2)
 
 -- a root before all steps
 root_checked : (held : Held) (place : Place) (word : Word) → held.steps ≡ 0
@@ -210,11 +211,11 @@ pub root_outcome : (stage : code.NextLine) (old new : Held) (place : Place) (wor
     → MatchResult result (λ _. TakesRoot old place word new) (λ end. EndsRoot old place word end new)
     → AnswersLine (knowing stage old) (Line.Root place word) result (knowing stage new)
 root_outcome stage old new place word (Ok done) is none takes =
-    rw is (root_checked old place word none ∙ takes.checks, ap body takes.account)
+    rw is ((root_checked old place word none ∙ takes.checks, ap body takes.account), takes.same_room)
 root_outcome stage old new place word (Err (StepEnd.Refused refusal)) is none ended =
-    rw is (root_checked old place word none ∙ ended.0, ap (knowing stages.Body) ended.1)
+    rw is (root_checked old place word none ∙ ended.0, ap (knowing stages.Body) ended.1, tt)
 root_outcome stage old new place word (Err StepEnd.NoMemory) is none ended =
-    rw is ((refl, root_checked old place word none ∙ ended.0, ended.1), ap (knowing stages.Body) ended.2)
+    rw is ((refl, root_checked old place word none ∙ ended.0, ended.1), ap (knowing stages.Body) ended.2, ended.3)
 
 -- Fronts
 
@@ -246,9 +247,10 @@ ends_at stage bytes rest line StepEnd.NoMemory is names = (rest, record { line =
 
 -- a step at the front of some bytes that is not made
 pub takes_ended : (old new : Held) (bytes rest : List ℕ) (step : Step) (end : StepEnd)
-    → Begins IsInRange spelling 10 bytes (Line.Step step) rest → EndsStep old step end new → EndsAt (at stages.Body old) bytes end × (new ≡ old)
+    → Begins IsInRange spelling 10 bytes (Line.Step step) rest → EndsStep old step end new
+    → EndsAt (at stages.Body old) bytes end × (new ≡ old) × IsFullAt end old
 takes_ended old new bytes rest step end begins ends =
-    let stop = step_ends old new step end ends in (ends_at (at stages.Body old) bytes rest (Line.Step step) end begins stop.0, stop.1)
+    let stop = step_ends old new step end ends in (ends_at (at stages.Body old) bytes rest (Line.Step step) end begins stop.0, stop.1, stop.2)
 
 pub front_end : (stage : code.NextLine) (held : Held) (rest : List ℕ) (end : Option StepEnd) → stage ≡ stages.Body
     → IfSome end (EndsAt (at stages.Body held) rest)
@@ -303,7 +305,7 @@ step_whole bytes step begins = inl (spelling (Line.Step step), line_is (Line.Ste
 
 pub step_follows : (stage : code.NextLine) (old new : Held) (bytes : List ℕ) → stage ≡ stages.Body → TakesStep old bytes new []
     → Follows (at stage old) bytes (at stage new)
-step_follows stage old new bytes is (step, begins, takes) =
+step_follows stage old new bytes is (step, begins, takes, same_room) =
     rw (is, begins.1) (inl (one_goes (at stages.Body old) (at stages.Body new) (Line.Step step) begins.0 takes))
 
 -- more than a line, or less than one

@@ -132,6 +132,11 @@ pub record MayLackMemory (bytes more : List ℕ) : Type 0 where
   pub free : first_of (line_checks (account_after rules roots steps) line) ≡ None
   pub first : IsTrue (is_new (account_after rules roots steps) (named_by_line (account_after rules roots steps) line))
 
+-- memory may be lacked for a granule that a line of the bytes names, once at least so many granules were named
+abbrev pub LacksRoom : ℕ → List ℕ → Type 0
+LacksRoom room bytes =
+    (more : List ℕ) × (lacks : MayLackMemory bytes more) × (room ≤ (account_after lacks.rules lacks.roots lacks.steps).granules)
+
 -- no line of the bytes, after lines in range, names a granule, whatever the account
 abbrev pub NamesNoGranules : List ℕ → Type 0
 NamesNoGranules bytes =

@@ -7,7 +7,7 @@ use Rattle.cap_streams.specs.Front.{IsCut, IsLine, IsTooLong}
 use Rattle.cap_log.specs.{declared.{kinds.Step.Step, lines.Line.Line}, Lines.{IsInRange, Spells, spelling, tag_spelling}}
 use Rattle.cap_log.specs.Parts.{Begins, ReadsAs as Spelled}
 use Rattle.cap_log.specs.declared.lines.Line.TheVariants as lines
-use Rattle.cap_machine.specs.{declared.ends.StepEnd.StepEnd, Accounts.{Account, is_new}, Helds.{Held, account_of}}
+use Rattle.cap_machine.specs.{declared.ends.StepEnd.StepEnd, Accounts.{Account, is_new}, Helds.{Held, IsFull, account_of}}
 use Rattle.cap_machine.specs.declared.ends.StepEnd.TheVariants as ends
 use Rattle.cap_judge.specs.declared.{judges.{Judge.Judge, Stop.Stop}, verdict.Verdict.{Verdict, TheVariants.{Yes, No}}}
 use Rattle.cap_judge.specs.Judgings.{IsBehind, IsLastFront, IsVerdictOf, LeadsAfter, StopsIn, account_before}
@@ -27,6 +27,14 @@ pub record Known : Type 0 where
 -- what a judge knows, whatever its store
 abbrev pub known_of : {M : Type 0} → Judge M → Known
 known_of judge = record { held = judge.machine; stage = judge.stage }
+
+-- how many granules surely have room, of the store of a judge
+abbrev pub room_of : {M : Type 0} → Judge M → ℕ
+room_of judge = judge.machine.least_room
+
+-- at least as many granules were put
+abbrev pub IsFullJudge : {M : Type 0} → Judge M → Type 0
+IsFullJudge judge = IsFull judge.machine
 
 -- what the code's stage says
 abbrev pub due_of : code.NextLine → Due
@@ -97,6 +105,11 @@ abbrev pub EndsAt : Stage → List ℕ → StepEnd → Type 0
 EndsAt stage bytes (ends.Refused refusal) = RefusesNext stage bytes refusal
 EndsAt stage bytes ends.NoMemory = (more : List ℕ) × Lacks stage bytes more
 
+-- where memory is refused, at least as many granules were put as surely have room
+abbrev pub IsFullAt : StepEnd → Held → Type 0
+IsFullAt (ends.Refused refusal) held = Unit {0}
+IsFullAt ends.NoMemory held = IsFull held
+
 -- a line that is allowed leads from a stage to a stage
 abbrev pub Takes : Stage → Line → Stage → Type 0
 Takes old line new = Allows old line × (new ≡ behind old line)
@@ -104,8 +117,9 @@ Takes old line new = Allows old line × (new ≡ behind old line)
 -- a judge's answer to a line: it leads to what the judge knows then; or it isn't taken, for this reason, and nothing has
 -- changed
 abbrev pub AnswersLine : Known → Line → Result (Unit {0}) StepEnd → Known → Type 0
-AnswersLine old line (Ok done) new = Takes (at old.stage old.held) line (at new.stage new.held)
-AnswersLine old line (Err end) new = EndsFor (at old.stage old.held) line end × (new ≡ old)
+AnswersLine old line (Ok done) new =
+    Takes (at old.stage old.held) line (at new.stage new.held) × (new.held.least_room ≡ old.held.least_room)
+AnswersLine old line (Err end) new = EndsFor (at old.stage old.held) line end × (new ≡ old) × IsFullAt end old.held
 
 -- the bytes are lines that lead from a stage to a stage
 pub record Goes (old : Stage) (bytes : List ℕ) (new : Stage) : Type 0 where
@@ -119,6 +133,7 @@ pub record MakesSteps (old : Held) (bytes : List ℕ) (new : Held) : Type 0 wher
   pub goes : Goes (at stages.Body old) bytes (at stages.Body new)
   pub steps : List Step
   pub lines_are : goes.lines ≡ map lines.Step steps
+  pub same_room : new.least_room ≡ old.least_room
 
 -- a line is faulty: one before the bytes, or the first is what they begin with
 abbrev pub Faults : Stage → List ℕ → Stage → Type 0
@@ -153,14 +168,14 @@ GoesOrStops old front rest (Some stop) new = StopsAt old front rest stop new
 abbrev pub TakesStep : Held → List ℕ → Held → List ℕ → Type 0
 TakesStep old bytes new rest =
     (step : Step) × Begins IsInRange spelling 10 bytes (lines.Step step) rest
-    × Takes (at stages.Body old) (lines.Step step) (at stages.Body new)
+    × Takes (at stages.Body old) (lines.Step step) (at stages.Body new) × (new.least_room ≡ old.least_room)
 
 -- a step was taken from the front of the bytes; or none, and nothing has changed; or the one there isn't made, and
 -- nothing has changed
 abbrev pub TakesOne : Held → List ℕ → Result (Option (Bor (List ℕ))) StepEnd → Held → Type 0
 TakesOne old bytes (Ok (Some rest)) new = TakesStep old bytes new rest.now
 TakesOne old bytes (Ok None) new = new ≡ old
-TakesOne old bytes (Err end) new = EndsAt (at stages.Body old) bytes end × (new ≡ old)
+TakesOne old bytes (Err end) new = EndsAt (at stages.Body old) bytes end × (new ≡ old) × IsFullAt end old
 
 -- the bytes are the line of a step that the machine does not make
 abbrev pub EndsLine : Held → List ℕ → StepEnd → Type 0

@@ -8,12 +8,14 @@ ghost use Rattle.cap_log.specs.{declared.lines.Line.Line, Lines.{IsStepInRange, 
 ghost use Rattle.cap_log.specs.Parts.{Begins};
 ghost use Rattle.cap_streams.specs.{FaultLines.bytes_of, Front.{IsCut, IsFront, IsFrontText, IsLine, IsTooLong}};
 ghost use Rattle.cap_log.specs.declared.lines.Line.TheVariants as lines;
+ghost use Rattle.cap_machine.specs.declared.ends.StepEnd.TheVariants as ends;
 ghost use Rattle.cap_machine.specs.States.{granule_key, key_of, untagged_null};
 ghost use Rattle.cap_judge.specs.declared.{faults.RefusedLine.RefusedLine as FaultIn, judges.NextLine.TheVariants.Body};
 ghost use Rattle.cap_judge.specs.declared.judges.NextLine.TheVariants.{Refused as RefusedIn};
 ghost use Rattle.cap_judge.specs.{declared.verdict.TakeFault.TheVariants.{NoLine, NoMemory}, Expectations.ExpectsAt};
 ghost use Rattle.cap_judge.specs.{Logs.{has_form, header_lines}, Readings.{AnswersLine, EndsAs, EndsAt, EndsIn, EndsLine}};
-ghost use Rattle.cap_judge.specs.Readings.{EndsText, Follows, Goes, GoesOrStops, IsAtFault, IsUnmade};
+ghost use Rattle.cap_judge.specs.Readings.{EndsText, Follows, Goes, GoesOrStops, IsAtFault, IsFullAt, IsFullJudge};
+ghost use Rattle.cap_judge.specs.Readings.{IsUnmade, room_of};
 ghost use Rattle.cap_judge.specs.Readings.{IsFaultOf, IsNoLine, Lacks, StopsAt, Takes, known_of};
 ghost use Rattle.cap_judge.specs.Readings.{lines_read, long_refusal, stage_of, verdict_so_far};
 ghost use Rattle.cap_judge.specs.{Turns.{refusal_at, rules_of, unread}, Verdicts.NamesEscapes};
@@ -87,6 +89,7 @@ impl<M: TaggedStore> Judge<M> {
     pub fn new(memory: M) -> Judge<M>
         requires { map.len (M.contents memory) ≡ 0 }
         ensures read { stage_of result ≡ unread }
+        ensures least_room { room_of result ≡ M.least_room memory }
     {
         Judge {
             machine: Machine::new(memory),
@@ -102,6 +105,10 @@ impl<M: TaggedStore> Judge<M> {
         ensures count { result.count ≤ length bytes.now }
         ensures stops { StopsAt (stage_of self.old) (take result.count bytes.now) (drop result.count bytes.now)
             result.stop (stage_of self.new) }
+
+        // Memory is refused only where at least as many granules were put as surely have room.
+        ensures full { result.stop ≡ stops.NoMemory → IsFullJudge self.new }
+        ensures same_room { room_of self.new ≡ room_of self.old }
     {
         let mut rest = bytes;
         'lines: loop {
@@ -319,8 +326,10 @@ impl<M: TaggedStore> Judge<M> {
     /// Takes the steps at the front of some bytes, and then a line of any kind: what follows, and why it
     /// stopped, if it did.
     pub(crate) fn take_some<'a>(&mut self, bytes: &'a [u8]) -> (&'a [u8], Option<Stop>)
-        ensures { (front : List ℕ) × (bytes.now ≡ front ++ result.0.now)
+        ensures taken { (front : List ℕ) × (bytes.now ≡ front ++ result.0.now)
             × GoesOrStops (stage_of self.old) front result.0.now result.1 (stage_of self.new) }
+        ensures full { result.1 ≡ Some stops.NoMemory → IsFullJudge self.new }
+        ensures same_room { room_of self.new ≡ room_of self.old }
     {
         let (rest, end) = self.take_front(bytes);
         if let Some(end) = end {
@@ -339,6 +348,8 @@ impl<M: TaggedStore> Judge<M> {
             × Goes (stage_of self.old) front (stage_of self.new) }
         ensures end { IfSome result.1 (λ end. EndsAt (stage_of self.new) result.0.now end
             × (IsAtFault (stage_of self.new).due → ⊥)) }
+        ensures full { IfSome result.1 (λ end. IsFullAt end self.new.machine) }
+        ensures same_room { room_of self.new ≡ room_of self.old }
     {
         match self.stage {
             NextLine::Body => take_steps(&mut self.machine, bytes),
@@ -352,6 +363,8 @@ impl<M: TaggedStore> Judge<M> {
         ensures ok { IfOk result (λ rest. (line : Line) × Begins IsInRange spelling 10 bytes.now line rest.now
             × Takes (stage_of self.old) line (stage_of self.new)) }
         ensures err { IfErr result (λ stop. StopsAt (stage_of self.old) [] bytes.now stop (stage_of self.new)) }
+        ensures full { result ≡ Err stops.NoMemory → IsFullJudge self.new }
+        ensures same_room { room_of self.new ≡ room_of self.old }
     {
         let count = self.take_found(front(bytes), bytes)?;
         Ok(&bytes[count..])
@@ -365,6 +378,8 @@ impl<M: TaggedStore> Judge<M> {
             × Takes (stage_of self.old) line (stage_of self.new)) }
         ensures err { IfErr result (λ stop. StopsAt (stage_of self.old) [] bytes.now stop (stage_of self.new)) }
         ensures same { IfErr result (λ stop. stop ≢ stops.Fault → known_of self.new ≡ known_of self.old) }
+        ensures full { result ≡ Err stops.NoMemory → IsFullJudge self.new }
+        ensures same_room { room_of self.new ≡ room_of self.old }
     {
         if let NextLine::Refused(_) = self.stage {
             return Err(Stop::Fault);
@@ -387,6 +402,8 @@ impl<M: TaggedStore> Judge<M> {
         ensures ok { OnOk result ((line : Line) × Spells text.now line × Takes (stage_of self.old) line (stage_of self.new)) }
         ensures err { IfErr result (EndsText (stage_of self.old) text.now) }
         ensures same { IfErr result (λ _. known_of self.new ≡ known_of self.old) }
+        ensures full { IfErr result (λ end. IsFullAt end self.old.machine) }
+        ensures same_room { room_of self.new ≡ room_of self.old }
     {
         match read_line(text) {
             Some(line) => match self.follow(&line) {
@@ -407,6 +424,8 @@ impl<M: TaggedStore> Judge<M> {
         ensures stops { StopsAt (stage_of self.old) [] bytes.now result (stage_of self.new) }
         ensures same { result ≢ stops.Fault → known_of self.new ≡ known_of self.old }
         ensures uncut { result ≢ stops.Cut }
+        ensures no_memory { result ≡ stops.NoMemory → end ≡ ends.NoMemory }
+        ensures same_machine { self.new.machine ≡ self.old.machine }
     {
         match end {
             StepEnd::NoMemory => Stop::NoMemory,

@@ -5,7 +5,7 @@ ghost use Rattle.cap_log.specs.{Heads.head_spelling, Lines.{IsInRange, spelling}
 ghost use Rattle.cap_log.specs.declared.lines.Line.TheVariants as lines;
 ghost use Rattle.cap_machine.specs.Helds.{AnswersStep};
 ghost use Rattle.cap_judge.specs.declared.judges.NextLine.TheVariants.{Body};
-ghost use Rattle.cap_judge.specs.Readings.{EndsAt, MakesSteps, TakesAll, TakesOne, at};
+ghost use Rattle.cap_judge.specs.Readings.{EndsAt, IsFullAt, MakesSteps, TakesAll, TakesOne, at};
 
 use crate::recorded::{Derived, glance};
 use cap_log::kinds::{AndPerm, ClearTag, Move, SetAddr};
@@ -28,6 +28,7 @@ pub fn take_steps<'a, M: TaggedStore>(
     ensures taken { (front : List ℕ) × (bytes.now ≡ front ++ result.0.now)
         × MakesSteps machine.old front machine.new }
     ensures end { IfSome result.1 (EndsAt (at Body machine.new) result.0.now) }
+    ensures full { IfSome result.1 (λ end. IsFullAt end machine.new) }
 {
     let mut rest = bytes;
     'steps: loop {
@@ -53,6 +54,7 @@ fn take_usual<'a, M: TaggedStore>(
     ensures taken { (front : List ℕ) × (bytes.now ≡ front ++ result.0.now)
         × MakesSteps machine.old front machine.new }
     ensures end { IfSome result.1 (EndsAt (at Body machine.new) result.0.now) }
+    ensures full { IfSome result.1 (λ end. IsFullAt end machine.new) }
 {
     let mut rest = bytes;
     'steps: loop {

@@ -2,10 +2,10 @@
 
 ghost use Rattle.std.specs.Prelude.{◌≡◌, ℕ, List, [], ◌++◌, Err, IsOk, IfOk, IfErr};
 ghost use Rattle.std.specs.FinMap as map;
-ghost use Rattle.cap_streams.specs.{declared.judge_faults.JudgeFault.TheVariants.Pull, FaultLines.bytes_of};
+ghost use Rattle.cap_streams.specs.{declared.judge_faults.JudgeFault.TheVariants.{NoMemory, Pull}, FaultLines.bytes_of};
 ghost use Rattle.cap_streams.specs.{ReadBuffers.items, Streams.CountsOnly};
-ghost use Rattle.cap_judge.specs.{Judgings.{Judged, JudgedAll, JudgedBy}, Logs.NamesNoGranules};
-ghost use Rattle.cap_judge.specs.{Readings.{IsAnswered, StopsAt, stage_of}, Turns.unread};
+ghost use Rattle.cap_judge.specs.{Judgings.{Judged, JudgedAll, JudgedBy}, Logs.{LacksRoom, NamesNoGranules}};
+ghost use Rattle.cap_judge.specs.{Readings.{IsAnswered, StopsAt, room_of, stage_of}, Turns.unread};
 ghost use Rattle.cap_judge.specs.Verdicts.{EscapesExactly, NoVerdictIn, IsGuarded, IsVerdict, NamesEscapes};
 
 use crate::faults::RefusedLine;
@@ -99,6 +99,9 @@ pub fn judge_keeping<S: Source, M: TaggedStore>(source: &mut S, memory: M) -> Ju
 pub fn judge_bytes_keeping<M: TaggedStore>(bytes: &[u8], memory: M) -> JudgeEnd<M>
     requires { map.len (M.contents memory) ≡ 0 }
     ensures judged { JudgedAll bytes.now result.answer result.machine (bytes_of result.fault) }
+
+    // There is no verdict only where at least as many granules were named as surely have room.
+    ensures full { result.answer ≡ Err NoMemory → LacksRoom (M.least_room memory) bytes.now }
 {
     let mut judge = Judge::new(memory);
     let (answer, fault) = judge_all(&mut judge, bytes);
@@ -117,6 +120,7 @@ fn judge_all<M: TaggedStore>(
 ) -> (Result<Verdict, JudgeFault>, FaultLine)
     requires begun { stage_of judge.old ≡ unread }
     ensures judged { JudgedAll bytes.now result.0 judge.new.machine (bytes_of result.1) }
+    ensures full { result.0 ≡ Err NoMemory → LacksRoom (room_of judge.old) bytes.now }
 {
     let taken = judge.take(bytes);
     match taken.stop {

@@ -66,8 +66,9 @@ account_by old step row =
 
 -- a step is made where none of its tests holds and the account is that after it: so it leads to the new state
 makes : (old new : Held) (step : Step) (row : Row) → row_in (account_of old) step ≡ row → first_of row.checks ≡ None
-    → first_of (ending_of old row) ≡ None → account_of new ≡ account_by old step row → Makes old step new
-makes old new step row is free last account =
+    → first_of (ending_of old row) ≡ None → account_of new ≡ account_by old step row → new.least_room ≡ old.least_room
+    → Makes old step new
+makes old new step row is free last account same_room_is =
     let checks = checks_free old step row is free ∙ last in
     let after : account_of new ≡ with_step (account_of old) step = account ∙ sym (ap (account_by old step) is) in
     let each = first_of-append_free (row_in (account_of old) step).checks _ checks in
@@ -75,6 +76,7 @@ makes old new step row is free last account =
       checks = checks;
       leads = record { allowed = each.0; recorded = recorded_so _ _ each.1; after = ap (λ (a : Account). a.state) after };
       account = after;
+      same_room = same_room_is;
     }
 
 -- a step is refused for one of its last tests
@@ -189,7 +191,7 @@ module _ (old : Held) (step : Step) (target : ℕ) (recorded derived : Cap) (wri
       (unnamed old (is_same_cap recorded derived) ∙ like_so like false (lt-leb most_steps old.steps few))
       (ap (λ (a : Account). record a { steps = a.steps + 1 }) (account-register old target derived (code_for derived.tag code) _
       sized coded_so low (origin-written old step (Register target) derived code (ap (λ (r : Row). r.writes) row_is)
-      (λ held. origin_by_code (code_in old) (row_of (state_of old) step).parent code (parents derived refl held))))))
+      (λ held. origin_by_code (code_in old) (row_of (state_of old) step).parent code (parents derived refl held))))) refl)
 
 -- its operation or access refuses it
 pub concluded_faulted : (old : Held) (step : Step) (target : ℕ) (recorded : Cap) (fault : OpFault)
@@ -209,6 +211,7 @@ module _ (old new : Held) (step : Step) (granule : ℕ) (checks : List (Bool × 
     checks_free old step _ is free ∙ ap (λ (b : Bool). first_of (ending true b)) end.0,
     ap (λ (r : Row). is_new (account_of old) (named_by r)) is ∙ end.1,
     end.2,
+    end.3,
   )
 
   put_finished : (entry : Entry) (code : ℕ) (result : Result (Unit {0}) StepEnd) → cap_of entry ≡ value → entry.2 ≡ code_for value.tag code
@@ -220,7 +223,7 @@ module _ (old new : Held) (step : Step) (granule : ℕ) (checks : List (Bool × 
       (ap (λ (b : Bool). first_of (ending true b)) put_is.0)
       (ap (λ (a : Account). record a { steps = a.steps + 1 }) (account-granule old granule entry value _ holds
       (ap (λ (n : ℕ). put (origins_by (code_in old)) (granule_key granule) (place_at n)) code_is
-      ∙ origin-written old step (Granule granule) value code (ap (λ (r : Row). r.writes) is) from))))
+      ∙ origin-written old step (Granule granule) value code (ap (λ (r : Row). r.writes) is) from))) refl)
   put_finished entry code (Err end) holds code_is from put_is = put_ended end put_is
 
 -- a stored capability
@@ -302,7 +305,7 @@ loaded_value old load free same few =
     let step = Step.Load load in
     makes old (record old { steps = old.steps + 1 }) step _ (same_row old step _ refl) free
     (unnamed old _ ∙ ap (λ (b : Bool). first_of (last_checks old b)) (eq-eqb load.datum.value _ same)
-    ∙ ap (λ (b : Bool). first_of (ending true b)) (lt-leb most_steps old.steps few)) refl
+    ∙ ap (λ (b : Bool). first_of (ending true b)) (lt-leb most_steps old.steps few)) refl refl
 
 -- a load is refused
 pub load_refused : (old : Held) (load : Data 1) (recorded : Bool) (refusal : Refusal)

@@ -1,5 +1,5 @@
 -- A machine after a root was put.
-use Rattle.std.proofs.Common.{◌≡◌, ℕ, ◌+◌, ◌^◌, ◌<◌, true, length, ap, None}
+use Rattle.std.proofs.Common.{◌≡◌, ℕ, ◌+◌, ◌^◌, ◌<◌, true, length, refl, ap, None}
 use Rattle.cap_word.specs.{declared.word.Word.Word, Memory.memory_of}
 use Rattle.cap_word.proofs.Bytes.{stored_word-memory_of}
 use Rattle.cap_ops.specs.Checks.{first_of}
@@ -15,10 +15,12 @@ took old (Register n) word sized coded_so range fits free = record {
   checks = free;
   account = ap (λ (a : Account). record a { roots = a.roots + 1 }) (account-register old n (tagged word) n _ sized coded_so range.1
       (ap (put (origins_by (code_in old)) n) (place_at-key (Register n) range)));
+  same_room = refl;
 }
 took old (Granule g) word sized coded_so range fits free = record {
   checks = free;
   account = ap (λ (a : Account). record a { roots = a.roots + 1 }) (account-granule old g (true, memory_of word.0, granule_key g) _ _
       (ap (λ (n : ℕ). tagged (record { 0 = n })) (stored_word-memory_of word.0 fits))
       (ap (put (origins_by (code_in old)) (granule_key g)) (place_at-key (Granule g) range)));
+  same_room = refl;
 }

@@ -143,17 +143,19 @@ account_with rules_are limits_are state origins roots steps named granules =
     record { rules = rules_are; limits = limits_are; state = state; origin = origins; roots = roots; steps = steps; is_named = named; granules = granules }
 
 -- the account of registers that all hold NULL, and an empty memory
-pub blank_account : (rules_are : Rules) (limits_are : Limits) (memory : Granules) (value : Cap) → memory ≡ map.empty → value ≡ untagged_null
+pub blank_account : (rules_are : Rules) (limits_are : Limits) (memory : Granules) (room : ℕ) (value : Cap)
+    → memory ≡ map.empty → value ≡ untagged_null
     → account_of (record {
       rules = rules_are;
       limits = limits_are;
       registers = replicate 32 value;
       codes = replicate 32 0;
       memory = memory;
+      least_room = room;
       roots = 0;
       steps = 0;
     }) ≡ no_account rules_are limits_are
-blank_account rules_are limits_are memory value empty null =
+blank_account rules_are limits_are memory room value empty null =
     let origins = λ (k : ℕ). place_at (codes_of (replicate 32 0) memory k) in
     let unrooted : Origins = λ k. None in
     ap (λ (state : State). account_with rules_are limits_are state origins 0 0 (named_in memory) (map.len memory))

@@ -10,7 +10,7 @@ use Rattle.tagmem.specs.Granules.{with_cap, with_bytes}
 use Rattle.cap_machine.specs.declared.ends.StepEnd.{StepEnd, TheVariants.{Refused, NoMemory}}
 use Rattle.cap_machine.specs.declared.{instructions.OperationParts.OperationParts, rules.Rules.Rules}
 use Rattle.cap_machine.specs.{declared.rules.Rules.TheVariants.TwoStrict, Accounts.{most_steps, is_new}}
-use Rattle.cap_machine.specs.{Accounts.passes_granule_limit, Helds.{Held, EndsBy, code_in, state_of, account_of}}
+use Rattle.cap_machine.specs.{Accounts.passes_granule_limit, Helds.{Held, EndsBy, IsFull, code_in, state_of, account_of}}
 use Rattle.cap_machine.specs.States.{State, granule_key, key_of, tagged, untagged_null}
 use Rattle.cap_machine.specs.Steps.{Access, Row, Written, access_through, operation, row_of}
 
@@ -107,7 +107,8 @@ with_value_put held granule byte_index size value =
 -- what a machine answers where a put passes a limit or memory for it is refused, and nothing changes
 abbrev pub EndsPut : Held → ℕ → StepEnd → Held → Type 0
 EndsPut old granule (Refused refusal) new = (is_past_limits old granule ≡ true) × (refusal ≡ LimitPassed) × (new ≡ old)
-EndsPut old granule NoMemory new = (is_past_limits old granule ≡ false) × IsTrue (is_new (account_of old) (Some granule)) × (new ≡ old)
+EndsPut old granule NoMemory new =
+    (is_past_limits old granule ≡ false) × IsTrue (is_new (account_of old) (Some granule)) × (new ≡ old) × IsFull old
 
 -- a machine's answer to a put: no limit was passed and it became so, or it ended there
 abbrev pub AnswersPut : Held → ℕ → Held → Result (Unit {0}) StepEnd → Held → Type 0

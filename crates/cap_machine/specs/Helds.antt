@@ -1,5 +1,5 @@
 -- What a machine holds, and what its roots and its steps do to that (this profile's own).
-use Rattle.std.specs.Prelude.{◌≡◌, ℕ, zero, suc, Bool, List, [], length, slice_index_or, refl, Some, None, is_some}
+use Rattle.std.specs.Prelude.{◌≡◌, ◌≤◌, ℕ, zero, suc, Bool, List, [], length, slice_index_or, refl, Some, None, is_some}
 use Rattle.std.specs.Prelude.{IsTrue, Result, MatchResult}
 use Rattle.std.specs.Coded.{Coded, code_by, coded×, coded_bool, coded_list, coded_ℕ}
 use Rattle.std.specs.FinMap as map
@@ -16,13 +16,14 @@ use Rattle.cap_machine.specs.{Accounts.step_checks, Parents.IsSoundState, Places
 use Rattle.cap_machine.specs.{Places.place_at, States.{State, untagged_null}, Steps.Leads}
 
 -- what a machine holds: its rules and limits, its registers and the codes of their origins, the granules that were put, with such
--- codes, and its counts of roots and steps
+-- codes, as how many granules surely have room, and its counts of roots and steps
 pub record Held : Type 0 where
   pub rules : Rules
   pub limits : Limits
   pub registers : List Cap
   pub codes : List ℕ
   pub memory : Granules
+  pub least_room : ℕ
   pub roots : ℕ
   pub steps : ℕ
 
@@ -66,18 +67,19 @@ granules_code =
 -- what a machine holds is stored as the tuple of its fields
 abbrev pub held_code : Coded Held
 held_code =
-    code_by (Rules × (Limits × (List Cap × (List ℕ × (Granules × (ℕ × ℕ))))))
+    code_by (Rules × (Limits × (List Cap × (List ℕ × (Granules × (ℕ × (ℕ × ℕ)))))))
     (coded× (code_by ℕ coded_ℕ rules_number rules_numbered rules_numbered-rules_number)
-    (coded× limits_code (coded× (coded_list cap_code) (coded× (coded_list coded_ℕ) (coded× granules_code (coded× coded_ℕ coded_ℕ))))))
-    (λ held. (held.rules, (held.limits, (held.registers, (held.codes, (held.memory, (held.roots, held.steps)))))))
+    (coded× limits_code (coded× (coded_list cap_code) (coded× (coded_list coded_ℕ) (coded× granules_code (coded× coded_ℕ (coded× coded_ℕ coded_ℕ)))))))
+    (λ held. (held.rules, (held.limits, (held.registers, (held.codes, (held.memory, (held.least_room, (held.roots, held.steps))))))))
     (λ parts. record {
       rules = parts.0;
       limits = parts.1.0;
       registers = parts.1.1.0;
       codes = parts.1.1.1.0;
       memory = parts.1.1.1.1.0;
-      roots = parts.1.1.1.1.1.0;
-      steps = parts.1.1.1.1.1.1;
+      least_room = parts.1.1.1.1.1.0;
+      roots = parts.1.1.1.1.1.1.0;
+      steps = parts.1.1.1.1.1.1.1;
     }) (λ _. refl)
 
 -- there are 32 registers, c0 is NULL without a tag, each tagged capability is sound, and the codes are those of the
@@ -125,11 +127,16 @@ value_by TwoClear checks result = clear_result checks result
 abbrev pub EndsBy : Rules → List (Bool × Refusal) → Cap → Result Cap OpFault → Type 0
 EndsBy rules checks result outcome = Ends outcome (checks_by rules checks) (λ cap. cap ≡ value_by rules checks result)
 
+-- at least as many granules were put as surely have room
+abbrev pub IsFull : Held → Type 0
+IsFull held = held.least_room ≤ map.len held.memory
+
 -- the machine made the step: none of its checks fails, it leads to the new state, and the account is that after it
 pub record Makes (old : Held) (step : Step) (new : Held) : Type 0 where
   pub checks : first_of (step_checks (account_of old) step) ≡ None
   pub leads : Leads old.rules (state_of old) step (state_of new)
   pub account : account_of new ≡ with_step (account_of old) step
+  pub same_room : new.least_room ≡ old.least_room
 
 -- the machine refused the step for its first check that fails; or no check fails and it names a granule for the first
 -- time; nothing changed
@@ -138,7 +145,7 @@ EndsStep old step (Refused refusal) new = (first_of (step_checks (account_of old
 EndsStep old step NoMemory new =
     (first_of (step_checks (account_of old) step) ≡ None)
     × IsTrue (is_new (account_of old) (named_by (row_in (account_of old) step)))
-    × (new ≡ old)
+    × (new ≡ old) × IsFull old
 
 -- the machine's answer to a step: it made it, or the step ended there
 abbrev pub AnswersStep : {A : Type 0} → Held → Step → Result A StepEnd → Held → Type 0
@@ -148,6 +155,7 @@ AnswersStep old step result new = MatchResult result (λ _. Makes old step new) 
 pub record TakesRoot (old : Held) (place : Place) (word : Word) (new : Held) : Type 0 where
   pub checks : first_of (root_checks (account_of old) place word) ≡ None
   pub account : account_of new ≡ with_root (account_of old) place word
+  pub same_room : new.least_room ≡ old.least_room
 
 -- the machine refused the root for its first check that fails; or no check fails and it names a granule for the first
 -- time; nothing changed
@@ -155,3 +163,4 @@ abbrev pub EndsRoot : Held → Place → Word → StepEnd → Held → Type 0
 EndsRoot old place word (Refused refusal) new = (first_of (root_checks (account_of old) place word) ≡ Some refusal) × (new ≡ old)
 EndsRoot old place word NoMemory new =
     (first_of (root_checks (account_of old) place word) ≡ None) × IsTrue (is_new (account_of old) (granule_of place)) × (new ≡ old)
+    × IsFull old

@@ -13,7 +13,7 @@ ghost use Rattle.tagmem.specs.Granules.{with_cap};
 ghost use Rattle.cap_machine.specs.Accounts.{granule_of, is_new, limits_of, no_account, passes_granule_limit, root_checks};
 ghost use Rattle.cap_machine.specs.Changes.{AnswersPut, Derives, IsAccess, IsParentsCode, Placed, WritesRegister};
 ghost use Rattle.cap_machine.specs.Changes.{address_in, is_past_limits, number_at, with_cap_put, with_value_put};
-ghost use Rattle.cap_machine.specs.{Escapes.{ClearsBeyond, Escapes}, Helds.{AnswersStep, EndsRoot, EndsStep, IsKept}};
+ghost use Rattle.cap_machine.specs.{Escapes.{ClearsBeyond, Escapes}, Helds.{AnswersStep, EndsRoot, EndsStep, IsFull, IsKept}};
 ghost use Rattle.cap_machine.specs.Helds.{TakesRoot, account_of, code_in, state_of};
 ghost use Rattle.cap_machine.specs.{Parents.{IsSoundCap, StaysWithinParents}, Places.{IsCoded, place_at}};
 ghost use Rattle.cap_machine.specs.{Shown.{IsShown, shown_of}, States.{granule_key, key_of, untagged_null, value_at}};
@@ -64,6 +64,7 @@ impl<M: TaggedStore> Model for Machine<M> {
       registers = machine.registers;
       codes = machine.codes;
       memory = M.contents machine.memory;
+      least_room = M.least_room machine.memory;
       roots = machine.roots;
       steps = machine.steps;
     } };
@@ -76,6 +77,7 @@ impl<M: TaggedStore> Machine<M> {
     pub fn new(memory: M) -> Machine<M>
         requires { map.len (M.contents memory) ≡ 0 }
         ensures account { account_of result ≡ no_account Rules.One (limits_of Rules.One) }
+        ensures least_room { result.least_room ≡ M.least_room memory }
     {
         Machine::with_rules(memory, Rules::One)
     }
@@ -85,6 +87,7 @@ impl<M: TaggedStore> Machine<M> {
     pub fn with_rules(memory: M, rules: Rules) -> Machine<M>
         requires { map.len (M.contents memory) ≡ 0 }
         ensures account { account_of result ≡ no_account rules (limits_of rules) }
+        ensures least_room { result.least_room ≡ M.least_room memory }
     {
         Machine::with_limits(memory, rules, rules.limits())
     }
@@ -93,6 +96,7 @@ impl<M: TaggedStore> Machine<M> {
     pub fn with_limits(memory: M, rules: Rules, limits: Limits) -> Machine<M>
         requires { map.len (M.contents memory) ≡ 0 }
         ensures account { account_of result ≡ no_account rules limits }
+        ensures least_room { result.least_room ≡ M.least_room memory }
     {
         let nothing = Cap {
             tag: false,
@@ -300,6 +304,7 @@ impl<M: TaggedStore> Machine<M> {
         ensures ok { OnOk result (Placed self.old place word self.new) }
         ensures err { OnErr result (self.new ≡ self.old) }
         ensures only_new { OnErr result (IsTrue (is_new (account_of self.old) (granule_of place))) }
+        ensures full { OnErr result (IsFull self.old) }
     {
         let root = Cap { tag: true, word };
         match place {
@@ -433,6 +438,7 @@ impl<M: TaggedStore> Machine<M> {
         ensures ok { OnOk result (self.new ≡ placed_with self.old place word label) }
         ensures err { OnErr result (self.new ≡ self.old) }
         ensures only_new { OnErr result (IsTrue (is_new (account_of self.old) (granule_of place))) }
+        ensures full { OnErr result (IsFull self.old) }
     {
         let root = Cap { tag: true, word };
         match place {
@@ -653,6 +659,8 @@ fn put_capability<M: TaggedStore>(
     ensures ok { OnOk result (M.contents memory.new ≡ with_cap (M.contents memory.old) granule cap.tag (memory_of cap.word.0) code) }
     ensures err { OnErr result (M.contents memory.new ≡ M.contents memory.old) }
     ensures only_new { OnErr result (map.get (M.contents memory.old) granule ≡ None) }
+    ensures no_room { OnErr result (M.least_room memory.old ≤ map.len (M.contents memory.old)) }
+    ensures same_room { M.least_room memory.new ≡ M.least_room memory.old }
 {
     memory.put_cap(granule, cap.tag, to_memory(cap.word), code)
 }
@@ -685,6 +693,8 @@ fn put_number<M: TaggedStore>(
     ensures ok { OnOk result (M.contents memory.new ≡ with_bytes (M.contents memory.old) granule byte_index (low_bytes datum.size datum.value)) }
     ensures err { OnErr result (M.contents memory.new ≡ M.contents memory.old) }
     ensures only_new { OnErr result (map.get (M.contents memory.old) granule ≡ None) }
+    ensures no_room { OnErr result (M.least_room memory.old ≤ map.len (M.contents memory.old)) }
+    ensures same_room { M.least_room memory.new ≡ M.least_room memory.old }
 {
     let size = datum.size().bytes();
     let bytes = datum.value().to_le_bytes();

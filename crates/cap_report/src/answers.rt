@@ -2,6 +2,7 @@
 
 ghost use Rattle.std.specs.Prelude.{◌≡◌};
 ghost use Rattle.std.specs.FinMap as map;
+ghost use Rattle.cap_judge.specs.Logs.{LacksRoom};
 ghost use Rattle.cap_report.specs.Answers.{AnswersBytes, NamesEscapesIn, numbers_of, without_verdict};
 
 use cap_judge::{Verdict, judge_bytes_keeping};
@@ -47,6 +48,7 @@ pub struct Answer {
 pub fn answer_on<M: TaggedStore>(bytes: &[u8], memory: M) -> Answer
     requires { map.len (M.contents memory) ≡ 0 }
     ensures answer { AnswersBytes bytes.now result }
+    ensures full { result.state ≡ 3 → LacksRoom (M.least_room memory) bytes.now }
     ensures escape { NamesEscapesIn result }
 {
     match judge_bytes_keeping(bytes, memory).answer {

@@ -3,12 +3,12 @@
 ghost use Rattle.std.specs.Prelude.{◌≡◌, ◌≢◌, ◌↔◌, ◌≤◌, ℕ, Bool, List, ◌++◌, length, take, true, Err, Option, IfOk, OnOk};
 ghost use Rattle.std.specs.Prelude.{OnErr};
 ghost use Rattle.std.specs.FinMap as map;
-ghost use Rattle.cap_streams.specs.{declared.judge_faults.JudgeToFault.TheVariants.{Pull, Push}, FaultLines.bytes_of};
+ghost use Rattle.cap_streams.specs.{declared.judge_faults.JudgeToFault.TheVariants.{NoMemory, Pull, Push}, FaultLines.bytes_of};
 ghost use Rattle.cap_streams.specs.{Front.IsCut, Streams.{CountsFault, CountsOnly}};
 ghost use Rattle.cap_streams.specs.declared.judge_faults.JudgeFault.TheVariants as judge_faults;
 ghost use Rattle.cap_machine.specs.Helds.{account_of};
 ghost use Rattle.cap_judge.specs.{declared.verdict.Verdict.{Verdict, TheVariants.No}, Readings.HasRead};
-ghost use Rattle.cap_judge.specs.Judgings.{IsAnswerOf, LeadsAfter, StopsIn};
+ghost use Rattle.cap_judge.specs.{Judgings.{IsAnswerOf, LeadsAfter, StopsIn}, Logs.LacksRoom};
 ghost use Rattle.cap_judge.specs.{Reports.{IsPushedFor, Reported}, VerdictLines.verdict_line, Verdicts.NamesEscapes};
 ghost use Rattle.cap_report.specs.{FaultReports.IsLineReport, Whys.{Explains, ExplainsEnd, ExplainsSoFar, IsWhyText}};
 
@@ -55,6 +55,9 @@ pub fn judge_why_bytes<M: TaggedStore, K: Sink>(
     requires { map.len (M.contents memory) ≡ 0 }
     ensures explained { IsPushedFor (Explains origins bytes.now true) bytes.now true (K.took sink.old sink.new) result }
     ensures pulls_nothing { result ≢ Err Pull }
+
+    // There is no verdict only where at least as many granules were named as surely have room.
+    ensures full { result ≡ Err NoMemory → LacksRoom (M.least_room memory) bytes.now }
     ensures escape { IfOk result NamesEscapes }
     ensures pushes_counted { CountsOnly (Err Push) (K.faults sink.old) (K.faults sink.new) result }
 {
@@ -134,6 +137,7 @@ fn push_judging<M: TaggedStore, K: Sink>(
         → IfOk judging.now.answer (StopsIn bytes ended judging.now.machine (bytes_of judging.now.fault))
         → IsPushedFor (Explains origins bytes ended) bytes ended (K.took sink.old sink.new) result }
     ensures pulls { (result ≡ Err Pull) ↔ (judging.now.answer ≡ Err judge_faults.Pull) }
+    ensures lacks { result ≡ Err NoMemory → judging.now.answer ≡ Err judge_faults.NoMemory }
     ensures pushes_counted { CountsOnly (Err Push) (K.faults sink.old) (K.faults sink.new) result }
 {
     judging.machine.kept();

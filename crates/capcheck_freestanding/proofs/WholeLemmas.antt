@@ -1,7 +1,7 @@
 -- An answer on all the bytes of a log with its text.
-use Rattle.std.proofs.Common.{◌≡◌, ◌≢◌, ℕ, Bool, List, [], true, refl, Err}
+use Rattle.std.proofs.Common.{◌≡◌, ◌≢◌, ℕ, Bool, List, Result, [], true, refl, Err}
 use Rattle.cap_streams.specs.declared.judge_faults.JudgeToFault.{JudgeToFault}
-use Rattle.cap_judge.specs.Reports.{IsPushedFor}
+use Rattle.cap_judge.specs.{declared.verdict.Verdict.Verdict, Reports.IsPushedFor}
 use Rattle.cap_report.specs.{declared.answers.Answer.Answer, Answers.{AnswersBytes, without_verdict}, Whys.Explains}
 use Rattle.cap_report.proofs.AnswerLemmas.{of_lack}
 use Rattle.capcheck_freestanding.specs.Whys.{IsWhyOf}
@@ -13,3 +13,10 @@ pub of_why_fault : (origins : Bool) (bytes : List ℕ) (took : List ℕ → Type
 of_why_fault origins bytes took JudgeToFault.Pull answer pulls pushes pushed is = absurd (pulls refl)
 of_why_fault origins bytes took JudgeToFault.Push answer pulls pushes pushed is = absurd (pushes refl)
 of_why_fault origins bytes took JudgeToFault.NoMemory answer pulls pushes pushed is = (of_lack bytes answer pushed.0 is, [], refl, pushed.1)
+
+-- so it is want of memory
+pub only_memory : (fault : JudgeToFault) (result : Result Verdict JudgeToFault) → result ≡ Err fault → fault ≢ JudgeToFault.Pull
+    → fault ≢ JudgeToFault.Push → result ≡ Err JudgeToFault.NoMemory
+only_memory JudgeToFault.Pull result is pulls pushes = absurd (pulls refl)
+only_memory JudgeToFault.Push result is pulls pushes = absurd (pushes refl)
+only_memory JudgeToFault.NoMemory result is pulls pushes = is

@@ -1,6 +1,7 @@
 //! The judge of a log that lies in memory, with its report.
 
-ghost use Rattle.std.specs.Prelude.{ℕ, List};
+ghost use Rattle.std.specs.Prelude.{◌≡◌, ℕ, List, length};
+ghost use Rattle.cap_judge.specs.Logs.{LacksRoom};
 ghost use Rattle.cap_report.specs.{Answers.{AnswersBytes, NamesEscapesIn}, Sinks.Took};
 ghost use Rattle.capcheck_freestanding.specs.Whys.{AnswersWhy, IsWhyOf};
 
@@ -31,6 +32,7 @@ pub extern "C" fn capcheck_judge_why(
     text: &mut [u8],
 ) -> Why
     ensures why { AnswersWhy origins bytes.now text.old text.new result }
+    ensures full { result.answer.state ≡ 3 → LacksRoom (length slots.old) bytes.now }
     ensures escape { NamesEscapesIn result.answer }
 {
     let mut sink = TextSink::new(text);
@@ -41,8 +43,9 @@ pub extern "C" fn capcheck_judge_why(
 
 // Judges the bytes of a log, and pushes the text of the answer.
 fn answer_into(origins: bool, bytes: &[u8], slots: &mut [Slot], sink: &mut TextSink) -> Answer
-    ensures { (answer : AnswersBytes bytes.now result) × (text : List ℕ) × IsWhyOf origins bytes.now answer.verdict text
+    ensures answer { (answer : AnswersBytes bytes.now result) × (text : List ℕ) × IsWhyOf origins bytes.now answer.verdict text
         × Took sink.old sink.new text }
+    ensures full { result.state ≡ 3 → LacksRoom (length slots.old) bytes.now }
 {
     match judge_why_bytes(origins, bytes, LentStore::new(slots), sink) {
         Ok(verdict) => numbers_of(verdict),

@@ -1,5 +1,7 @@
 //! The judge of a log that lies in memory.
 
+ghost use Rattle.std.specs.Prelude.{◌≡◌, length};
+ghost use Rattle.cap_judge.specs.Logs.{LacksRoom};
 ghost use Rattle.cap_report.specs.Answers.{AnswersBytes, NamesEscapesIn};
 
 use cap_report::answers::{Answer, answer_on};
@@ -11,6 +13,7 @@ use tagmem_lent::{LentStore, Slot};
 #[unsafe(no_mangle)]
 pub extern "C" fn capcheck_judge_bytes_in(bytes: &[u8], slots: &mut [Slot]) -> Answer
     ensures answer { AnswersBytes bytes.now result }
+    ensures full { result.state ≡ 3 → LacksRoom (length slots.old) bytes.now }
     ensures escape { NamesEscapesIn result }
 {
     answer_on(bytes, LentStore::new(slots))

@@ -113,6 +113,8 @@ impl ListStore {
 impl TaggedStore for ListStore {
     ghost contents = { λ s. contents_of s.entries.items };
 
+    ghost least_room = { λ _. 0 };
+
     ghost are_stored = { λ s. AreStored-contents_of s.entries.items s.stored };
 
     ghost count_fits = { λ s. len_fits s.entries.items s.rising s.counted };

@@ -222,6 +222,8 @@ impl TaggedStore for PageStore {
 
     ghost contents = { λ s. contents_of s.blocks.items };
 
+    ghost least_room = { λ _. 0 };
+
     ghost are_stored = { λ s. s.stored };
 
     ghost count_fits = { λ s. s.fits };

@@ -3,7 +3,7 @@
 //! Granule `g` is the sixteen bytes from address `16 * g` on, so there are 2^60 of them. Each has one
 //! tag, which says whether its bytes are a valid capability. A store keeps those that were put, and
 //! beside each capability a code of its origin, whose meaning is its user's.
-ghost use Rattle.std.specs.Prelude.{◌≡◌, ◌+◌, ◌^◌, ◌<◌, ◌≤◌, length, None, OnOk, OnErr};
+ghost use Rattle.std.specs.Prelude.{◌≡◌, ℕ, ◌+◌, ◌^◌, ◌<◌, ◌≤◌, length, None, OnOk, OnErr};
 ghost use Rattle.std.specs.FinMap as map;
 ghost use Rattle.tagmem.specs.Granules.{Granules, AreStored, HasRoom, IsCodeFor, IsNextPut, shown, code_at, with_cap};
 ghost use Rattle.tagmem.specs.Granules.{with_bytes};
@@ -19,6 +19,9 @@ pub struct NoMemory;
 pub trait TaggedStore: Drop {
     /// The entries of the granules that were put, however the store keeps them.
     ghost contents: { Self → Granules };
+
+    /// How many granules surely have room, as long as the store lives: none is refused while fewer were put.
+    ghost least_room: { Self → ℕ };
 
     /// The tag and the bytes of a granule, or `None` where it was never put.
     fn get(&self, granule: u64) -> Option<(bool, [u8; 16])>
@@ -64,7 +67,9 @@ pub trait TaggedStore: Drop {
         requires room { HasRoom (contents self.old) granule }
         ensures ok { OnOk result (contents self.new ≡ with_cap (contents self.old) granule tag bytes code) }
         ensures err { OnErr result (contents self.new ≡ contents self.old) }
-        ensures only_new { OnErr result (map.get (contents self.old) granule ≡ None) };
+        ensures only_new { OnErr result (map.get (contents self.old) granule ≡ None) }
+        ensures no_room { OnErr result (least_room self.old ≤ map.len (contents self.old)) }
+        ensures same_room { least_room self.new ≡ least_room self.old };
 
     /// Writes one to sixteen bytes inside a granule, from a byte index on, and clears its tag and its
     /// code. Its other bytes stay, and are zero where it was never put. Errors are those of `put_cap`.
@@ -75,7 +80,9 @@ pub trait TaggedStore: Drop {
         requires room { HasRoom (contents self.old) granule }
         ensures ok { OnOk result (contents self.new ≡ with_bytes (contents self.old) granule byte_index bytes.now) }
         ensures err { OnErr result (contents self.new ≡ contents self.old) }
-        ensures only_new { OnErr result (map.get (contents self.old) granule ≡ None) };
+        ensures only_new { OnErr result (map.get (contents self.old) granule ≡ None) }
+        ensures no_room { OnErr result (least_room self.old ≤ map.len (contents self.old)) }
+        ensures same_room { least_room self.new ≡ least_room self.old };
 
     /// How many granules were put.
     fn count(&self) -> u32

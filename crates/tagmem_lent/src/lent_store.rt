@@ -188,6 +188,8 @@ impl<'a> TaggedStore for LentStore<'a> {
 
     ghost contents = { λ s. contents_of (in_use s) };
 
+    ghost least_room = { capacity_of };
+
     ghost are_stored = { λ s. AreStored-contents_of (in_use s) s.runs.stored };
 
     ghost count_fits = { λ s. few_entries s.used s.slots.now s.runs.apart s.counted };
@@ -235,7 +237,8 @@ impl<'a> TaggedStore for LentStore<'a> {
         ensures only_new { OnErr result (map.get (contents_of (in_use self.old)) granule ≡ None) }
         ensures full { IsErr result ↔ ((map.get (contents_of (in_use self.old)) granule ≡ None)
             × (map.len (contents_of (in_use self.old)) ≡ capacity_of self.old)) }
-        ensures capacity { capacity_of self.new ≡ capacity_of self.old }
+        ensures no_room { OnErr result (capacity_of self.old ≤ map.len (contents_of (in_use self.old))) }
+        ensures same_room { capacity_of self.new ≡ capacity_of self.old }
     {
         self.put(granule, tag, 0, &bytes, code)
     }
@@ -250,7 +253,8 @@ impl<'a> TaggedStore for LentStore<'a> {
         ensures only_new { OnErr result (map.get (contents_of (in_use self.old)) granule ≡ None) }
         ensures full { IsErr result ↔ ((map.get (contents_of (in_use self.old)) granule ≡ None)
             × (map.len (contents_of (in_use self.old)) ≡ capacity_of self.old)) }
-        ensures capacity { capacity_of self.new ≡ capacity_of self.old }
+        ensures no_room { OnErr result (capacity_of self.old ≤ map.len (contents_of (in_use self.old))) }
+        ensures same_room { capacity_of self.new ≡ capacity_of self.old }
     {
         self.put(granule, false, byte_index, bytes, 0)
     }

@@ -56,6 +56,8 @@ impl<M: TaggedStore> Refusing<M> {
 impl<M: TaggedStore> TaggedStore for Refusing<M> {
     ghost contents = { λ s. M.contents s.inner };
 
+    ghost least_room = { λ _. 0 };
+
     ghost are_stored = { λ s. M.are_stored s.inner };
 
     ghost count_fits = { λ s. M.count_fits s.inner };

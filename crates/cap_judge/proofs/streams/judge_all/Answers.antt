@@ -1,9 +1,9 @@
 use Rattle.std.proofs.Common.{◌≡◌, ◌≢◌, ◌≤◌, ◌-◌, [], List, ℕ, arith, drop, inl, length, refl, subst, take, true}
 use Rattle.std.proofs.{Common.{length-drop, take-append-drop, take_all}, lemmas.List.Elements.All-nil}
 use Rattle.cap_streams.specs.FaultLines.{bytes_of}
-use Rattle.cap_judge.specs.{Logs.MayLackMemory, Readings.{EndsWith, Follows, stage_of}, Turns.unread}
-use Rattle.cap_judge.proofs.SourceLemmas.{all_judged, all_lack, ended_answer}
-use Rattle.cap_judge.proofs.{TurnLaws.{lacks_memory, reached, refused_told, told}, TurnLemmas.{faults_at, stop_follows}}
+use Rattle.cap_judge.specs.{Logs.{LacksRoom, MayLackMemory}, Readings.{EndsWith, Follows, room_of, stage_of}, Turns.unread}
+use Rattle.cap_judge.proofs.SourceLemmas.{all_judged, all_lack, answered_some, ended_answer}
+use Rattle.cap_judge.proofs.{TurnLaws.{lacks_memory, lacks_room, reached, refused_told, told}, TurnLemmas.{faults_at, stop_follows}}
 use Rattle.cap_judge.proofs.streams.judge_all.Goals as goal
 
 pub returns-in-Cut : goal.returns-in-Cut
@@ -22,6 +22,7 @@ returns-in-Cut g c = record {
       all_judged bytes text held c.answered.result.0 answer.0 answer.1
       (subst (λ (b : List ℕ). EndsWith b true held answer.0 text) (take-append-drop count bytes)
       (told (take count bytes) rest new held answer.0 text (inl stop.0) refl stop.1 answer.2));
+  full = λ none. absurd (answered_some c.ending.result c.answered.result.0 _ c.answered.ensures none);
 }
 
 pub returns-in-Fault : goal.returns-in-Fault
@@ -39,6 +40,7 @@ returns-in-Fault g c = record {
       all_judged bytes text held c.answered-in-Fault.result.0 answer.0 answer.1
       (refused_told bytes [] new held answer.0 text (reached bytes new read) (faults_at stop.0 (drop count bytes) new stop.2)
       refl answer.2 true);
+  full = λ none. absurd (answered_some c.ending-in-Fault.result c.answered-in-Fault.result.0 _ c.answered-in-Fault.ensures none);
 }
 
 pub returns-in-NoMemory : goal.returns-in-NoMemory
@@ -50,4 +52,13 @@ returns-in-NoMemory g c = record {
       all_lack bytes stop.1 (bytes_of c.new.result) c.take-taken.new.self.machine
       (subst (λ (b : List ℕ). MayLackMemory b stop.1) (take-append-drop count bytes)
       (lacks_memory (take count bytes) (drop count bytes) stop.1 new (inl stop.0) stop.2));
+  full = λ _.
+      let bytes = c.args.bytes.now in
+      let count = c.take-taken.result.count in
+      let new = stage_of c.take-taken.new.self in
+      let room = room_of c.args.judge.now in
+      let stop = rw (c.in-NoMemory.is, c.requires.begun) at c.take-taken.ensures.stops in
+      let many = subst (λ (n : ℕ). n ≤ new.account.granules) c.take-taken.ensures.same_room (c.take-taken.ensures.full c.in-NoMemory.is) in
+      subst (LacksRoom room) (take-append-drop count bytes)
+      (lacks_room room (take count bytes) (drop count bytes) stop.1 new stop.0 stop.2 many);
 }

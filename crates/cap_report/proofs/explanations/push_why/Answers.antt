@@ -27,7 +27,7 @@ pub returns-in-No-clause-ok : goal.returns-in-No-clause-ok
 returns-in-No-clause-ok g c =
     on_ok c.push_fault.result (λ p. (
       verdict_line c.args.verdict.now ++ p.0,
-      why_no c.args.origins _ _ c.args.verdict.now c.in-No.line c.in-No.refusal p.0 c.in-No.is p.1,
+      why_no c.args.origins c.args.machine.now _ c.args.verdict.now c.in-No.line c.in-No.refusal p.0 c.in-No.is p.1,
       subst (λ v. g.K.Sink.took c.args.sink.now c.push_fault.new.sink (verdict_line v ++ p.0)) (sym c.in-No.is) p.2,
     )) c.push_fault.ensures.ok
 
@@ -35,7 +35,7 @@ pub returns-in-No-clause-err : goal.returns-in-No-clause-err
 returns-in-No-clause-err g c =
     on_err c.push_fault.result (λ p. (
       verdict_line c.args.verdict.now ++ p.0,
-      why_no c.args.origins _ _ c.args.verdict.now c.in-No.line c.in-No.refusal p.0 c.in-No.is p.1,
+      why_no c.args.origins c.args.machine.now _ c.args.verdict.now c.in-No.line c.in-No.refusal p.0 c.in-No.is p.1,
       p.2,
       subst (λ v. g.K.Sink.took c.args.sink.now c.push_fault.new.sink (take p.2 (verdict_line v ++ p.0))) (sym c.in-No.is) p.3,
     )) c.push_fault.ensures.err

@@ -6,7 +6,7 @@ use Rattle.capcheck_freestanding.proofs.explanations.capcheck_judge_why.Goals as
 
 pub returns : goal.returns
 returns c =
-    let why = c.answer_into-answer.ensures in
+    let why = c.answer_into-answer.ensures.answer in
     record {
       why = record {
         answer = why.0;
@@ -16,5 +16,6 @@ returns c =
             (told_from c.new-sink.result c.answer_into-answer.new.sink why.1 c.args.text.now c.length-length.result
             c.new-sink.ensures.none c.new-sink.ensures.room c.length-length.ensures.count why.3);
       };
+      full = c.answer_into-answer.ensures.full;
       escape = λ verdict is. named verdict;
     }

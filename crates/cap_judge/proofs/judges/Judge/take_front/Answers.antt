@@ -12,4 +12,4 @@ returns-in-Body-clause-end g c =
     c.take_steps.ensures.end
 
 pub returns-in_default : goal.returns-in_default
-returns-in_default g c = record { taken = ([], refl, goes_none (stage_of c.args.self.now)); end = tt }
+returns-in_default g c = record { taken = ([], refl, goes_none (stage_of c.args.self.now)); end = tt; full = tt; same_room = refl }

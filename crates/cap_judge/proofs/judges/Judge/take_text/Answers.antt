@@ -4,7 +4,7 @@ use Rattle.cap_judge.proofs.TurnLemmas.{text_ends}
 use Rattle.cap_judge.proofs.judges.Judge.take_text.Goals as goal
 
 pub returns-in-Ok-clause-ok : goal.returns-in-Ok-clause-ok
-returns-in-Ok-clause-ok g c = (c.in-Some.line, c.in-Some.ensures.some, c.in-Ok.ensures)
+returns-in-Ok-clause-ok g c = (c.in-Some.line, c.in-Some.ensures.some, c.in-Ok.ensures.0)
 
 pub returns-in-Err-clause-err : goal.returns-in-Err-clause-err
 returns-in-Err-clause-err g c =

@@ -11,6 +11,7 @@ returns g c =
       registers = c.self.inside.registers;
       codes = c.self.inside.codes;
       memory = g.M.TaggedStore.contents c.self.inside.memory;
+      least_room = g.M.TaggedStore.least_room c.self.inside.memory;
       roots = c.self.inside.roots;
       steps = c.self.inside.steps;
     } in

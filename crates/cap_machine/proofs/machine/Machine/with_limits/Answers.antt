@@ -8,8 +8,10 @@ use Rattle.cap_machine.proofs.machine.Machine.with_limits.Goals as goal
 pub returns : goal.returns
 returns g c = record {
   account =
-      blank_account c.args.rules c.args.limits (g.M.TaggedStore.contents c.args.memory) _ (map.empty_of_len _ c.requires)
+      blank_account c.args.rules c.args.limits (g.M.TaggedStore.contents c.args.memory) (g.M.TaggedStore.least_room c.args.memory) _
+      (map.empty_of_len _ c.requires)
       (ap (λ (n : ℕ). let cap : Cap = record { tag = false; word = record { 0 = n } } in cap) c.null.ensures.value);
+  least_room = refl;
 }
 
 pub invariant_of-result : goal.invariant_of-result
