@@ -48,6 +48,7 @@ fn count_down_for(objects: &mut Handouts, from: Option<usize>)
 }
 
 /// Two places go each from one owner to another, at once: both are counted up before either is counted down.
+#[inline(always)]
 pub fn recount_both(
     objects: &mut Handouts,
     first_from: Option<usize>,
