@@ -65,6 +65,10 @@ pub fn recount_both(
     ensures rest { IsRecounted (objects_of objects.old) (objects_of objects.new) }
     ensures same { (objects.new.count ≡ objects.old.count) × (objects.new.keeps ≡ objects.old.keeps) }
 {
+    // Mostly no object is involved, and one test tells so.
+    if first_from.is_none() & first_to.is_none() & second_from.is_none() & second_to.is_none() {
+        return;
+    }
     count_up_for(objects, first_to);
     count_up_for(objects, second_to);
     count_down_for(objects, first_from);

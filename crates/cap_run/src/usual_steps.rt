@@ -128,8 +128,8 @@ impl<M: TaggedStore> RunMachine<M> {
         ensures asks { self.new.asks ≡ self.old.asks }
     {
         kind.in_range();
-        if let Some(refusal) = self.asked_if(&kind.into_step()) {
-            return Err(RunEnd::Refused(refusal));
+        if self.asks.used || self.asks.owned {
+            return self.make_usual(&kind.into_step());
         }
         self.usual_kind(kind)
     }
