@@ -67,6 +67,7 @@ pub(crate) fn label_for(cap: Cap, label: u64) -> u64
 
 impl<M: TaggedStore> RunMachine<M> {
     // Writes to a register what stays within another one, or has no tag, and counts a step.
+    #[inline(always)]
     pub(crate) fn write(&mut self, target: RunRegister, source: RunRegister, cap: Cap)
         requires target { IsTargetOf target }
         requires source { IsSource source }

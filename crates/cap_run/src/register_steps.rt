@@ -102,6 +102,7 @@ impl<M: TaggedStore> RunMachine<M> {
     /// first of these that holds of a tagged result: its source has no tag (`SourceUntagged`); its word isn't sound
     /// (`UnsoundResult`); its bounds leave the source's, or it has a permission more (`BeyondSource`); its seal isn't
     /// kept (`SealChanged`). And of any: there are 4,294,967,295 steps (`LimitPassed`). Then nothing has changed.
+    #[inline(always)]
     pub(crate) fn derive(
         &mut self,
         target: RunRegister,

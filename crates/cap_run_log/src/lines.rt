@@ -101,6 +101,30 @@ impl ExchangeLine {
     }
 }
 
+/// What a `derive` line says: the fields of [`RunStep::Derive`].
+#[derive(Clone, Copy, Debug, PartialEq, Eq)]
+pub struct DeriveLine {
+    /// The register that is written, any but c0.
+    pub target: RunRegister,
+    /// The register that the result comes from.
+    pub source: RunRegister,
+    /// What the target holds then.
+    pub result: Cap,
+}
+
+impl DeriveLine {
+    ghost use Rattle.std.specs.Prelude.{◌≡◌};
+    ghost use Rattle.cap_run_log.specs.RunLines.{derive_step};
+
+    /// The step of the line.
+    #[inline(always)]
+    pub fn into_step(self) -> RunStep
+        ensures step { result ≡ derive_step self }
+    {
+        RunStep::Derive(self.target, self.source, self.result)
+    }
+}
+
 /// One line of a run log.
 #[derive(Clone, Copy, Debug, PartialEq, Eq)]
 pub enum RunLine {

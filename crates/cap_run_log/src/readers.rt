@@ -6,18 +6,22 @@ ghost use Rattle.std.specs.Prelude.{◌≡◌, ◌≤◌, ◌∷◌, ◌++◌, �
 ghost use Rattle.cap_streams.specs.Front.{HasNoFeed};
 ghost use Rattle.cap_run_log.specs.{declared.lines.RunLine.RunLine, RunLines.SpellsRun};
 ghost use Rattle.cap_log.specs.Parts.{Begins, BeginsWithNone};
-ghost use Rattle.cap_run_log.specs.{RunHeads.{IsRunHead, run_head_spelling}, RunLines.{IsRunLineInRange, exchange_line, run_spelling}};
+ghost use Rattle.cap_run_log.specs.{RunHeads.{IsRunHead, run_head_spelling}, RunLines.{IsRunLineInRange, derive_line, exchange_line, run_spelling}};
+ghost use Rattle.cap_run_log.specs.declared.lines.DeriveLine.{DeriveLine as DeriveIn};
 ghost use Rattle.cap_run_log.specs.declared.lines.ExchangeLine.{ExchangeLine as ExchangeIn};
 ghost use Rattle.cap_run_log.specs.RunParts.{StandsAfter};
 ghost use Rattle.cap_run_log.specs.declared.heads.RunHead.TheVariants as heads;
 
 use crate::heads::RunHead;
-use crate::lines::{ExchangeLine, RunLine, RunPlace, RunStep};
+use crate::lines::{DeriveLine, ExchangeLine, RunLine, RunPlace, RunStep};
 use crate::parts::{Equals, Freed, Granule, Handed, One, Source, Special, Tag, Written};
 use cap_log::buffers::put;
 use cap_log::{Line, Part, Register, Target, strip_word, take_line};
 use cap_streams::LINE_LIMIT;
 use cap_word::{Cap, Word};
+
+// What follows `derive`.
+type DeriveParts = (Written, (Source, Cap));
 
 // What follows `exchange`.
 type ExchangeParts = (
@@ -52,6 +56,20 @@ pub fn take_exchange(bytes: &[u8]) -> Option<(ExchangeLine, &[u8])>
         return None;
     };
     take_exchanged(operands)
+}
+
+/// Takes a `derive` line and its line feed from the front of some bytes, sooner than [`take_run_line`] does: what it says, and
+/// what follows it. `None` if no such line and a line feed stand there.
+#[inline(always)]
+pub fn take_derive(bytes: &[u8]) -> Option<(DeriveLine, &[u8])>
+    ensures some { IfSome result (λ p. Begins IsRunLineInRange run_spelling 10 bytes.now (derive_line p.0) p.1.now) }
+    ensures none { IfNone result ((derive : DeriveIn) (rest : List ℕ)
+        → Begins IsRunLineInRange run_spelling 10 bytes.now (derive_line derive) rest → ⊥) }
+{
+    let Some(operands) = strip_word(bytes, b"derive", b' ') else {
+        return None;
+    };
+    take_derived(operands)
 }
 
 /// Reads a line of a run log from its bytes, without its line feed: the line that they spell, or `None` if they spell none.
@@ -125,11 +143,8 @@ fn take_run_operands(head: RunHead, bytes: &[u8]) -> Option<(RunLine, &[u8])>
             Some((RunLine::Root(place, word), rest))
         }
         RunHead::Derive => {
-            let ((target, (source, recorded)), rest) = take_run_parts::<(Written, (Source, Cap))>(
-                head, bytes,
-            )?;
-            let step = RunStep::Derive(target.0, source.0, recorded);
-            Some((RunLine::Run(step), rest))
+            let (derive, rest) = take_derived(bytes)?;
+            Some((RunLine::Run(derive.into_step()), rest))
         }
         RunHead::Exchange => {
             let (exchange, rest) = take_exchanged(bytes)?;
@@ -161,6 +176,25 @@ fn take_run_operands(head: RunHead, bytes: &[u8]) -> Option<(RunLine, &[u8])>
             Some((RunLine::Run(step), rest))
         }
     }
+}
+
+// Takes what follows `derive` and its space.
+#[inline(always)]
+fn take_derived(bytes: &[u8]) -> Option<(DeriveLine, &[u8])>
+    ensures some { IfSome result (λ p. Begins IsRunLineInRange run_spelling 10 (run_head_spelling heads.Derive ++ 32 ∷ bytes.now)
+        (derive_line p.0) p.1.now) }
+    ensures none { IfNone result (BeginsWithNone IsRunLineInRange run_spelling 10 (run_head_spelling heads.Derive ++ 32 ∷ bytes.now)) }
+{
+    let Some((parts, rest)) = take_run_parts(RunHead::Derive, bytes) else {
+        return None;
+    };
+    let (target, (source, result)): DeriveParts = parts;
+    let derive = DeriveLine {
+        target: target.0,
+        source: source.0,
+        result,
+    };
+    Some((derive, rest))
 }
 
 // Takes what follows `exchange` and its space.
