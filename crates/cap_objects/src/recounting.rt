@@ -48,6 +48,7 @@ fn count_down_for(objects: &mut Handouts, from: Option<usize>)
 }
 
 /// Two places go each from one owner to another, at once: both are counted up before either is counted down.
+#[inline(always)]
 pub fn recount_both(
     objects: &mut Handouts,
     first_from: Option<usize>,
@@ -64,6 +65,10 @@ pub fn recount_both(
     ensures rest { IsRecounted (objects_of objects.old) (objects_of objects.new) }
     ensures same { (objects.new.count ≡ objects.old.count) × (objects.new.keeps ≡ objects.old.keeps) }
 {
+    // Mostly no object is involved, and one test tells so.
+    if first_from.is_none() & first_to.is_none() & second_from.is_none() & second_to.is_none() {
+        return;
+    }
     count_up_for(objects, first_to);
     count_up_for(objects, second_to);
     count_down_for(objects, first_from);

@@ -36,3 +36,5 @@ mod AskedLemmas
 mod AloneLemmas
 mod StepLineLemmas
 mod ToldLemmas
+mod DerivationLemmas
+mod StepTakingLemmas

@@ -20,3 +20,4 @@ pub mod HeldExtents
 pub mod OwnedAccesses
 pub mod Erasure
 pub mod StepLines
+pub mod Moved

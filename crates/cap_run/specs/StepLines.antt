@@ -1,8 +1,8 @@
 -- Lines of steps of version 2, made one after another (this profile's own).
-use Rattle.std.specs.Prelude.{◌≡◌, ℕ, List, [], ◌∷◌, ◌++◌, flat_map, None}
-use Rattle.std.specs.List.{AllByRecursion}
-use Rattle.cap_log.specs.{declared.kinds.Step.Step, Lines.IsStepInRange}
-use Rattle.cap_run_log.specs.RunLines.{run_spelling}
+use Rattle.std.specs.Prelude.{◌≡◌, ℕ, List, [], ◌∷◌, ◌++◌, flat_map, Option, Some, None}
+use Rattle.std.specs.{Borrow.Bor, List.AllByRecursion}
+use Rattle.cap_log.specs.{declared.kinds.Step.Step, Lines.IsStepInRange, Parts.Begins}
+use Rattle.cap_run_log.specs.RunLines.{IsRunLineInRange, run_spelling}
 use Rattle.cap_run_log.specs.declared.lines.RunLine.TheVariants as lines
 use Rattle.cap_run.specs.{declared.asks.Asks.Asks, Run.Run, RunChanges.usual_after, RunChecks.usual_end}
 
@@ -22,3 +22,10 @@ pub record MakesUsualSteps (asks : Asks) (old : Run) (bytes : List ℕ) (new : R
   pub in_range : AllByRecursion IsStepInRange steps
   pub bytes_are : bytes ≡ text_of_steps steps
   pub leads : LeadBy asks old steps new
+
+-- a step was taken from the front of the bytes, and what follows its line feed is left; or nothing has changed
+abbrev pub TakesStep : Asks → Run → List ℕ → Option (Bor (List ℕ)) → Asks → Run → Type 0
+TakesStep asks old bytes (Some rest) asks_then new =
+    (step : Step) × Begins IsRunLineInRange run_spelling 10 bytes (lines.Step step) rest.now × (usual_end asks old step ≡ None)
+    × (new ≡ usual_after old step) × (asks_then ≡ asks)
+TakesStep asks old bytes None asks_then new = (new ≡ old) × (asks_then ≡ asks)

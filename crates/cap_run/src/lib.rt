@@ -9,6 +9,7 @@
 
 mod asked_steps;
 mod asks;
+mod derivations;
 mod ends;
 mod granule_steps;
 mod laws;

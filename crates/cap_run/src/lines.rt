@@ -2,7 +2,7 @@
 
 ghost use Rattle.std.specs.Prelude.{◌≡◌, ◌≤◌, ◌<◌, ◌^◌};
 ghost use Rattle.cap_log.specs.Lines.{IsTarget};
-ghost use Rattle.cap_run_log.specs.RunLines.{IsRunPlace, IsRunStepInRange};
+ghost use Rattle.cap_run_log.specs.RunLines.{IsRunPlace, IsRunStepInRange, derive_step, exchange_step};
 ghost use Rattle.cap_run_log.specs.declared.lines.RunPlace.TheVariants.{Granule};
 ghost use Rattle.cap_run_log.specs.declared.lines.RunStep.TheVariants.{Derive, Drop, Exchange, Fill, Invoke};
 ghost use Rattle.cap_run.specs.{Numbers.numbered_run, Run.{IsSource, IsTargetOf}, RunChanges.run_after};
@@ -11,7 +11,7 @@ ghost use Rattle.cap_run.specs.RunChecks.{Answers, run_end, run_wants, usual_end
 use crate::ends::{RunEnd, RunRefusal};
 use crate::run_machine::RunMachine;
 use cap_machine::StepEnd;
-use cap_run_log::{RunPlace, RunRegister, RunStep};
+use cap_run_log::{DeriveLine, ExchangeLine, RunPlace, RunRegister, RunStep};
 use cap_word::{Cap, Word};
 use tagmem::TaggedStore;
 
@@ -68,7 +68,40 @@ impl<M: TaggedStore> RunMachine<M> {
         }
     }
 
+    /// Makes the step of an `exchange` line, as [`RunMachine::make`] does.
+    #[inline(always)]
+    pub fn make_exchange(&mut self, exchange: ExchangeLine) -> Result<(), RunEnd>
+        requires { IsRunStepInRange (exchange_step exchange) }
+        ensures outcome { let old = numbered_run self.old.machine self.old.specials self.old.objects in
+            let step = exchange_step exchange in
+            Answers (run_end self.old.asks old step) (run_after old step) (run_wants old step) old result
+            (numbered_run self.new.machine self.new.specials self.new.objects) }
+        ensures asks { self.new.asks ≡ self.old.asks }
+    {
+        self.exchanged(
+            exchange.target,
+            exchange.source,
+            exchange.special,
+            exchange.result,
+            exchange.special_result,
+        )
+    }
+
+    /// Makes the step of a `derive` line, as [`RunMachine::make`] does.
+    #[inline(always)]
+    pub fn make_derive(&mut self, derive: DeriveLine) -> Result<(), RunEnd>
+        requires { IsRunStepInRange (derive_step derive) }
+        ensures outcome { let old = numbered_run self.old.machine self.old.specials self.old.objects in
+            let step = derive_step derive in
+            Answers (run_end self.old.asks old step) (run_after old step) (run_wants old step) old result
+            (numbered_run self.new.machine self.new.specials self.new.objects) }
+        ensures asks { self.new.asks ≡ self.old.asks }
+    {
+        self.derived(derive.target, derive.source, derive.result)
+    }
+
     // A register gets what is derived from another one.
+    #[inline(always)]
     pub(crate) fn derived(
         &mut self,
         target: RunRegister,
@@ -87,6 +120,7 @@ impl<M: TaggedStore> RunMachine<M> {
     }
 
     // A register and a special one get what is derived from the special one and from a register.
+    #[inline(always)]
     pub(crate) fn exchanged(
         &mut self,
         target: u8,

@@ -17,6 +17,7 @@ use cap_word::{Cap, Word};
 use tagmem::TaggedStore;
 
 // Puts a capability with a label into a register.
+#[inline(always)]
 pub(crate) fn put_at<M: TaggedStore>(
     machine: &mut Machine<M>,
     specials: &mut Specials,
@@ -66,6 +67,7 @@ pub(crate) fn label_for(cap: Cap, label: u64) -> u64
 
 impl<M: TaggedStore> RunMachine<M> {
     // Writes to a register what stays within another one, or has no tag, and counts a step.
+    #[inline(always)]
     pub(crate) fn write(&mut self, target: RunRegister, source: RunRegister, cap: Cap)
         requires target { IsTargetOf target }
         requires source { IsSource source }
@@ -88,6 +90,7 @@ impl<M: TaggedStore> RunMachine<M> {
 
 impl<M: TaggedStore> RunMachine<M> {
     // Writes to two registers what stays within two others, both as they were before, and counts a step.
+    #[inline(always)]
     pub(crate) fn write_both(
         &mut self,
         first: RunRegister,

@@ -3,11 +3,13 @@
 ghost use Rattle.std.specs.Prelude.{◌≡◌, ◌≤◌, ◌<◌, ◌-◌, ◌^◌, None, IsTrue, true, MatchResult, OnErr};
 ghost use Rattle.cap_ops.specs.Authority.{StaysWithin};
 ghost use Rattle.cap_log.specs.Lines.{IsTarget};
+ghost use Rattle.cap_machine.specs.Parents.{IsSoundCap};
 ghost use Rattle.cap_run_log.specs.declared.lines.RunRegister.TheVariants.{General, Special};
-ghost use Rattle.cap_run.specs.{Run.{IsSource, IsTargetOf, register_key}, RunOf.run_of};
+ghost use Rattle.cap_run.specs.{Run.{IsSource, IsTargetOf, register_key}, RunOf.{run_of, run_state}};
 ghost use Rattle.cap_run.specs.RunSteps.{Derived, Dropped, Exchanged, Invoked, IsRefusedAs, derive_end, derived_refusal, exchange_end};
 ghost use Rattle.cap_run.specs.RunSteps.{invoke_end, invoked_refusal, step_limit};
 
+use crate::derivations::is_plainly_derived;
 use crate::ends::{RunEnd, RunRefusal};
 use crate::run_machine::RunMachine;
 use cap_machine::{MOST_STEPS, Refusal};
@@ -17,6 +19,7 @@ use cap_word::{Cap, Word};
 use tagmem::TaggedStore;
 
 // Why a register can't get what is derived from a source.
+#[inline(never)]
 fn derived_refusal(target: RunRegister, source: Cap, recorded: Cap) -> Option<RunRefusal>
     requires { IsTargetOf target }
     ensures value { result ≡ derived_refusal target source recorded }
@@ -72,10 +75,34 @@ impl<M: TaggedStore> RunMachine<M> {
         }
     }
 
+    // Why a register can't get what is derived from another one: mostly nothing refuses it, and that is told at once.
+    #[inline(always)]
+    fn refusal_of_derived(
+        &self,
+        target: RunRegister,
+        source: RunRegister,
+        recorded: Cap,
+    ) -> Option<RunRefusal>
+        requires target { IsTargetOf target }
+        requires source { IsSource source }
+        ensures value { result ≡ derived_refusal target (run_state self.now.machine self.now.specials (register_key source)) recorded }
+        ensures within { result ≡ None → IsTrue recorded.tag
+            → StaysWithin recorded (run_state self.now.machine self.now.specials (register_key source)) }
+        ensures sound { IsSoundCap (run_state self.now.machine self.now.specials (register_key source)) }
+    {
+        let cap = self.register(source);
+        let is_pcc = matches!(target, RunRegister::Special(0));
+        if is_plainly_derived(cap, recorded.word, is_pcc) {
+            return None;
+        }
+        derived_refusal(target, cap, recorded)
+    }
+
     /// A register gets what is derived from another one, with its owner, or without a tag from any. It is refused for the
     /// first of these that holds of a tagged result: its source has no tag (`SourceUntagged`); its word isn't sound
     /// (`UnsoundResult`); its bounds leave the source's, or it has a permission more (`BeyondSource`); its seal isn't
     /// kept (`SealChanged`). And of any: there are 4,294,967,295 steps (`LimitPassed`). Then nothing has changed.
+    #[inline(always)]
     pub(crate) fn derive(
         &mut self,
         target: RunRegister,
@@ -92,7 +119,7 @@ impl<M: TaggedStore> RunMachine<M> {
             ≡ run_of self.old.machine self.old.specials self.old.objects) }
         ensures asks { self.new.asks ≡ self.old.asks }
     {
-        if let Some(refusal) = derived_refusal(target, self.register(source), recorded) {
+        if let Some(refusal) = self.refusal_of_derived(target, source, recorded) {
             return Err(RunEnd::Refused(refusal));
         }
         if let Some(refusal) = self.step_limit() {
@@ -104,6 +131,7 @@ impl<M: TaggedStore> RunMachine<M> {
 
     /// c`target` gets what is derived from scr`number`, and scr`number` what is derived from c`source`, both as they were
     /// before: a jump and link, or CSpecialRW. The checks of the first come first.
+    #[inline(always)]
     pub(crate) fn exchange(
         &mut self,
         target: u8,
@@ -126,14 +154,10 @@ impl<M: TaggedStore> RunMachine<M> {
         let general = RunRegister::General(target);
         let special = RunRegister::Special(number);
         let general_source = RunRegister::General(source);
-        if let Some(refusal) = derived_refusal(general, self.register(special), recorded) {
+        if let Some(refusal) = self.refusal_of_derived(general, special, recorded) {
             return Err(RunEnd::Refused(refusal));
         }
-        if let Some(refusal) = derived_refusal(
-            special,
-            self.register(general_source),
-            special_recorded,
-        ) {
+        if let Some(refusal) = self.refusal_of_derived(special, general_source, special_recorded) {
             return Err(RunEnd::Refused(refusal));
         }
         if let Some(refusal) = self.step_limit() {

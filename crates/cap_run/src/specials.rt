@@ -56,6 +56,7 @@ impl Specials {
     }
 
     /// Puts a capability with a label into a special register.
+    #[inline(always)]
     pub fn put(&mut self, number: u8, cap: Cap, label: u64)
         requires range { number ≤ 31 }
         requires sound { IsSoundCap cap }

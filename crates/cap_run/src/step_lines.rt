@@ -1,14 +1,20 @@
-//! Lines of steps of version 2, where no object was handed out.
+//! Lines of steps of version 2, one after another.
 
-ghost use Rattle.std.specs.Prelude.{◌≡◌, ℕ, List, ◌++◌};
-ghost use Rattle.cap_run.specs.{Numbers.numbered_run, StepLines.MakesUsualSteps};
+ghost use Rattle.std.specs.Prelude.{◌≡◌, ℕ, List, ◌∷◌, ◌++◌};
+ghost use Rattle.cap_log.specs.{Heads.head_spelling};
+ghost use Rattle.cap_run.specs.{Numbers.numbered_run, StepLines.{MakesUsualSteps, TakesStep}};
 
 use crate::run_machine::RunMachine;
+use cap_log::Head;
+use cap_machine::{ByKind, Instruction, by_head};
 use tagmem::TaggedStore;
 
+// The most bytes that a line has, with its line feed.
+const MOST_BYTES: usize = 96;
+
 impl<M: TaggedStore> RunMachine<M> {
-    /// Takes the lines of steps of version 2 at the front of some bytes, as long as no object was handed out and a line of
-    /// any length has room: what follows them. By the first that isn't taken nothing has changed.
+    /// Takes the lines of steps of version 2 at the front of some bytes, as long as a line of any length has room: what
+    /// follows them. By the first that isn't taken nothing has changed.
     pub fn take_steps<'a>(&mut self, bytes: &'a [u8]) -> &'a [u8]
         ensures taken { (front : List ℕ) × (bytes.now ≡ front ++ result.now)
             × MakesUsualSteps self.old.asks (numbered_run self.old.machine self.old.specials self.old.objects) front
@@ -16,10 +22,82 @@ impl<M: TaggedStore> RunMachine<M> {
         ensures asks { self.new.asks ≡ self.old.asks }
     {
         if self.objects.count() != 0 {
-            return bytes;
+            return self.take_owned_steps(bytes);
         }
         self.machine.kept();
         let (rest, _) = cap_judge::take_steps(&mut self.machine, bytes);
         rest
+    }
+
+    // The same where objects were handed out.
+    #[inline(never)]
+    fn take_owned_steps<'a>(&mut self, bytes: &'a [u8]) -> &'a [u8]
+        ensures taken { (front : List ℕ) × (bytes.now ≡ front ++ result.now)
+            × MakesUsualSteps self.old.asks (numbered_run self.old.machine self.old.specials self.old.objects) front
+            (numbered_run self.new.machine self.new.specials self.new.objects) }
+        ensures asks { self.new.asks ≡ self.old.asks }
+    {
+        let mut rest = bytes;
+        'steps: loop {
+            match self.take_owned_step(rest) {
+                Some(behind) => rest = behind,
+                None => return rest,
+            }
+        }
+    }
+
+    // Takes a step at the front of some bytes, only where a line of any length has room: what follows its line feed, or
+    // `None`, and nothing has changed.
+    #[inline(always)]
+    fn take_owned_step<'a>(&mut self, bytes: &'a [u8]) -> Option<&'a [u8]>
+        ensures { TakesStep self.old.asks (numbered_run self.old.machine self.old.specials self.old.objects) bytes.now result
+            self.new.asks (numbered_run self.new.machine self.new.specials self.new.objects) }
+    {
+        if bytes.len() < MOST_BYTES {
+            return None;
+        }
+        let Some((head, operands)) = Head::take_usual(bytes, b' ') else {
+            return None;
+        };
+        by_head::<RunMachine<M>, Owned>(self, head, operands)
+    }
+
+    // Takes a step of a usual kind from after its head.
+    #[inline(always)]
+    fn take_kind<'a, I: Instruction>(&mut self, operands: &'a [u8]) -> Option<&'a [u8]>
+        ensures { TakesStep self.old.asks (numbered_run self.old.machine self.old.specials self.old.objects)
+            (head_spelling I.HEAD ++ 32 ∷ operands.now) result
+            self.new.asks (numbered_run self.new.machine self.new.specials self.new.objects) }
+    {
+        if I::IS_RARE {
+            return None;
+        }
+        let Some(taken) = I::take(operands) else {
+            return None;
+        };
+        match self.make_kind(taken.0) {
+            Ok(()) => Some(taken.1),
+            Err(_) => None,
+        }
+    }
+}
+
+// A step at the front of some bytes, where objects were handed out.
+pub(crate) struct Owned;
+
+impl<'a, M: TaggedStore> ByKind<'a, RunMachine<M>> for Owned {
+    type Answer = Option<&'a [u8]>;
+
+    ghost does = { λ old bytes result new. TakesStep old.asks (numbered_run old.machine old.specials old.objects) bytes result
+        new.asks (numbered_run new.machine new.specials new.objects) };
+
+    #[inline(always)]
+    fn with_kind<I: Instruction>(run: &mut RunMachine<M>, operands: &'a [u8]) -> Option<&'a [u8]> {
+        run.take_kind::<I>(operands)
+    }
+
+    #[inline(always)]
+    fn with_none(_run: &mut RunMachine<M>) -> Option<&'a [u8]> {
+        None
     }
 }

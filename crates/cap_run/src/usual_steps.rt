@@ -14,7 +14,7 @@ use crate::lines::usual_ended;
 use crate::puts::is_empty;
 use crate::run_machine::{RunMachine, slot_by};
 use cap_log::{Offset, Place, Register, Step, Target};
-use cap_machine::{Machine, StepEnd};
+use cap_machine::{Instruction, Machine, StepEnd};
 use cap_objects::recount;
 use tagmem::TaggedStore;
 
@@ -31,6 +31,7 @@ fn owner_at<M: TaggedStore>(machine: &Machine<M>, place: Option<Place>) -> Optio
 }
 
 // A register that was written has no owner if its bounds are empty.
+#[inline(always)]
 fn disown<M: TaggedStore>(machine: &mut Machine<M>, written: Option<Place>)
     requires { IfSome written IsPlace }
     ensures state { state_of machine.new ≡ state_of machine.old }
@@ -47,6 +48,7 @@ fn disown<M: TaggedStore>(machine: &mut Machine<M>, written: Option<Place>)
 
 // The granule that an access through a register reaches.
 #[tactic(auto, unfolding(cap_ops::specs::Accesses::access_address))]
+#[inline(always)]
 fn granule_through<M: TaggedStore>(machine: &Machine<M>, authority: Register, offset: Offset) -> u64
     ensures value { result ≡ granule_through (state_of machine.now) authority offset }
     ensures in_memory { result < 2 ^ 60 }
@@ -67,6 +69,7 @@ fn register_at(target: Target) -> Option<Place>
 }
 
 // The place that a step writes, if any.
+#[inline(always)]
 fn written_by<M: TaggedStore>(machine: &Machine<M>, step: &Step) -> Option<Place>
     requires { IsStepInRange step.now }
     ensures value { result ≡ written_by machine.now step.now }
@@ -114,6 +117,38 @@ impl<M: TaggedStore> RunMachine<M> {
             return Err(RunEnd::Refused(refusal));
         }
         self.usual(step)
+    }
+
+    /// Makes a step of one kind, as [`RunMachine::make_usual`] does.
+    #[inline(always)]
+    pub(crate) fn make_kind<I: Instruction>(&mut self, kind: I) -> Result<(), RunEnd>
+        ensures outcome { let old = numbered_run self.old.machine self.old.specials self.old.objects in
+            Answers (usual_end self.old.asks old (I.step kind)) (usual_after old (I.step kind)) (usual_wants old (I.step kind)) old result
+            (numbered_run self.new.machine self.new.specials self.new.objects) }
+        ensures asks { self.new.asks ≡ self.old.asks }
+    {
+        kind.in_range();
+        if self.asks.used || self.asks.owned {
+            return self.make_usual(&kind.into_step());
+        }
+        self.usual_kind(kind)
+    }
+
+    // Makes it where nothing is asked of its access.
+    #[inline(always)]
+    fn usual_kind<I: Instruction>(&mut self, kind: I) -> Result<(), RunEnd>
+        requires { IsStepInRange (I.step kind) }
+        ensures outcome { let old = numbered_run self.old.machine self.old.specials self.old.objects in
+            Answers (usual_end (record self.old.asks { used = false; owned = false }) old (I.step kind)) (usual_after old (I.step kind))
+            (usual_wants old (I.step kind)) old result (numbered_run self.new.machine self.new.specials self.new.objects) }
+        ensures asks { self.new.asks ≡ self.old.asks }
+    {
+        self.machine.kept();
+        let written = written_by(&self.machine, &kind.into_step());
+        match self.step_of_kind(kind, written) {
+            Ok(()) => Ok(()),
+            Err(end) => Err(usual_ended(end)),
+        }
     }
 
     // Why what is asked refuses a step that its own checks permit: nothing, where nothing is asked.
@@ -196,6 +231,36 @@ impl<M: TaggedStore> RunMachine<M> {
         self.machine.kept();
         let from = owner_at(&self.machine, written);
         if let Err(end) = self.machine.step(step) {
+            return Err(end);
+        }
+        self.machine.kept();
+        disown(&mut self.machine, written);
+        let to = owner_at(&self.machine, written);
+        recount(&mut self.objects, from, to);
+        Ok(())
+    }
+
+    // Makes a step of one kind, which writes this place, if any, as the machine without objects does.
+    #[inline(always)]
+    fn step_of_kind<I: Instruction>(
+        &mut self,
+        kind: I,
+        written: Option<Place>,
+    ) -> Result<(), StepEnd>
+        requires written { written ≡ written_by self.old.machine (I.step kind) }
+        requires in_range { IfSome written IsPlace }
+        requires range { IsStepInRange (I.step kind) }
+        ensures outcome { MatchResult result
+            (λ _. MakesUsual self.old.machine (objects_of self.old.objects) (I.step kind) self.new.machine (objects_of self.new.objects))
+            (λ end. EndsStep self.old.machine (I.step kind) end self.new.machine) }
+        ensures specials { self.new.specials ≡ self.old.specials }
+        ensures err { OnErr result (self.new.objects ≡ self.old.objects) }
+        ensures count { self.new.objects.count ≡ self.old.objects.count }
+        ensures asks { self.new.asks ≡ self.old.asks }
+    {
+        self.machine.kept();
+        let from = owner_at(&self.machine, written);
+        if let Err(end) = kind.perform(&mut self.machine) {
             return Err(end);
         }
         self.machine.kept();

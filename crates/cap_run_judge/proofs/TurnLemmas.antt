@@ -1,6 +1,6 @@
 -- What lines lead to, and where a judge of run logs stops.
 use Rattle.std.proofs.Common.{◌≡◌, ◌≢◌, ℕ, ◌+◌, ◌-◌, inl, inr, false, List, [], ◌∷◌, ◌++◌, length, take, drop}
-use Rattle.std.proofs.Common.{refl, sym, ap, subst, ◌∙◌, map, append-nil, append_assoc, None, Some, Result, Ok, Err}
+use Rattle.std.proofs.Common.{refl, sym, ap, subst, ◌∙◌, map, append-nil, append_assoc, Bool, Option, None, Some, Result, Ok, Err}
 use Rattle.std.proofs.lemmas.{Grind.flat_map-append}
 use Rattle.std.specs.List.{AllByRecursion}
 use Rattle.cap_log.specs.{declared.{kinds.Step.Step}, Lines.{IsStepInRange}, Parts.{Begins, ReadsAs}}
@@ -130,6 +130,12 @@ pub body_answers : (asks_are : Asks) (old new : Run) (line : RunLine) (result : 
 body_answers asks_are old new line (Ok done) next answers = (answers.0, ap (body asks_are) answers.1 ∙ sym next)
 body_answers asks_are old new line (Err (RunEnd.Refused refusal)) next answers = (answers.0, ap (body asks_are) answers.1)
 body_answers asks_are old new line (Err RunEnd.NoMemory) next answers = ((answers.0, answers.1), ap (body asks_are) answers.2)
+
+-- an answer that is an error leaves the run as it was
+pub err_same : (end : Option RunRefusal) (after : Run) (wants : Bool) (old : Run) (why : RunEnd) (new : Run)
+    → Answers end after wants old (Err why) new → new ≡ old
+err_same end after wants old (RunEnd.Refused refusal) new answers = answers.1
+err_same end after wants old RunEnd.NoMemory new answers = answers.2
 
 -- Fronts
 

@@ -1,6 +1,6 @@
 //! The judge of a run log: it is handed the log's bytes, cut anywhere, and reads the whole lines that stand there.
 
-ghost use Rattle.std.specs.Prelude.{◌≡◌, ◌≢◌, ◌≤◌, ◌+◌, ℕ, List, [], ◌++◌, Err, IfErr, IfOk, Some, length, take, drop};
+ghost use Rattle.std.specs.Prelude.{◌≡◌, ◌≢◌, ◌≤◌, ◌+◌, ℕ, List, [], ◌++◌, Err, IfErr, IfNone, IfOk, IfSome, Some, length, take, drop};
 ghost use Rattle.std.specs.FinMap as map;
 ghost use Rattle.cap_log.specs.Parts.{Begins};
 ghost use Rattle.cap_streams.specs.{FaultLines.bytes_of, Front.{IsCut, IsFront, IsFrontText}};
@@ -20,10 +20,13 @@ use cap_judge::{Stop, Taken};
 use cap_log::{Line, Mode, read_line};
 use cap_machine::{Refusal, Rules};
 use cap_run::{Asks, RunEnd, RunMachine, RunRefusal};
-use cap_run_log::{RunLine, take_run_line};
+use cap_run_log::{RunLine, take_derive, take_exchange, take_run_line};
 use cap_streams::{FaultLine, Front, front};
 use std::alloc::Global;
 use tagmem::TaggedStore;
+
+// The most bytes that a line has, with its line feed.
+const MOST_BYTES: usize = 96;
 
 /// What the next line of a run log has to be.
 #[derive(Drop)]
@@ -121,17 +124,81 @@ impl<M: TaggedStore> RunJudge<M> {
         }
     }
 
-    // Takes the lines of steps of version 2 at the front of some bytes, where they may come next and no object was handed
-    // out: what follows them.
+    // Takes the lines of derivations and exchanges at the front of some bytes and the lines of steps of version 2 after them,
+    // where they may come next: what follows them.
     #[inline(always)]
     fn take_front<'a>(&mut self, bytes: &'a [u8]) -> &'a [u8]
         ensures { (front : List ℕ) × (bytes.now ≡ front ++ result.now)
             × Goes (stage_of self.old) front (stage_of self.new) }
     {
         if let NextRunLine::Body = self.stage {
-            return self.machine.take_steps(bytes);
+            let behind = self.take_derivations(bytes);
+            return self.machine.take_steps(behind);
         }
         bytes
+    }
+
+    // Takes the lines of derivations and exchanges at the front of some bytes, as long as a line of any length has room: what
+    // follows them.
+    fn take_derivations<'a>(&mut self, bytes: &'a [u8]) -> &'a [u8]
+        requires { self.old.stage ≡ Body }
+        ensures taken { (front : List ℕ) × (bytes.now ≡ front ++ result.now) × Goes (stage_of self.old) front (stage_of self.new) }
+        ensures body { self.new.stage ≡ Body }
+    {
+        let mut rest = bytes;
+        'lines: loop {
+            let front = self.take_exchange(rest);
+            match front {
+                Some(behind) => rest = behind,
+                None => match self.take_derive(rest) {
+                    Some(behind) => rest = behind,
+                    None => return rest,
+                },
+            }
+        }
+    }
+
+    // Takes the line of an exchange at the front of some bytes, only where a line of any length has room: what follows it, or
+    // `None`, and nothing has changed.
+    #[inline(always)]
+    fn take_exchange<'a>(&mut self, bytes: &'a [u8]) -> Option<&'a [u8]>
+        requires { self.old.stage ≡ Body }
+        ensures some { IfSome result (λ rest. (line : RunLine) × Begins IsRunLineInRange run_spelling 10 bytes.now line rest.now
+            × Takes (stage_of self.old) line (stage_of self.new)) }
+        ensures none { IfNone result (stage_of self.new ≡ stage_of self.old) }
+        ensures body { self.new.stage ≡ Body }
+    {
+        if bytes.len() < MOST_BYTES {
+            return None;
+        }
+        let Some((exchange, rest)) = take_exchange(bytes) else {
+            return None;
+        };
+        match self.machine.make_exchange(exchange) {
+            Ok(()) => Some(rest),
+            Err(_) => None,
+        }
+    }
+
+    // The same of the line of a derivation.
+    #[inline(always)]
+    fn take_derive<'a>(&mut self, bytes: &'a [u8]) -> Option<&'a [u8]>
+        requires { self.old.stage ≡ Body }
+        ensures some { IfSome result (λ rest. (line : RunLine) × Begins IsRunLineInRange run_spelling 10 bytes.now line rest.now
+            × Takes (stage_of self.old) line (stage_of self.new)) }
+        ensures none { IfNone result (stage_of self.new ≡ stage_of self.old) }
+        ensures body { self.new.stage ≡ Body }
+    {
+        if bytes.len() < MOST_BYTES {
+            return None;
+        }
+        let Some((derive, rest)) = take_derive(bytes) else {
+            return None;
+        };
+        match self.machine.make_derive(derive) {
+            Ok(()) => Some(rest),
+            Err(_) => None,
+        }
     }
 
     // Takes the line at the front of some bytes: what follows it.

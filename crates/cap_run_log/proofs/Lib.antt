@@ -1,3 +1,4 @@
+mod ExchangeLemmas
 mod Operands
 mod PartLemmas
 mod Rows

@@ -5,7 +5,7 @@ use Rattle.std.specs.List.{join_with_byte}
 use Rattle.cap_word.specs.Digits.{hex_digits}
 use Rattle.cap_log.specs.Ranges.{IsRegisterFrom}
 use Rattle.cap_log.specs.Lines.{IsRegister, IsStepInRange, IsTarget, IsVersion, IsWord, mode_spelling, register_spelling, result_words, step_words, tag_spelling}
-use Rattle.cap_run_log.specs.declared.lines.{RunLine.RunLine, RunStep.RunStep, RunPlace.RunPlace, RunRegister.RunRegister}
+use Rattle.cap_run_log.specs.declared.lines.{DeriveLine.DeriveLine, ExchangeLine.ExchangeLine, RunLine.RunLine, RunStep.RunStep, RunPlace.RunPlace, RunRegister.RunRegister}
 use Rattle.cap_run_log.specs.declared.lines.RunLine.TheVariants as lines
 use Rattle.cap_run_log.specs.declared.lines.RunStep.TheVariants as steps
 use Rattle.cap_run_log.specs.declared.lines.RunPlace.TheVariants as places
@@ -75,6 +75,21 @@ IsRunStepInRange (steps.Object register) = IsTarget register
 IsRunStepInRange (steps.Widen register number) = IsTarget register × IsObjectNumber number
 IsRunStepInRange (steps.FreeOwner register) = IsTarget register
 IsRunStepInRange (steps.FreeNumber number) = IsObjectNumber number
+
+-- the step of what a derive line says, and the line
+abbrev pub derive_step : DeriveLine → RunStep
+derive_step derive = steps.Derive derive.target derive.source derive.result
+
+abbrev pub derive_line : DeriveLine → RunLine
+derive_line derive = lines.Run (derive_step derive)
+
+-- the step of what an exchange line says, and the line
+abbrev pub exchange_step : ExchangeLine → RunStep
+exchange_step exchange =
+    steps.Exchange exchange.target exchange.source exchange.special exchange.result exchange.special_result
+
+abbrev pub exchange_line : ExchangeLine → RunLine
+exchange_line exchange = lines.Run (exchange_step exchange)
 
 -- the words of a line
 abbrev pub run_line_words : RunLine → List (List ℕ)

@@ -67,6 +67,64 @@ pub enum RunStep {
     FreeNumber(u32),
 }
 
+/// What an `exchange` line says: the fields of [`RunStep::Exchange`].
+#[derive(Clone, Copy, Debug, PartialEq, Eq)]
+pub struct ExchangeLine {
+    /// The register that is written, 1 to 31.
+    pub target: u8,
+    /// The register that the special register's result comes from, 0 to 31.
+    pub source: u8,
+    /// The special register, 0 to 31.
+    pub special: u8,
+    /// What the target holds then.
+    pub result: Cap,
+    /// What the special register holds then.
+    pub special_result: Cap,
+}
+
+impl ExchangeLine {
+    ghost use Rattle.std.specs.Prelude.{◌≡◌};
+    ghost use Rattle.cap_run_log.specs.RunLines.{exchange_step};
+
+    /// The step of the line.
+    #[inline(always)]
+    pub fn into_step(self) -> RunStep
+        ensures step { result ≡ exchange_step self }
+    {
+        RunStep::Exchange {
+            target: self.target,
+            source: self.source,
+            special: self.special,
+            result: self.result,
+            special_result: self.special_result,
+        }
+    }
+}
+
+/// What a `derive` line says: the fields of [`RunStep::Derive`].
+#[derive(Clone, Copy, Debug, PartialEq, Eq)]
+pub struct DeriveLine {
+    /// The register that is written, any but c0.
+    pub target: RunRegister,
+    /// The register that the result comes from.
+    pub source: RunRegister,
+    /// What the target holds then.
+    pub result: Cap,
+}
+
+impl DeriveLine {
+    ghost use Rattle.std.specs.Prelude.{◌≡◌};
+    ghost use Rattle.cap_run_log.specs.RunLines.{derive_step};
+
+    /// The step of the line.
+    #[inline(always)]
+    pub fn into_step(self) -> RunStep
+        ensures step { result ≡ derive_step self }
+    {
+        RunStep::Derive(self.target, self.source, self.result)
+    }
+}
+
 /// One line of a run log.
 #[derive(Clone, Copy, Debug, PartialEq, Eq)]
 pub enum RunLine {

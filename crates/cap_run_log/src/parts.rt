@@ -22,6 +22,7 @@ impl Part for Special {
 
     ghost spelled = { λ special. special_spelling special.0 };
 
+    #[inline(always)]
     fn take(bytes: &[u8], end: u8) -> Option<(Special, &[u8])> {
         let digits = bytes.strip_prefix(b"scr")?;
         let (number, rest) = take_decimal::<2, 0, 32>(digits, end)?;
@@ -47,6 +48,7 @@ impl Part for Source {
 
     ghost spelled = { λ register. run_register_spelling register.0 };
 
+    #[inline(always)]
     fn take(bytes: &[u8], end: u8) -> Option<(Source, &[u8])> {
         if let Some((special, rest)) = Special::take(bytes, end) {
             return Some((Source(RunRegister::Special(special.0)), rest));
@@ -75,6 +77,7 @@ impl Part for Written {
 
     ghost spelled = { λ register. run_register_spelling register.0 };
 
+    #[inline(always)]
     fn take(bytes: &[u8], end: u8) -> Option<(Written, &[u8])> {
         if let Some((special, rest)) = Special::take(bytes, end) {
             return Some((Written(RunRegister::Special(special.0)), rest));
@@ -163,6 +166,7 @@ impl Part for Equals {
 
     ghost spelled = { λ sign. codes "=" };
 
+    #[inline(always)]
     fn take(bytes: &[u8], end: u8) -> Option<(Equals, &[u8])> {
         let rest = strip_word(bytes, b"=", end)?;
         Some((Equals, rest))
@@ -205,6 +209,7 @@ impl Part for Tag {
 
     ghost spelled = { λ tag. tag_spelling tag.0 };
 
+    #[inline(always)]
     fn take(bytes: &[u8], end: u8) -> Option<(Tag, &[u8])> {
         if let Some(rest) = strip_word(bytes, b"1", end) {
             return Some((Tag(true), rest));

@@ -6,17 +6,22 @@ ghost use Rattle.std.specs.Prelude.{◌≡◌, ◌≤◌, ◌∷◌, ◌++◌, �
 ghost use Rattle.cap_streams.specs.Front.{HasNoFeed};
 ghost use Rattle.cap_run_log.specs.{declared.lines.RunLine.RunLine, RunLines.SpellsRun};
 ghost use Rattle.cap_log.specs.Parts.{Begins, BeginsWithNone};
-ghost use Rattle.cap_run_log.specs.{RunHeads.{IsRunHead, run_head_spelling}, RunLines.{IsRunLineInRange, run_spelling}};
+ghost use Rattle.cap_run_log.specs.{RunHeads.{IsRunHead, run_head_spelling}, RunLines.{IsRunLineInRange, derive_line, exchange_line, run_spelling}};
+ghost use Rattle.cap_run_log.specs.declared.lines.DeriveLine.{DeriveLine as DeriveIn};
+ghost use Rattle.cap_run_log.specs.declared.lines.ExchangeLine.{ExchangeLine as ExchangeIn};
 ghost use Rattle.cap_run_log.specs.RunParts.{StandsAfter};
 ghost use Rattle.cap_run_log.specs.declared.heads.RunHead.TheVariants as heads;
 
 use crate::heads::RunHead;
-use crate::lines::{RunLine, RunPlace, RunStep};
+use crate::lines::{DeriveLine, ExchangeLine, RunLine, RunPlace, RunStep};
 use crate::parts::{Equals, Freed, Granule, Handed, One, Source, Special, Tag, Written};
 use cap_log::buffers::put;
-use cap_log::{Line, Part, Register, Target, take_line};
+use cap_log::{Line, Part, Register, Target, strip_word, take_line};
 use cap_streams::LINE_LIMIT;
 use cap_word::{Cap, Word};
+
+// What follows `derive`.
+type DeriveParts = (Written, (Source, Cap));
 
 // What follows `exchange`.
 type ExchangeParts = (
@@ -37,6 +42,34 @@ pub fn take_run_line(bytes: &[u8]) -> Option<(RunLine, &[u8])>
         Some((head, rest)) => take_run_operands(head, rest),
         None => take_usual(bytes),
     }
+}
+
+/// Takes an `exchange` line and its line feed from the front of some bytes, sooner than [`take_run_line`] does: what it says,
+/// and what follows it. `None` if no such line and a line feed stand there.
+#[inline(always)]
+pub fn take_exchange(bytes: &[u8]) -> Option<(ExchangeLine, &[u8])>
+    ensures some { IfSome result (λ p. Begins IsRunLineInRange run_spelling 10 bytes.now (exchange_line p.0) p.1.now) }
+    ensures none { IfNone result ((exchange : ExchangeIn) (rest : List ℕ)
+        → Begins IsRunLineInRange run_spelling 10 bytes.now (exchange_line exchange) rest → ⊥) }
+{
+    let Some(operands) = strip_word(bytes, b"exchange", b' ') else {
+        return None;
+    };
+    take_exchanged(operands)
+}
+
+/// Takes a `derive` line and its line feed from the front of some bytes, sooner than [`take_run_line`] does: what it says, and
+/// what follows it. `None` if no such line and a line feed stand there.
+#[inline(always)]
+pub fn take_derive(bytes: &[u8]) -> Option<(DeriveLine, &[u8])>
+    ensures some { IfSome result (λ p. Begins IsRunLineInRange run_spelling 10 bytes.now (derive_line p.0) p.1.now) }
+    ensures none { IfNone result ((derive : DeriveIn) (rest : List ℕ)
+        → Begins IsRunLineInRange run_spelling 10 bytes.now (derive_line derive) rest → ⊥) }
+{
+    let Some(operands) = strip_word(bytes, b"derive", b' ') else {
+        return None;
+    };
+    take_derived(operands)
 }
 
 /// Reads a line of a run log from its bytes, without its line feed: the line that they spell, or `None` if they spell none.
@@ -83,6 +116,7 @@ fn take_usual(bytes: &[u8]) -> Option<(RunLine, &[u8])>
 }
 
 // Takes the parts that follow a head and its space, with the line feed. `None` if no such line stands there.
+#[inline(always)]
 fn take_run_parts<P: Part>(head: RunHead, bytes: &[u8]) -> Option<(P, &[u8])>
     requires { StandsAfter head P.fits P.spelled }
     ensures some { IfSome result (λ p. Begins P.fits (λ parts. run_head_spelling head ++ 32 ∷ P.spelled parts) 10
@@ -109,13 +143,13 @@ fn take_run_operands(head: RunHead, bytes: &[u8]) -> Option<(RunLine, &[u8])>
             Some((RunLine::Root(place, word), rest))
         }
         RunHead::Derive => {
-            let ((target, (source, recorded)), rest) = take_run_parts::<(Written, (Source, Cap))>(
-                head, bytes,
-            )?;
-            let step = RunStep::Derive(target.0, source.0, recorded);
-            Some((RunLine::Run(step), rest))
+            let (derive, rest) = take_derived(bytes)?;
+            Some((RunLine::Run(derive.into_step()), rest))
         }
-        RunHead::Exchange => take_exchange(bytes),
+        RunHead::Exchange => {
+            let (exchange, rest) = take_exchanged(bytes)?;
+            Some((RunLine::Run(exchange.into_step()), rest))
+        }
         RunHead::Invoke => take_invoke(bytes),
         RunHead::Drop => {
             let (place, rest) = take_run_parts::<RunPlace>(head, bytes)?;
@@ -144,9 +178,30 @@ fn take_run_operands(head: RunHead, bytes: &[u8]) -> Option<(RunLine, &[u8])>
     }
 }
 
+// Takes what follows `derive` and its space.
+#[inline(always)]
+fn take_derived(bytes: &[u8]) -> Option<(DeriveLine, &[u8])>
+    ensures some { IfSome result (λ p. Begins IsRunLineInRange run_spelling 10 (run_head_spelling heads.Derive ++ 32 ∷ bytes.now)
+        (derive_line p.0) p.1.now) }
+    ensures none { IfNone result (BeginsWithNone IsRunLineInRange run_spelling 10 (run_head_spelling heads.Derive ++ 32 ∷ bytes.now)) }
+{
+    let Some((parts, rest)) = take_run_parts(RunHead::Derive, bytes) else {
+        return None;
+    };
+    let (target, (source, result)): DeriveParts = parts;
+    let derive = DeriveLine {
+        target: target.0,
+        source: source.0,
+        result,
+    };
+    Some((derive, rest))
+}
+
 // Takes what follows `exchange` and its space.
-fn take_exchange(bytes: &[u8]) -> Option<(RunLine, &[u8])>
-    ensures some { IfSome result (λ p. Begins IsRunLineInRange run_spelling 10 (run_head_spelling heads.Exchange ++ 32 ∷ bytes.now) p.0 p.1.now) }
+#[inline(always)]
+fn take_exchanged(bytes: &[u8]) -> Option<(ExchangeLine, &[u8])>
+    ensures some { IfSome result (λ p. Begins IsRunLineInRange run_spelling 10 (run_head_spelling heads.Exchange ++ 32 ∷ bytes.now)
+        (exchange_line p.0) p.1.now) }
     ensures none { IfNone result (BeginsWithNone IsRunLineInRange run_spelling 10 (run_head_spelling heads.Exchange ++ 32 ∷ bytes.now)) }
 {
     let Some((parts, rest)) = take_run_parts(RunHead::Exchange, bytes) else {
@@ -156,7 +211,7 @@ fn take_exchange(bytes: &[u8]) -> Option<(RunLine, &[u8])>
         target,
         (source, (special, (_equals, (tag, (word, (special_tag, special_word)))))),
     ): ExchangeParts = parts;
-    let step = RunStep::Exchange {
+    let exchange = ExchangeLine {
         target: target.number(),
         source: source.number(),
         special: special.0,
@@ -166,7 +221,7 @@ fn take_exchange(bytes: &[u8]) -> Option<(RunLine, &[u8])>
             word: special_word,
         },
     };
-    Some((RunLine::Run(step), rest))
+    Some((exchange, rest))
 }
 
 // Takes what follows `invoke` and its space.

@@ -1,0 +1,54 @@
+//! Derivations that no check refuses, told without decoding bounds.
+
+ghost use Rattle.std.specs.Prelude.{◌≡◌, ◌/◌, ◌^◌, None, true};
+ghost use Rattle.cap_machine.specs.Parents.{IsSoundCap};
+ghost use Rattle.cap_ops.specs.{Authority.StaysWithin, Checks.first_of, DerivedWords.derive_checks};
+ghost use Rattle.cap_run.specs.Moved.{IsMoved, IsOpenSentry};
+
+use cap_bounds::keeps_bounds;
+use cap_ops::{SENTRY_TYPE, UNSEALED_TYPE};
+use cap_word::{Cap, Word};
+
+// How far the type of a sentry lies below that of an unsealed word, in the half above the address.
+const SENTRY_BELOW: u64 = 1 << 27;
+
+// All of a word but its address.
+#[inline(always)]
+fn high_half(word: Word) -> u64
+    ensures { result ≡ word.0 / 2 ^ 64 }
+{
+    (word.0 >> 64) as u64
+}
+
+// Whether a word is an unsealed one at an address that keeps its bounds, unsealed too or as a sentry.
+#[inline(always)]
+fn is_moved(source: Word, word: Word) -> bool
+    ensures { result ≡ true → IsMoved source.0 word.0 }
+{
+    let high = high_half(word);
+    let source_high = high_half(source);
+    source.object_type() == UNSEALED_TYPE
+        && (high == source_high || high == source_high.wrapping_sub(SENTRY_BELOW))
+        && keeps_bounds(source, word.address())
+}
+
+// Whether a word is a sentry without its seal.
+#[inline(always)]
+fn is_open_sentry(source: Word, word: Word) -> bool
+    ensures { result ≡ true → IsOpenSentry source.0 word.0 }
+{
+    source.object_type() == SENTRY_TYPE
+        && word.address() == source.address()
+        && high_half(word) == high_half(source).wrapping_add(SENTRY_BELOW)
+}
+
+/// Whether a word is derived from a capability, where it has the same bounds and permissions: no check then refuses it.
+/// `false` says nothing.
+#[inline(always)]
+pub(crate) fn is_plainly_derived(source: Cap, word: Word, opens: bool) -> bool
+    requires sound { IsSoundCap source }
+    ensures checks { result ≡ true → first_of (derive_checks source word.0 opens) ≡ None }
+    ensures within { result ≡ true → StaysWithin (record { tag = true; word = word }) source }
+{
+    source.tag && (is_moved(source.word, word) || (opens && is_open_sentry(source.word, word)))
+}
