@@ -1,4 +1,5 @@
 mod Operands
 mod PartLemmas
 mod Rows
+mod SmallLemmas
 pub mod Spellings

@@ -13,4 +13,4 @@ mod writers;
 pub use crate::heads::RunHead;
 pub use crate::lines::{RunLine, RunPlace, RunRegister, RunStep};
 pub use crate::readers::{read_run_line, run_spellings_are_distinct, take_run_line};
-pub use crate::writers::write_run_line;
+pub use crate::writers::{write_exchange, write_run_line};
