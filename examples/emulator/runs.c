@@ -1,10 +1,10 @@
 /*
  * Judges run logs by each call of capcheck_judge.h for them, and prints the line that `capdiag run` prints:
  *
- *     runs run [--freed held|used|both] [--owned] LOG..
+ *     runs run [--freed held|used|both] [--owned] [--owners] LOG..
  *
  * A log is judged in memory by one call, and piece by piece, cut at every 1, 7 and 4096 bytes: each way must get the same
- * verdict. Without words, it tries what the calls answer of places, owners and objects. Status: 0 if each log got a
+ * verdict. Of the owners of granules it prints those below 0x20000. Without words, it tries what the calls answer of places, owners and objects. Status: 0 if each log got a
  * verdict and all ways agree. It is C and C++.
  */
 #include <capcheck_judge.h>
@@ -29,6 +29,52 @@ static const capcheck_asks usual = CAPCHECK_ASKS_HELD;
 static bool same(capcheck_run_answer a, capcheck_run_answer b) {
     return a.line == b.line && a.steps == b.steps && a.roots == b.roots && a.objects == b.objects && a.state == b.state &&
            a.refusal == b.refusal;
+}
+
+static capcheck_place at(uint8_t kind, uint64_t number) {
+    capcheck_place made;
+    made.kind = kind;
+    made.number = number;
+    return made;
+}
+
+static void print_owner(const capcheck_run_judge *judge, uint8_t kind, uint64_t number) {
+    uint32_t owner = capcheck_run_judge_owner(judge, at(kind, number));
+    unsigned long long shown = number;
+    if (owner == 0)
+        return;
+    if (kind == CAPCHECK_GRANULE)
+        printf("owner @%016llx %u\n", shown, (unsigned)owner);
+    else
+        printf("owner %s%llu %u\n", kind == CAPCHECK_REGISTER ? "c" : "scr", shown, (unsigned)owner);
+}
+
+/* Prints what `capdiag run --owners` prints after the verdict. */
+static void print_owners(const capcheck_run_judge *judge, uint32_t objects) {
+    uint32_t number;
+    uint64_t place;
+    for (number = 1; number <= objects; number++) {
+        capcheck_object object = capcheck_run_judge_object(judge, number);
+        if (object.state != CAPCHECK_NO_SUCH_OBJECT)
+            printf("object %u %llu %016llx %llx%016llx %s %llu\n", (unsigned)number, (unsigned long long)object.line,
+                   (unsigned long long)object.base, (unsigned long long)object.top.high, (unsigned long long)object.top.low,
+                   object.state == CAPCHECK_LIVE ? "live" : "freed", (unsigned long long)object.held);
+    }
+    for (place = 1; place < 32; place++)
+        print_owner(judge, CAPCHECK_REGISTER, place);
+    for (place = 0; place < 32; place++)
+        print_owner(judge, CAPCHECK_SPECIAL, place);
+    for (place = 0; place < 0x20000; place += 16)
+        print_owner(judge, CAPCHECK_GRANULE, place);
+}
+
+/* Passes a log in one piece, and prints the owners at its end. */
+static void owners_of(const char *log, size_t length, capcheck_asks asks, uint32_t objects) {
+    capcheck_run_judge judge = CAPCHECK_NO_RUN_JUDGE_YET;
+    EXPECT(capcheck_run_judge_open(&judge, asks) == CAPCHECK_GOES_ON);
+    EXPECT(capcheck_run_judge_lines(&judge, log, length).bytes == length);
+    print_owners(&judge, objects);
+    capcheck_run_judge_close(&judge);
 }
 
 /* Passes a log in pieces of a size, and returns the verdict. What was passed and not taken is passed again. */
@@ -65,7 +111,7 @@ static capcheck_run_answer in_pieces(const char *log, size_t length, size_t size
     return end;
 }
 
-static void judge_log(const char *log, size_t length, capcheck_asks asks) {
+static void judge_log(const char *log, size_t length, capcheck_asks asks, bool owners) {
     const size_t sizes[] = {1, 7, 4096};
     size_t i;
     capcheck_run_answer verdict = capcheck_run_judge_bytes((const uint8_t *)log, length, asks);
@@ -75,9 +121,11 @@ static void judge_log(const char *log, size_t length, capcheck_asks asks) {
         printf("yes %u %u %u\n", (unsigned)verdict.steps, (unsigned)verdict.roots, (unsigned)verdict.objects);
     else
         printf("no %llu %u %s\n", (unsigned long long)verdict.line, verdict.refusal, capcheck_refusal_text(verdict.refusal));
+    if (owners && verdict.state == CAPCHECK_YES)
+        owners_of(log, length, asks, verdict.objects);
 }
 
-static void judge_file(const char *path, capcheck_asks asks) {
+static void judge_file(const char *path, capcheck_asks asks, bool owners) {
     FILE *file = fopen(path, "rb");
     size_t length = 0, room = 1 << 20, got;
     char *log = (char *)malloc(room);
@@ -89,32 +137,28 @@ static void judge_file(const char *path, capcheck_asks asks) {
             exit(3);
     }
     fclose(file);
-    judge_log(log, length, asks);
+    judge_log(log, length, asks, owners);
     free(log);
 }
 
 static int judge_files(int count, char **words) {
     capcheck_asks asks = CAPCHECK_ASKS_HELD;
+    bool owners = false;
     int i;
     for (i = 2; i < count; i++) {
         if (strcmp(words[i], "--owned") == 0) {
             asks.owned = 1;
+        } else if (strcmp(words[i], "--owners") == 0) {
+            owners = true;
         } else if (strcmp(words[i], "--freed") == 0 && i + 1 < count) {
             const char *freed = words[++i];
             asks.held = strcmp(freed, "used") != 0;
             asks.used = strcmp(freed, "held") != 0;
         } else {
-            judge_file(words[i], asks);
+            judge_file(words[i], asks, owners);
         }
     }
     return failures == 0 ? 0 : 1;
-}
-
-static capcheck_place at(uint8_t kind, uint64_t number) {
-    capcheck_place made;
-    made.kind = kind;
-    made.number = number;
-    return made;
 }
 
 static uint8_t pass(capcheck_run_judge *judge, const char *lines) {
