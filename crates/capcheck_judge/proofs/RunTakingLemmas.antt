@@ -17,8 +17,8 @@ use Rattle.cap_run_judge.specs.Verdicts.{IsRunVerdict, Lacks, MayLackMemory, Ref
 use Rattle.cap_run_judge.proofs.{CountLemmas.goes_clear, EndLemmas.{end_told, fault_told, lacks_memory, refuses_next}, TurnLemmas.goes_on}
 use Rattle.cap_run_judge.proofs.OneVerdict.{Stops, one_reading, refused_stops}
 use Rattle.capcheck_judge.specs.declared.{answers.LinesTaken.LinesTaken, run_answers.RunAnswer.RunAnswer}
-use Rattle.capcheck_judge.specs.RunAnswers.{run_numbers_of, run_without_verdict}
-use Rattle.capcheck_judge.specs.RunHandles.{AnswersRunEnd, AnswersRunSoFar, run_behind}
+use Rattle.capcheck_judge.specs.RunAnswers.{run_numbers_of}
+use Rattle.capcheck_judge.specs.RunHandles.{AnswersRunEnd, AnswersRunSoFar}
 use Rattle.capcheck_judge.specs.RunHandles.{BeginsRun, FollowsRun, HandsOverRunLines, HeldRunJudge, HoldsRun, IsRunRefusedAfter, RunJudgeIn}
 use Rattle.capcheck_judge.specs.{RunTakings.TakesRunLines, Takings.state_at}
 use Rattle.capcheck_judge.proofs.TakingLemmas.{few_states, no_bytes, stop_of}
@@ -268,15 +268,6 @@ answered_no held judge asks_are bytes n refusal text answer is due numbers holds
   stands = no_stands asks_are bytes (stage_of judge) n refusal text (held_taken held asks_are bytes holds judge is) due;
 }
 
-pub answered_none : (held : HeldRunJudge) (judge : RunJudgeIn) (asks_are : Asks) (bytes : List ℕ) (answer : RunAnswer) → held ≡ Some judge
-    → (IsAtFault (stage_of judge).due → ⊥) → answer ≡ run_without_verdict 0 → HoldsRun held asks_are bytes
-    → AnswersRunSoFar asks_are bytes answer
-answered_none held judge asks_are bytes answer is clear numbers holds = record {
-  verdict = None;
-  numbers = numbers;
-  stands = (stage_of judge, clear_goes (unread asks_are) bytes (stage_of judge) (held_taken held asks_are bytes holds judge is) clear);
-}
-
 -- the verdict on them
 pub answered_end : (held : HeldRunJudge) (judge : RunJudgeIn) (asks_are : Asks) (bytes : List ℕ) (verdict : RunVerdict) (text : List ℕ)
     (answer : RunAnswer) → held ≡ Some judge → EndsIn (stage_of judge) [] verdict text → answer ≡ run_numbers_of verdict
@@ -286,11 +277,6 @@ answered_end held judge asks_are bytes verdict text answer is ends numbers holds
   numbers = numbers;
   is_verdict = ended_verdict asks_are bytes (stage_of judge) verdict text (held_taken held asks_are bytes holds judge is) ends;
 }
-
--- the run of its machine
-pub held_run : (held : HeldRunJudge) (asks_are : Asks) (bytes : List ℕ) (holds : HoldsRun held asks_are bytes) (judge : RunJudgeIn)
-    → held ≡ Some judge → (stage_of judge).run ≡ run_behind holds
-held_run held asks_are bytes holds judge is = ap (λ (j : RunJudgeIn). (stage_of j).run) (one_held held asks_are bytes holds judge is)
 
 -- a yes, and a no
 pub ended_yes : (held : HeldRunJudge) (judge : RunJudgeIn) (asks_are : Asks) (bytes : List ℕ) (verdict : RunVerdict) (answer : RunAnswer)

@@ -24,11 +24,6 @@ HeldRunJudge = Option RunJudgeIn
 abbrev pub run_held_in : RunHandle → HeldRunJudge
 run_held_in handle = handle.judge
 
--- how far the judge of a handle has read, where there is one: what is asked, the run so far, and what has to come next
-abbrev pub run_stage_in : HeldRunJudge → Option Stage
-run_stage_in None = None
-run_stage_in (Some judge) = Some (stage_of judge)
-
 -- the bytes lead from a stage to a stage: they are lines, or lines before what begins with a faulty one
 abbrev pub FollowsRun : Stage → List ℕ → Stage → Type 0
 FollowsRun old bytes new =
