@@ -39,6 +39,20 @@ static struct operands operands(void) {
     return made;
 }
 
+static capcheck_place register_of(uint64_t number) {
+    capcheck_place made;
+    made.number = number;
+    made.kind = CAPCHECK_REGISTER;
+    return made;
+}
+
+/* A register or a special register. */
+static capcheck_place place_of(const struct operands *it) {
+    capcheck_place made = register_of(it->target);
+    made.kind = it->source % 2 == 0 ? CAPCHECK_REGISTER : CAPCHECK_SPECIAL;
+    return made;
+}
+
 static size_t write_line(char *line, const char *kind, const struct operands *it) {
     uint64_t value = it->size == 8 ? it->number : it->number & ((UINT64_C(1) << 8 * it->size) - 1);
     if (strcmp(kind, "move") == 0)
@@ -53,6 +67,20 @@ static size_t write_line(char *line, const char *kind, const struct operands *it
         return capcheck_line_sc(line, it->source, it->source, it->offset);
     if (strcmp(kind, "load") == 0)
         return capcheck_line_load(line, it->source, it->offset, it->size, value);
+    if (strcmp(kind, "derive") == 0)
+        return capcheck_line_derive(line, place_of(it), register_of(it->source), it->cap);
+    if (strcmp(kind, "exchange") == 0)
+        return capcheck_line_exchange(line, it->target, it->source, it->number % 32, it->cap, it->cap);
+    if (strcmp(kind, "invoke") == 0)
+        return capcheck_line_invoke(line, it->target, it->source, it->cap.word, it->cap.word);
+    if (strcmp(kind, "drop") == 0)
+        return capcheck_line_drop(line, place_of(it));
+    if (strcmp(kind, "fill") == 0)
+        return capcheck_line_fill(line, it->number & ~UINT64_C(15), it->cap.word);
+    if (strcmp(kind, "object") == 0)
+        return capcheck_line_object(line, it->target, it->source % 2 == 0 ? 0 : it->number >> 32);
+    if (strcmp(kind, "free") == 0)
+        return it->number >> 32 == 0 ? capcheck_line_free(line, it->target, 0) : capcheck_line_free(line, 0, it->number >> 32);
     return capcheck_line_store(line, it->source, it->offset, it->size, value);
 }
 

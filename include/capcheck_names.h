@@ -37,6 +37,19 @@ static inline const char *capcheck_refusal_text(uint8_t number) {
     case 23: return "WrongResult";
     case 24: return "LimitPassed";
     case 25: return "BadMode";
+    case 28: return "Overlaps";
+    case 30: return "UnsoundResult";
+    case 31: return "BeyondSource";
+    case 32: return "SealChanged";
+    case 33: return "NotInvokable";
+    case 34: return "NoCapability";
+    case 35: return "HasOwner";
+    case 36: return "StillHeld";
+    case 37: return "NoOwner";
+    case 38: return "AlreadyFreed";
+    case 39: return "OwnerFreed";
+    case 40: return "NoObject";
+    case 41: return "NotOwned";
     case 255: return "BadArgument";
     default: return "";
     }
@@ -70,6 +83,19 @@ static inline const char *capcheck_refusal_sentence_text(uint8_t number) {
     case 23: return "The recorded result or value isn't the machine's.";
     case 24: return "A limit on roots, granules or steps is passed.";
     case 25: return "The line after the version line of version 2 is no mode line.";
+    case 28: return "The extent shares an address with that of a live object.";
+    case 30: return "The recorded word isn't sound.";
+    case 31: return "The word has bounds or permissions beyond its source's.";
+    case 32: return "The seal isn't kept.";
+    case 33: return "The two registers hold no pair for CInvoke.";
+    case 34: return "The register has no tag, or is sealed where it has to be unsealed.";
+    case 35: return "The register has an owner already.";
+    case 36: return "A capability of a freed object still reaches the memory that is handed out.";
+    case 37: return "No object owns what is freed.";
+    case 38: return "The object was freed before.";
+    case 39: return "The object that owns the authority of the access was freed.";
+    case 40: return "No object with this number was handed out.";
+    case 41: return "The authority of the access has no owner, and a byte of a live object is touched.";
     default: return "";
     }
 }
@@ -121,6 +147,15 @@ static inline const char *capcheck_kind_text(uint8_t number) {
     case 15: return "load";
     case 16: return "store";
     case 17: return "end";
+    case 18: return "derive";
+    case 19: return "exchange";
+    case 20: return "invoke";
+    case 21: return "drop";
+    case 22: return "fill";
+    case 23: return "object";
+    case 24: return "free";
+    case 25: return "run";
+    case 26: return "root";
     default: return "";
     }
 }
@@ -145,6 +180,15 @@ static inline const char *capcheck_kind_sentence_text(uint8_t number) {
     case 15: return "Loads data.";
     case 16: return "Stores data, and clears the tag of the granule.";
     case 17: return "The last line: the number of steps.";
+    case 18: return "Derives a capability, judged only to be no wider than its source.";
+    case 19: return "Exchanges a special register: a call, or CSpecialRW.";
+    case 20: return "Calls by a pair of sealed capabilities, CInvoke.";
+    case 21: return "Removes the tag of a place.";
+    case 22: return "Fills a granule from outside, without a tag.";
+    case 23: return "Hands out an object, or widens one.";
+    case 24: return "Frees an object.";
+    case 25: return "The first line of a run log: its version.";
+    case 26: return "A capability that a special register holds at the start.";
     default: return "";
     }
 }

@@ -30,6 +30,12 @@ LEFT_OUT = {
     "capcheck_judge_report": "capcheck_judge_end_report", "capcheck_judge_text": "capcheck_judge_end_report",
     "CAPCHECK_VERSION": "capcheck_version", "CAPCHECK_NOT_REFUSED": "no Refusal", "CAPCHECK_KIND_NONE": "no Kind",
     "CAPCHECK_EXPECTS_NOTHING": "None", "CAPCHECK_NO_PLACE": "None", "CAPCHECK_OTYPE_GREATEST": "capcheck_seal",
+    # The package declares the calls for run logs, and doesn't use them.
+    **{f"CAPCHECK_{it}": "run logs" for it in
+       ("SPECIAL", "NO_SUCH_OBJECT", "LIVE", "FREED", "OVERLAPS", "UNSOUND_RESULT", "BEYOND_SOURCE", "SEAL_CHANGED",
+        "NOT_INVOKABLE", "NO_CAPABILITY", "HAS_OWNER", "STILL_HELD", "NO_OWNER", "ALREADY_FREED", "OWNER_FREED", "NO_OBJECT",
+        "NOT_OWNED", "KIND_DERIVE", "KIND_EXCHANGE", "KIND_INVOKE", "KIND_DROP", "KIND_FILL", "KIND_OBJECT", "KIND_FREE",
+        "KIND_RUN_VERSION", "KIND_ROOT_SPECIAL")},
 }
 NUMBERS = {"uint64_t": c.c_uint64, "int64_t": c.c_int64, "uint32_t": c.c_uint32, "uint16_t": c.c_uint16, "size_t": c.c_size_t,
            "int16_t": c.c_int16, "uint8_t": c.c_uint8, "bool": c.c_bool, "void": None}

@@ -21,7 +21,12 @@ LEFT_OUT = {
     "capcheck_read_lines": "capcheck_read_line", "capcheck_read": "capcheck_read_line", "capcheck_kind_name": "an enum",
     "capcheck_kind_sentence": "an enum", "capcheck_state_name": "an enum", "capcheck_state_sentence": "an enum",
     "capcheck_judge_report": "capcheck_judge_end_report", "capcheck_judge_text": "a debugger's",
-    "capcheck_judge_memory": "the judge uses malloc",
+    "capcheck_judge_memory": "the judge uses malloc", "capcheck_run_line": "run logs", "capcheck_read_run_line": "run logs",
+    **{f"capcheck_line_{it}": "run logs" for it in
+       ("run_version", "root_special", "derive", "exchange", "invoke", "drop", "fill", "object", "free")},
+    **{f"capcheck_run_judge{it}": "run logs" for it in
+       ("", "_bytes", "_open", "_lines", "_answer", "_end", "_held", "_owner", "_object", "_close")},
+    "capcheck_asks": "run logs", "capcheck_run_answer": "run logs", "capcheck_object": "run logs",
 }
 NUMBERS = {"uint64_t": "u64", "int64_t": "i64", "uint32_t": "u32", "uint16_t": "u16", "size_t": "usize", "int16_t": "i16",
            "uint8_t": "u8", "char": "u8", "bool": "bool", "void": "c_void"}

@@ -97,6 +97,17 @@ if command -v valgrind > "$work/found"; then
     quietly valgrind -q --leak-check=full --error-exitcode=9 "$work/judging" $logs
 fi
 
+# The judge of run logs: what it answers of places and objects, and its verdicts on the conformance corpus, as C and as C++.
+for compiler in "${CC:-cc} -std=c99" "${CXX:-c++} -std=c++11 -x c++"; do
+    command -v "${compiler%% *}" > "$work/found" || continue
+    quietly $compiler $strict -Wconversion examples/emulator/runs.c -x none $libraries -o "$work/runs"
+    quietly "$work/runs"
+    quietly python3 conformance/run "$work/runs" runs
+done
+if command -v valgrind > "$work/found"; then
+    quietly valgrind -q --leak-check=full --error-exitcode=9 "$work/runs"
+fi
+
 # The judge without a heap wants nothing of a C library but three functions, and prints of each log what the program does.
 ${NM:-nm} -u "$lent" | sed -n 's/^ *U //p' | sort -u > "$work/wants"
 ${NM:-nm} --defined-only "$lent" | sed -nE 's/^[0-9a-f]+ [A-Z] //p' | sort -u > "$work/has"

@@ -8,9 +8,14 @@
  *     revoker early | capdiag run    memory is handed out again before the sweep
  *
  * In the last two a freed object's capability survives where its memory is handed out again, and the judge names that
- * line: `StillHeld`.
+ * line: `StillHeld`. Built with JUDGED and linked with the judge, the machine passes each line to the judge, stops at that
+ * very line, and says which places still hold a freed object.
  */
+#ifdef JUDGED
+#include <capcheck_judge.h>
+#else
 #include <capcheck.h>
+#endif
 
 #include <inttypes.h>
 #include <stdio.h>
@@ -49,76 +54,120 @@ static unsigned drawn(unsigned below) {
 
 /* ---- The log ---- */
 
-static void print_word(capcheck_word word) { fputs(capcheck_text_of(word).digits, stdout); }
+static capcheck_place place_of(uint8_t kind, int number) {
+    return (capcheck_place){.number = (uint64_t)number, .kind = kind};
+}
 
-/* Writes a line of a step that version 2 has, too, as the library wrote it. */
+#ifdef JUDGED
+static capcheck_run_judge judge = CAPCHECK_NO_RUN_JUDGE_YET;
+
+static void open_judge(void) {
+    static const capcheck_asks asks = CAPCHECK_ASKS_HELD;
+    if (capcheck_run_judge_open(&judge, asks) != CAPCHECK_GOES_ON)
+        exit(3);
+}
+
+static void print_holder(const char *name, uint8_t kind, int number) {
+    uint32_t owner = capcheck_run_judge_owner(&judge, place_of(kind, number));
+    if (owner != 0 && capcheck_run_judge_object(&judge, owner).state == CAPCHECK_FREED)
+        fprintf(stderr, "revoker: %s%d still holds object %" PRIu32 "\n", name, number, owner);
+}
+
+/* Passes a line to the judge. At the first faulty one, says which registers still hold a freed object, and stops. */
+static void judge_line(const char *line, size_t length) {
+    capcheck_run_answer no;
+    if (capcheck_run_judge_lines(&judge, line, length).state == CAPCHECK_GOES_ON)
+        return;
+    no = capcheck_run_judge_answer(&judge);
+    fprintf(stderr, "revoker: stopped at line %" PRIu64 ": %s\n", no.line, capcheck_refusal_text(no.refusal));
+    for (int number = 1; number < 32; number++)
+        print_holder("c", CAPCHECK_REGISTER, number);
+    for (int number = 0; number < SPECIALS; number++)
+        print_holder("scr", CAPCHECK_SPECIAL, number);
+    exit(1);
+}
+#else
+static void open_judge(void) {}
+static void judge_line(const char *line, size_t length) { (void)line, (void)length; }
+#endif
+
+/* Writes a line as the library wrote it. */
 static void put_line(const char *line, size_t length) {
     fwrite(line, 1, length, stdout);
+    judge_line(line, length);
+}
+
+static void put_step(const char *line, size_t length) {
+    put_line(line, length);
     steps++;
 }
 
 static void log_object(int number) {
-    printf("object c%d\n", number);
-    steps++;
+    char line[CAPCHECK_LINE_SIZE];
+    put_step(line, capcheck_line_object(line, (uint64_t)number, 0));
 }
 
 static void log_free(int number) {
-    printf("free c%d\n", number);
-    steps++;
+    char line[CAPCHECK_LINE_SIZE];
+    put_step(line, capcheck_line_free(line, (uint64_t)number, 0));
 }
 
 /* ---- Steps of the machine ---- */
 
 static void derive_special(int number, int source) {
+    char line[CAPCHECK_LINE_SIZE];
     specials[number] = registers[source];
-    printf("derive scr%d c%d = %d ", number, source, specials[number].tag);
-    print_word(specials[number].word);
-    putchar('\n');
-    steps++;
+    put_step(line, capcheck_line_derive(line, place_of(CAPCHECK_SPECIAL, number), place_of(CAPCHECK_REGISTER, source),
+                                        specials[number]));
 }
 
 static void read_special(int target, int number) {
+    char line[CAPCHECK_LINE_SIZE];
     registers[target] = specials[number];
-    printf("derive c%d scr%d = %d ", target, number, registers[target].tag);
-    print_word(registers[target].word);
-    putchar('\n');
-    steps++;
+    put_step(line, capcheck_line_derive(line, place_of(CAPCHECK_REGISTER, target), place_of(CAPCHECK_SPECIAL, number),
+                                        registers[target]));
+}
+
+static void drop_special(int number) {
+    char line[CAPCHECK_LINE_SIZE];
+    specials[number].tag = 0;
+    put_step(line, capcheck_line_drop(line, place_of(CAPCHECK_SPECIAL, number)));
 }
 
 static void move(int target, int source) {
     char line[CAPCHECK_LINE_SIZE];
     registers[target] = registers[source];
-    put_line(line, capcheck_line_move(line, target, source, registers[target]));
+    put_step(line, capcheck_line_move(line, target, source, registers[target]));
 }
 
 static void set_address(int target, int source, uint64_t address) {
     char line[CAPCHECK_LINE_SIZE];
     registers[target] = capcheck_set_addr_clear(registers[source], address);
-    put_line(line, capcheck_line_setaddr(line, target, source, address, registers[target]));
+    put_step(line, capcheck_line_setaddr(line, target, source, address, registers[target]));
 }
 
 static void set_bounds(int target, int source, uint64_t length) {
     char line[CAPCHECK_LINE_SIZE];
     registers[target] = capcheck_set_bounds_clear(registers[source], length, 0);
-    put_line(line, capcheck_line_setbounds(line, target, source, length, registers[target]));
+    put_step(line, capcheck_line_setbounds(line, target, source, length, registers[target]));
 }
 
 static void clear_tag(int target, int source) {
     char line[CAPCHECK_LINE_SIZE];
     registers[target] = capcheck_clear_tag(registers[source]);
-    put_line(line, capcheck_line_cleartag(line, target, source, registers[target]));
+    put_step(line, capcheck_line_cleartag(line, target, source, registers[target]));
 }
 
 static void store_capability(int source, int granule) {
     char line[CAPCHECK_LINE_SIZE];
     stack[granule] = registers[source];
-    put_line(line, capcheck_line_sc(line, source, STACK, granule * GRANULE));
+    put_step(line, capcheck_line_sc(line, source, STACK, granule * GRANULE));
 }
 
 static void load_capability(int target, int granule) {
     char line[CAPCHECK_LINE_SIZE];
     registers[target] = capcheck_loaded(registers[STACK], stack[granule]);
-    put_line(line, capcheck_line_lc(line, target, STACK, granule * GRANULE, registers[target]));
+    put_step(line, capcheck_line_lc(line, target, STACK, granule * GRANULE, registers[target]));
 }
 
 /* ---- The allocator and its revoker ---- */
@@ -143,11 +192,8 @@ static void sweep(void) {
         if (number != STACK && is_stale(registers[number]))
             clear_tag(number, number);
     for (int number = 0; !skips && number < SPECIALS; number++)
-        if (is_stale(specials[number])) {
-            specials[number].tag = 0;
-            printf("drop scr%d\n", number);
-            steps++;
-        }
+        if (is_stale(specials[number]))
+            drop_special(number);
     for (int granule = 0; granule < STACK_GRANULES; granule++)
         if (is_stale(stack[granule])) {
             load_capability(SWEPT, granule);
@@ -232,6 +278,7 @@ static capcheck_cap root_of(uint64_t base, uint64_t length) {
 }
 
 int main(int count, char **words) {
+    char line[CAPCHECK_LINE_SIZE];
     skips = count == 2 && strcmp(words[1], "skips") == 0;
     early = count == 2 && strcmp(words[1], "early") == 0;
     if (count > 2 || (count == 2 && !skips && !early)) {
@@ -244,11 +291,13 @@ int main(int count, char **words) {
         stack[granule].word = capcheck_null();
     registers[ROOT] = root_of(HEAP_BASE, SLOTS * SLOT);
     registers[STACK] = root_of(STACK_BASE, STACK_GRANULES * GRANULE);
-    fputs("run 1\nmode clear\n", stdout);
-    printf("root c%d %s\n", ROOT, capcheck_text_of(registers[ROOT].word).digits);
-    printf("root c%d %s\n", STACK, capcheck_text_of(registers[STACK].word).digits);
+    open_judge();
+    put_line(line, capcheck_line_run_version(line));
+    put_line(line, capcheck_line_mode(line, 1));
+    put_line(line, capcheck_line_root(line, ROOT, registers[ROOT].word));
+    put_line(line, capcheck_line_root(line, STACK, registers[STACK].word));
     for (int round = 0; round < ROUNDS; round++)
         work();
-    printf("end %lu\n", steps);
+    put_line(line, capcheck_line_end(line, steps));
     return fflush(stdout) != 0 || ferror(stdout) ? 2 : 0;
 }

@@ -67,6 +67,14 @@ class Line(c.Structure):
                 ("source", u8), ("authority", u8), ("size", u8)]
 
 
+class Place(c.Structure):
+    _fields_ = [("number", u64), ("kind", u8)]
+
+
+class RunLine(c.Structure):
+    _fields_ = [("line", Line), ("second", Cap), ("target", Place), ("source", Place)]
+
+
 class Read(c.Structure):
     _fields_ = [("lines", u64), ("bytes", u64)]
 
@@ -87,12 +95,24 @@ class OptionalCap(c.Structure):
     _fields_ = [("cap", Cap), ("present", u8)]
 
 
-class Place(c.Structure):
-    _fields_ = [("number", u64), ("kind", u8)]
-
-
 class Expected(c.Structure):
     _fields_ = [("cap", Cap), ("number", u64), ("size", u8), ("kind", u8)]
+
+
+class RunJudge(c.Structure):
+    _fields_ = [("at", pointer), ("held", flag)]
+
+
+class Asks(c.Structure):
+    _fields_ = [("held", u8), ("used", u8), ("owned", u8)]
+
+
+class RunAnswer(c.Structure):
+    _fields_ = [("line", u64), ("steps", u32), ("roots", u32), ("objects", u32), ("state", u8), ("refusal", u8)]
+
+
+class Object(c.Structure):
+    _fields_ = [("base", u64), ("top", Wide), ("held", u64), ("line", u64), ("state", u8)]
 
 
 class Slot(c.Structure):
@@ -126,6 +146,11 @@ LINES: dict[str, tuple] = {
     for name, numbers in _NUMBERS.items()}
 LINES["root"] += (Wide,)
 LINES["root_at"] += (Wide,)
+# Those of the lines that only run logs have.
+RUN_LINES: dict[str, tuple] = {
+    "run_version": (), "root_special": (u64, Wide), "derive": (Place, Place, Cap), "exchange": (u64, u64, u64, Cap, Cap),
+    "invoke": (u64, u64, Wide, Wide), "drop": (Place,), "fill": (u64, Wide), "object": (u64, u64), "free": (u64, u64),
+}
 STEPS = {name: types for name, types in LINES.items() if name not in ("version", "mode", "root", "root_at", "end")}
 # The result and the arguments of each call, by its name without `capcheck_`, `capcheck_line_` or `capcheck_judge_`.
 WORDS: dict[str, tuple] = {
@@ -145,6 +170,7 @@ WORDS: dict[str, tuple] = {
     "may_load": (Access, Cap, i64, u64), "may_store": (Access, Cap, i64, u64), "may_load_cap": (Access, Cap, i64),
     "may_store_cap": (Access, Cap, i64, Cap), "loaded": (Cap, Cap, Cap),
     "read_line": (Line, pointer, size), "read_lines": (Read, pointer, size, c.POINTER(Line), size),
+    "read_run_line": (RunLine, pointer, size),
 }
 _judge = c.POINTER(Judge)
 JUDGE: dict[str, tuple] = {
@@ -152,6 +178,12 @@ JUDGE: dict[str, tuple] = {
     "answer": (Answer, _judge), "end": (Answer, _judge), "register": (OptionalCap, _judge, u64),
     "granule": (OptionalCap, _judge, u64), "origin": (Place, _judge, Place), "expected": (Expected, _judge),
     "end_report": (u64, _judge, text, size), "close": (None, _judge),
+}
+_run_judge = c.POINTER(RunJudge)
+RUN_JUDGE: dict[str, tuple] = {
+    "open": (u8, _run_judge, Asks), "lines": (Taken, _run_judge, pointer, size), "answer": (RunAnswer, _run_judge),
+    "end": (RunAnswer, _run_judge), "held": (OptionalCap, _run_judge, Place), "owner": (u32, _run_judge, Place),
+    "object": (Object, _run_judge, u32), "close": (None, _run_judge),
 }
 
 
@@ -208,8 +240,10 @@ def refused(name: str, values: tuple) -> ValueError:
 
 
 _declare(words, "capcheck_", WORDS)
-_declare(words, "capcheck_line_", {name: (size, text, *numbers) for name, numbers in LINES.items()})
+_declare(words, "capcheck_line_", {name: (size, text, *numbers) for name, numbers in (LINES | RUN_LINES).items()})
 _declare(judges, "capcheck_judge_", JUDGE)
 _declare(judges, "capcheck_judge_", {name: (u8, _judge, *numbers) for name, numbers in STEPS.items()})
+_declare(judges, "capcheck_run_judge_", RUN_JUDGE)
 _declare(whole_logs, "capcheck_judge_", {"bytes": (Answer, pointer, size)})
+_declare(whole_logs, "capcheck_run_judge_", {"bytes": (RunAnswer, pointer, size, Asks)})
 _declare(freestanding, "capcheck_judge_", {"why": (Why, flag, text, size, c.POINTER(Slot), size, text, size)})

@@ -1,2 +1,3 @@
 pub mod Passed
+pub mod PassedRuns
 pub mod PassedSteps

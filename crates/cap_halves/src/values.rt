@@ -1,4 +1,4 @@
-//! What passes between C and the libraries for C: numbers of 128 bits, and capabilities.
+//! What passes between C and the libraries for C: numbers of 128 bits, capabilities, and places.
 
 /// A number of 128 bits as its two halves: a word in the register layout, or a number of more than 64
 /// bits (in C `capcheck_word` and `capcheck_wide`).
@@ -19,4 +19,15 @@ pub struct Capability {
     pub word: Halves,
     /// Its tag: any number but 0 is one, and 1 in results.
     pub tag: u8,
+}
+
+/// A place of a machine, or none (in C `capcheck_place`).
+#[repr(C)]
+#[derive(Debug, Clone, Copy, PartialEq, Eq)]
+pub struct PassedPlace {
+    /// The number of a register, or an address in a granule; in a result the granule's first address, and 0 where
+    /// there is no place.
+    pub number: u64,
+    /// 1 for a general-purpose register, 2 for a granule, 3 for a special register, and 0 where there is none.
+    pub kind: u8,
 }

@@ -15,7 +15,7 @@ use Rattle.cap_run_judge.proofs.GuardLemmas.{guarded_by, read_allowed}
 use Rattle.cap_run_judge.proofs.CountLemmas.{count_read, goes_clear}
 
 -- what is refused stays refused whatever follows
-refuses_next : (stage : Stage) (rest : List ℕ) (refusal : RunRefusal) → RefusesNext stage rest refusal → (more : List ℕ)
+pub refuses_next : (stage : Stage) (rest : List ℕ) (refusal : RunRefusal) → RefusesNext stage rest refusal → (more : List ℕ)
     → Refuses stage (rest ++ more) refusal
 refuses_next stage rest refusal (inl (text, tail, whole, refused)) more =
     inr (inr (text, tail ++ more, IsLine-more rest text tail more whole, refused))

@@ -1,9 +1,9 @@
 mod GuardLemmas
-mod TurnLemmas
-mod CountLemmas
-mod EndLemmas
+pub mod TurnLemmas
+pub mod CountLemmas
+pub mod EndLemmas
 mod SourceLemmas
 mod TextLemmas
-mod OneVerdict
+pub mod OneVerdict
 mod OwnerLemmas
 pub mod RunReportLemmas

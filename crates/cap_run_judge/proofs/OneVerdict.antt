@@ -24,7 +24,7 @@ one_form text None (Some line) h k = absurd (h line k.0 k.1)
 one_form text None None h k = refl
 
 -- no line that is allowed stands at the front of the bytes
-abbrev Stops : Stage → List ℕ → Type 0
+abbrev pub Stops : Stage → List ℕ → Type 0
 Stops stage rest = (line : RunLine) (more : List ℕ) → IsRunLineInRange line → Allows stage line → rest ≡ run_spelling line ++ 10 ∷ more → ⊥
 
 -- the first line of a text
@@ -41,7 +41,7 @@ same_front line other more rest range range' same =
     (one_run_spelling (run_spelling line) line other (range, refl) (range', both.0), both.1)
 
 -- two readings of the same bytes that stop are one
-one_reading : (from to to' : Stage) (lines lines' : List RunLine) (rest rest' : List ℕ)
+pub one_reading : (from to to' : Stage) (lines lines' : List RunLine) (rest rest' : List ℕ)
     → AllByRecursion IsRunLineInRange lines → AllByRecursion IsRunLineInRange lines' → Reads from lines to → Reads from lines' to'
     → Stops to rest → Stops to' rest' → text_of lines ++ rest ≡ text_of lines' ++ rest'
     → (lines ≡ lines') × (rest ≡ rest') × (to ≡ to')
@@ -85,7 +85,7 @@ one_refusal stage rest a b (inl h) (inr (inl k)) = absurd (IsTooLong-not_cut res
 one_refusal stage rest a b (inr (inl h)) (inl k) = absurd (IsTooLong-not_cut rest k.0 h.0)
 
 -- where a line is refused, the reading stops
-refused_stops : (stage : Stage) (rest : List ℕ) (refusal : RunRefusal) → Refuses stage rest refusal → Stops stage rest
+pub refused_stops : (stage : Stage) (rest : List ℕ) (refusal : RunRefusal) → Refuses stage rest refusal → Stops stage rest
 refused_stops stage rest refusal refused line more range allowed is =
     let whole = subst (λ (bytes : List ℕ). IsLine bytes (run_spelling line) more) (sym is) (IsLine-run_spelling line range more) in
     let found = front_refused stage rest (run_spelling line) more refusal whole refused in

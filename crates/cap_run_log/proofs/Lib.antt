@@ -2,4 +2,5 @@ mod ExchangeLemmas
 mod Operands
 mod PartLemmas
 mod Rows
+mod SmallLemmas
 pub mod Spellings

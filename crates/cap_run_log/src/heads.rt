@@ -56,12 +56,14 @@ impl Part for RunHead {
         None
     }
 
+    #[inline(always)]
     fn write(&self, buffer: &mut [u8], at: usize) -> usize {
         put(buffer, at, run_head_text(*self))
     }
 }
 
 // The first word of such a line.
+#[inline(always)]
 fn run_head_text(head: RunHead) -> &'static [u8]
     ensures { result.now ≡ run_head_spelling head }
 {

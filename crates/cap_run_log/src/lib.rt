@@ -15,4 +15,4 @@ pub use crate::lines::{DeriveLine, ExchangeLine, RunLine, RunPlace, RunRegister,
 pub use crate::readers::{
     read_run_line, run_spellings_are_distinct, take_derive, take_exchange, take_run_line,
 };
-pub use crate::writers::write_run_line;
+pub use crate::writers::{write_exchange, write_run_line};

@@ -29,9 +29,10 @@ impl Part for Special {
         Some((Special(number as u8), rest))
     }
 
+    #[inline(always)]
     fn write(&self, buffer: &mut [u8], at: usize) -> usize {
         let digits = put(buffer, at, b"scr");
-        put_decimal(buffer, digits, u64::from(self.0))
+        put_small(buffer, digits, self.0)
     }
 }
 
@@ -59,6 +60,7 @@ impl Part for Source {
         Some((Source(RunRegister::General(general.number())), rest))
     }
 
+    #[inline(always)]
     fn write(&self, buffer: &mut [u8], at: usize) -> usize {
         write_run_register(buffer, at, self.0)
     }
@@ -88,6 +90,7 @@ impl Part for Written {
         Some((Written(RunRegister::General(general.number())), rest))
     }
 
+    #[inline(always)]
     fn write(&self, buffer: &mut [u8], at: usize) -> usize {
         write_run_register(buffer, at, self.0)
     }
@@ -116,6 +119,7 @@ impl Part for Granule {
         }
     }
 
+    #[inline(always)]
     fn write(&self, buffer: &mut [u8], at: usize) -> usize {
         let digits = put(buffer, at, b"@");
         (16 * self.0).write(buffer, digits)
@@ -144,6 +148,7 @@ impl Part for RunPlace {
         Some((RunPlace::General(target.number()), rest))
     }
 
+    #[inline(always)]
     fn write(&self, buffer: &mut [u8], at: usize) -> usize {
         match *self {
             RunPlace::General(number) => write_register(buffer, at, number),
@@ -172,6 +177,7 @@ impl Part for Equals {
         Some((Equals, rest))
     }
 
+    #[inline(always)]
     fn write(&self, buffer: &mut [u8], at: usize) -> usize {
         put(buffer, at, b"=")
     }
@@ -195,6 +201,7 @@ impl Part for One {
         Some((One, rest))
     }
 
+    #[inline(always)]
     fn write(&self, buffer: &mut [u8], at: usize) -> usize {
         put(buffer, at, b"1")
     }
@@ -218,6 +225,7 @@ impl Part for Tag {
         Some((Tag(false), rest))
     }
 
+    #[inline(always)]
     fn write(&self, buffer: &mut [u8], at: usize) -> usize {
         put(buffer, at, if self.0 { b"1" } else { b"0" })
     }
@@ -241,6 +249,7 @@ impl Part for ObjectNumber {
         Some((ObjectNumber(number), rest))
     }
 
+    #[inline(always)]
     fn write(&self, buffer: &mut [u8], at: usize) -> usize {
         put_decimal(buffer, at, u64::from(self.0))
     }
@@ -270,6 +279,7 @@ impl Part for Handed {
         Some((Handed::Numbered(pair.0.number(), pair.1.0), rest))
     }
 
+    #[inline(always)]
     fn write(&self, buffer: &mut [u8], at: usize) -> usize {
         match *self {
             Handed::Alone(register) => write_register(buffer, at, register),
@@ -306,6 +316,7 @@ impl Part for Freed {
         Some((Freed::Number(number.0), rest))
     }
 
+    #[inline(always)]
     fn write(&self, buffer: &mut [u8], at: usize) -> usize {
         match *self {
             Freed::Owner(register) => write_register(buffer, at, register),
@@ -315,6 +326,7 @@ impl Part for Freed {
 }
 
 // Writes the name of a register.
+#[inline(always)]
 fn write_run_register(buffer: &mut [u8], at: usize, register: RunRegister) -> usize
     requires fits { IsRunRegister 0 register }
     requires room { at + length (run_register_spelling register) ≤ length buffer.old }
@@ -327,10 +339,26 @@ fn write_run_register(buffer: &mut [u8], at: usize, register: RunRegister) -> us
 }
 
 // Writes the name of a general-purpose register.
+#[inline(always)]
 fn write_register(buffer: &mut [u8], at: usize, number: u8) -> usize
     requires { at + length (register_spelling number) ≤ length buffer.old }
     ensures { Writes at (register_spelling number) buffer.old buffer.new result }
 {
     let digits = put(buffer, at, b"c");
-    put_decimal(buffer, digits, u64::from(number))
+    put_small(buffer, digits, number)
+}
+
+// Writes a number in decimal: at once if it has one digit or two.
+#[inline(always)]
+fn put_small(buffer: &mut [u8], at: usize, number: u8) -> usize
+    requires { at + length (decimal number) ≤ length buffer.old }
+    ensures { Writes at (decimal number) buffer.old buffer.new result }
+{
+    if number < 10 {
+        put(buffer, at, &[b'0' + number])
+    } else if number < 100 {
+        put(buffer, at, &[b'0' + number / 10, b'0' + number % 10])
+    } else {
+        put_decimal(buffer, at, u64::from(number))
+    }
 }

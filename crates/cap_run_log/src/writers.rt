@@ -6,15 +6,18 @@ ghost use Rattle.std.specs.Prelude.{◌≡◌, ◌≤◌, ◌∷◌, ◌++◌, l
 ghost use Rattle.cap_streams.specs.Written.{Writes};
 ghost use Rattle.cap_run_log.specs.{RunHeads.run_head_spelling, RunLines.{IsRunLineAt, IsRunLineInRange, IsRunStepInRange, run_spelling}};
 ghost use Rattle.cap_run_log.specs.declared.lines.RunLine.TheVariants as lines;
+ghost use Rattle.cap_run_log.specs.declared.lines.RunStep.TheVariants as steps;
 
 use crate::heads::RunHead;
 use crate::lines::{RunLine, RunRegister, RunStep};
 use crate::parts::{Equals, Freed, Granule, Handed, One, Source, Special, Tag, Written};
 use cap_log::buffers::put;
 use cap_log::{Line, Part, write_line};
+use cap_word::Cap;
 
 /// Writes a line of a run log and its line feed at the front of the buffer, and returns how many bytes they are. The line's
 /// numbers have to be in their ranges. The rest of the buffer stays as it was.
+#[inline(always)]
 pub fn write_run_line(line: &RunLine, buffer: &mut [u8; 96]) -> usize
     requires { IsRunLineInRange line.now }
     ensures line { IsRunLineAt line.now buffer.old buffer.new result }
@@ -30,7 +33,42 @@ pub fn write_run_line(line: &RunLine, buffer: &mut [u8; 96]) -> usize
     }
 }
 
+/// Writes the line of an `exchange` and its line feed, as [`write_run_line`] does, and asks for no other kind: a target, a
+/// source, a special register, and what the target and the special register hold then.
+#[inline(always)]
+pub fn write_exchange(
+    target: u8,
+    source: u8,
+    special: u8,
+    recorded: Cap,
+    special_recorded: Cap,
+    buffer: &mut [u8; 96],
+) -> usize
+    requires { IsRunStepInRange (steps.Exchange target source special recorded special_recorded) }
+    ensures line { IsRunLineAt (lines.Run (steps.Exchange target source special recorded special_recorded)) buffer.old buffer.new result }
+{
+    let line = RunLine::Run(RunStep::Exchange {
+        target,
+        source,
+        special,
+        result: recorded,
+        special_result: special_recorded,
+    });
+    let second = (Tag(special_recorded.tag), special_recorded.word);
+    let results = (Tag(recorded.tag), (recorded.word, second));
+    let special = (Special(special), (Equals, results));
+    let source = Source(RunRegister::General(source));
+    let target = Written(RunRegister::General(target));
+    end_line(
+        &line,
+        RunHead::Exchange,
+        (target, (source, special)),
+        buffer,
+    )
+}
+
 // Writes a line by its head and the parts after it, with a line feed.
+#[inline(always)]
 fn end_line<P: Part>(line: &RunLine, head: RunHead, parts: P, buffer: &mut [u8; 96]) -> usize
     requires in_range { IsRunLineInRange line.now }
     requires fits { P.fits parts }
@@ -42,6 +80,7 @@ fn end_line<P: Part>(line: &RunLine, head: RunHead, parts: P, buffer: &mut [u8; 
 }
 
 // Writes a step that only runs have.
+#[inline(always)]
 fn write_run_step(line: &RunLine, step: RunStep, buffer: &mut [u8; 96]) -> usize
     requires same { line.now ≡ lines.Run step }
     requires in_range { IsRunStepInRange step }
@@ -81,19 +120,7 @@ fn write_run_step(line: &RunLine, step: RunStep, buffer: &mut [u8; 96]) -> usize
             special,
             result: recorded,
             special_result,
-        } => {
-            let results = (
-                Tag(recorded.tag),
-                (
-                    recorded.word,
-                    (Tag(special_result.tag), special_result.word),
-                ),
-            );
-            let special = (Special(special), (Equals, results));
-            let source = Source(RunRegister::General(source));
-            let target = Written(RunRegister::General(target));
-            end_line(line, RunHead::Exchange, (target, (source, special)), buffer)
-        }
+        } => write_exchange(target, source, special, recorded, special_result, buffer),
         RunStep::Invoke {
             code,
             datum,

@@ -1,5 +1,5 @@
 -- The names of what C knows by number, as C strings, and a sentence for each (this profile's own, as are all below).
-use Rattle.std.specs.Prelude.{ℕ, ◌-◌, List, [], ◌∷◌, ◌++◌, codes, length, replicate}
+use Rattle.std.specs.Prelude.{ℕ, ◌-◌, List, [], ◌∷◌, ◌++◌, codes, if◌then◌else◌, length, nat_lt, replicate}
 pub use Rattle.cap_log.specs.Heads.{kind_words, text_at}
 use Rattle.cap_ops.specs.declared.refusal.Refusal.{Refusal, TheVariants.{BadHeader, LineTooLong, BadLine, Misplaced}}
 use Rattle.cap_ops.specs.declared.refusal.Refusal.TheVariants.{Truncated, WrongCount, PlaceTaken, UnsoundRoot}
@@ -28,6 +28,23 @@ state_sentences =
     ∷ codes "The bytes aren't one line with its line feed, or a number is out of range."
     ∷ []
 
+-- the word that a line of each kind begins with: the kinds from 18 on are those that only run logs have
+abbrev pub run_kind_words : List (List ℕ)
+run_kind_words =
+    codes "derive"
+    ∷ codes "exchange"
+    ∷ codes "invoke"
+    ∷ codes "drop"
+    ∷ codes "fill"
+    ∷ codes "object"
+    ∷ codes "free"
+    ∷ codes "run"
+    ∷ codes "root"
+    ∷ []
+
+abbrev pub kind_text : ℕ → List ℕ
+kind_text kind = if nat_lt kind 18 then text_at kind_words kind else text_at run_kind_words (kind - 18)
+
 -- what each kind of line is, by its number
 abbrev pub kind_sentences : List (List ℕ)
 kind_sentences =
@@ -50,6 +67,22 @@ kind_sentences =
     ∷ codes "Stores data, and clears the tag of the granule."
     ∷ codes "The last line: the number of steps."
     ∷ []
+
+abbrev pub run_kind_sentences : List (List ℕ)
+run_kind_sentences =
+    codes "Derives a capability, judged only to be no wider than its source."
+    ∷ codes "Exchanges a special register: a call, or CSpecialRW."
+    ∷ codes "Calls by a pair of sealed capabilities, CInvoke."
+    ∷ codes "Removes the tag of a place."
+    ∷ codes "Fills a granule from outside, without a tag."
+    ∷ codes "Hands out an object, or widens one."
+    ∷ codes "Frees an object."
+    ∷ codes "The first line of a run log: its version."
+    ∷ codes "A capability that a special register holds at the start."
+    ∷ []
+
+abbrev pub kind_sentence : ℕ → List ℕ
+kind_sentence kind = if nat_lt kind 18 then text_at kind_sentences kind else text_at run_kind_sentences (kind - 18)
 
 -- why a line is refused
 abbrev pub refusal_sentence : Refusal → List ℕ
@@ -78,3 +111,51 @@ refusal_sentence StoreLocalPermission = codes "A tagged capability that isn't Gl
 refusal_sentence WrongResult = codes "The recorded result or value isn't the machine's."
 refusal_sentence LimitPassed = codes "A limit on roots, granules or steps is passed."
 refusal_sentence BadMode = codes "The line after the version line of version 2 is no mode line."
+
+-- the names of the refusals that only run logs have, from 26 on, and of every other number none
+abbrev pub run_refusal_names : List (List ℕ)
+run_refusal_names =
+    []
+    ∷ []
+    ∷ codes "Overlaps"
+    ∷ []
+    ∷ codes "UnsoundResult"
+    ∷ codes "BeyondSource"
+    ∷ codes "SealChanged"
+    ∷ codes "NotInvokable"
+    ∷ codes "NoCapability"
+    ∷ codes "HasOwner"
+    ∷ codes "StillHeld"
+    ∷ codes "NoOwner"
+    ∷ codes "AlreadyFreed"
+    ∷ codes "OwnerFreed"
+    ∷ codes "NoObject"
+    ∷ codes "NotOwned"
+    ∷ []
+
+abbrev pub run_refusal_text : ℕ → List ℕ
+run_refusal_text number = if nat_lt number 26 then [] else text_at run_refusal_names (number - 26)
+
+-- why a line of a run log is refused, in the same order
+abbrev pub run_refusal_sentences : List (List ℕ)
+run_refusal_sentences =
+    []
+    ∷ []
+    ∷ codes "The extent shares an address with that of a live object."
+    ∷ []
+    ∷ codes "The recorded word isn't sound."
+    ∷ codes "The word has bounds or permissions beyond its source's."
+    ∷ codes "The seal isn't kept."
+    ∷ codes "The two registers hold no pair for CInvoke."
+    ∷ codes "The register has no tag, or is sealed where it has to be unsealed."
+    ∷ codes "The register has an owner already."
+    ∷ codes "A capability of a freed object still reaches the memory that is handed out."
+    ∷ codes "No object owns what is freed."
+    ∷ codes "The object was freed before."
+    ∷ codes "The object that owns the authority of the access was freed."
+    ∷ codes "No object with this number was handed out."
+    ∷ codes "The authority of the access has no owner, and a byte of a live object is touched."
+    ∷ []
+
+abbrev pub run_refusal_sentence : ℕ → List ℕ
+run_refusal_sentence number = if nat_lt number 26 then [] else text_at run_refusal_sentences (number - 26)

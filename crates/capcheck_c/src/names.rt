@@ -1,8 +1,8 @@
 //! The names of what C knows by number, and a sentence for each.
 
 ghost use Rattle.std.specs.Prelude.{◌≡◌, ◌≤◌, codes, length};
-ghost use Rattle.capcheck_c.specs.{Answers.c_string, Names.{c_string_in, kind_words, kind_sentences, state_names}};
-ghost use Rattle.capcheck_c.specs.Names.{state_sentences, text_at};
+ghost use Rattle.capcheck_c.specs.{Answers.c_string, Names.{c_string_in, kind_sentence, kind_sentences, kind_text, state_names}};
+ghost use Rattle.capcheck_c.specs.Names.{run_kind_sentences, run_kind_words, state_sentences, text_at};
 
 use crate::values::{RefusalName, Sentence};
 use cap_log::kinds::kind_word;
@@ -57,9 +57,31 @@ pub extern "C" fn capcheck_state_name(state: u8) -> RefusalName
 /// The word that a line of a kind begins with, as `setbounds`, and an empty string of a number that is no kind.
 #[unsafe(no_mangle)]
 pub extern "C" fn capcheck_kind_name(kind: u8) -> RefusalName
-    ensures name { result.text ≡ c_string (text_at kind_words kind) }
+    ensures name { result.text ≡ c_string (kind_text kind) }
 {
-    as_c_string(kind_word(kind))
+    if kind < 18 {
+        return as_c_string(kind_word(kind));
+    }
+    as_c_string(run_kind_word(kind - 18))
+}
+
+// The word that a line begins with which only run logs have, by its kind less 18.
+fn run_kind_word(kind: u8) -> &'static str
+    ensures word { result.now ≡ text_at run_kind_words kind }
+    ensures short { length result.now ≤ 8 }
+{
+    match kind {
+        0 => "derive",
+        1 => "exchange",
+        2 => "invoke",
+        3 => "drop",
+        4 => "fill",
+        5 => "object",
+        6 => "free",
+        7 => "run",
+        8 => "root",
+        _ => "",
+    }
 }
 
 /// What a state says, in a sentence, and an empty string of a number that is none.
@@ -81,9 +103,20 @@ pub extern "C" fn capcheck_state_sentence(state: u8) -> Sentence
 /// What a kind of line is, in a sentence, and an empty string of a number that is no kind.
 #[unsafe(no_mangle)]
 pub extern "C" fn capcheck_kind_sentence(kind: u8) -> Sentence
-    ensures sentence { result.text ≡ c_string_in 96 (text_at kind_sentences kind) }
+    ensures sentence { result.text ≡ c_string_in 96 (kind_sentence kind) }
 {
-    as_sentence(match kind {
+    if kind < 18 {
+        return as_sentence(usual_kind_sentence(kind));
+    }
+    as_sentence(run_kind_sentence(kind - 18))
+}
+
+// What a kind of line is that other logs have too.
+fn usual_kind_sentence(kind: u8) -> &'static str
+    ensures sentence { result.now ≡ text_at kind_sentences kind }
+    ensures short { length result.now ≤ 95 }
+{
+    match kind {
         1 => "The first line: the version of the log.",
         2 => "The second line of a log of version 2: strict or clear mode.",
         3 => "A capability that a register holds at the start.",
@@ -102,5 +135,24 @@ pub extern "C" fn capcheck_kind_sentence(kind: u8) -> Sentence
         16 => "Stores data, and clears the tag of the granule.",
         17 => "The last line: the number of steps.",
         _ => "",
-    })
+    }
+}
+
+// What a kind of line is that only run logs have, by its number less 18.
+fn run_kind_sentence(kind: u8) -> &'static str
+    ensures sentence { result.now ≡ text_at run_kind_sentences kind }
+    ensures short { length result.now ≤ 95 }
+{
+    match kind {
+        0 => "Derives a capability, judged only to be no wider than its source.",
+        1 => "Exchanges a special register: a call, or CSpecialRW.",
+        2 => "Calls by a pair of sealed capabilities, CInvoke.",
+        3 => "Removes the tag of a place.",
+        4 => "Fills a granule from outside, without a tag.",
+        5 => "Hands out an object, or widens one.",
+        6 => "Frees an object.",
+        7 => "The first line of a run log: its version.",
+        8 => "A capability that a special register holds at the start.",
+        _ => "",
+    }
 }

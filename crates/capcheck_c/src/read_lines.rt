@@ -11,7 +11,7 @@ use cap_log::{Line, Mode, Place, Step, take_line};
 use cap_word::{Cap, Word};
 
 // The kinds of lines, as C has them, and 0 for none.
-const NO_LINE: u8 = 0;
+pub(crate) const NO_LINE: u8 = 0;
 
 const VERSION: u8 = 1;
 
@@ -64,8 +64,8 @@ pub extern "C" fn capcheck_read_lines(bytes: &[u8], lines: &mut [LineRead]) -> L
     }
 }
 
-// What is read of a line of so many bytes.
-fn line_read(line: Line, count: usize) -> LineRead
+/// What is read of a line of so many bytes.
+pub(crate) fn line_read(line: Line, count: usize) -> LineRead
     requires { IsInRange line }
     ensures read { IsLineRead line result }
     ensures kind { result.kind ≢ 0 }

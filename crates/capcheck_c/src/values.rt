@@ -5,7 +5,7 @@ ghost use Rattle.cap_halves.specs.Passed.{no_cap};
 ghost use Rattle.capcheck_c.specs.LinesRead.{HasNumbers};
 
 use cap_halves::halves::{no_capability, to_c};
-use cap_halves::values::{Capability, Halves};
+use cap_halves::values::{Capability, Halves, PassedPlace};
 use cap_log::{Register, Target};
 use cap_word::Cap;
 
@@ -162,6 +162,21 @@ pub struct LineRead {
     pub authority: u8,
     /// The size of a load or a store of data, else 0.
     pub size: u8,
+}
+
+/// A line of a run log that was read (in C `capcheck_run_line`).
+#[repr(C)]
+#[derive(Debug, Clone, Copy, PartialEq, Eq)]
+pub struct RunLineRead {
+    /// The line as [`LineRead`] has it, with 18 to 26 for the kinds that only run logs have.
+    pub line: LineRead,
+    /// What an exchange records of the special register, or the datum's word of an invoke with a tag; else NULL without
+    /// a tag.
+    pub second: Capability,
+    /// The place that a derive, a drop or a root names first, else none.
+    pub target: PassedPlace,
+    /// The register that a derive reads, else none.
+    pub source: PassedPlace,
 }
 
 impl LineRead {

@@ -11,7 +11,7 @@ use Rattle.cap_judge.specs.{Turns.unread, contracts.judges.Judge.the_row as judg
 use Rattle.cap_judge.proofs.{TurnLaws.{lacks_memory, none_so_far, reached, stands_so_far}, TurnLemmas.follows_on}
 use Rattle.cap_report.specs.declared.answers.Answer.{Answer}
 use Rattle.capcheck_judge.specs.Handles.{AnswersSoFar, IsPassed, Standing, HandsOver, HeldJudge, Holds, known_in, origin_behind}
-use Rattle.capcheck_judge.specs.declared.answers.PassedPlace.{PassedPlace}
+use Rattle.cap_halves.specs.declared.values.PassedPlace.{PassedPlace}
 use Rattle.capcheck_judge.specs.{Handles.state_behind, Takings.TakesLine}
 
 -- a judge over pages

@@ -28,7 +28,7 @@ faulty_at : (due : Due) → ((IsAtFault due → ⊥) → ⊥) → IsAtFault due
 faulty_at (Due.Refused line refusal text) some = tt
 faulty_at due some = absurd (some (λ fault. fault))
 
-no_bytes : (given : List ℕ) (n : ℕ) → n ≤ length given → take n given ≡ [] → n ≡ 0
+pub no_bytes : (given : List ℕ) (n : ℕ) → n ≤ length given → take n given ≡ [] → n ≡ 0
 no_bytes given zero few none = refl
 no_bytes [] (suc n) few none = absurd (omega (arith, few))
 no_bytes (b ∷ given) (suc n) few none = cc
@@ -40,13 +40,13 @@ none_taken old new given n before few (middle, goes, faults) read some =
     no_bytes given n few (fault_goes old (take n given) middle is goes)
 
 -- the states of a call
-stop_of : (stop wanted : Stop) → state_at stop ≡ state_at wanted → stop ≡ wanted
+pub stop_of : (stop wanted : Stop) → state_at stop ≡ state_at wanted → stop ≡ wanted
 stop_of Cut Cut same = refl
 stop_of Fault Fault same = refl
 stop_of NoMemory NoMemory same = refl
 stop_of stop wanted same = absurd (omega (arith, same))
 
-few_states : (stop : Stop) → (state_at stop < 4) × (state_at stop ≢ 1)
+pub few_states : (stop : Stop) → (state_at stop < 4) × (state_at stop ≢ 1)
 few_states Cut = (omega arith, λ one. omega (arith, one))
 few_states Fault = (omega arith, λ one. omega (arith, one))
 few_states NoMemory = (omega arith, λ one. omega (arith, one))

@@ -15,8 +15,8 @@ use Rattle.cap_judge.specs.Readings.{BeginsWhole, HasRead, Known, Stands, known_
 use Rattle.cap_judge.specs.{Verdicts.{IsVerdict, IsGuarded}, contracts.judges.Judge.the_row as judge_row}
 use Rattle.cap_report.specs.{declared.answers.Answer.Answer, Answers.{numbers_of, without_verdict}, Texts.IsTold}
 use Rattle.cap_report.specs.Whys.{ExplainsEnd, ExplainsSoFar}
-use Rattle.cap_halves.specs.Passed.{cap_of, no_cap}
-use Rattle.capcheck_judge.specs.declared.answers.{PassedExpected.PassedExpected, LinesTaken.LinesTaken, PassedPlace.PassedPlace}
+use Rattle.cap_halves.specs.{Passed.{cap_of, no_cap}, declared.values.PassedPlace.PassedPlace}
+use Rattle.capcheck_judge.specs.declared.answers.{PassedExpected.PassedExpected, LinesTaken.LinesTaken}
 use Rattle.capcheck_judge.specs.declared.handle.Handle.{Handle}
 
 -- what a handle holds: a judge, or none

@@ -1,3 +1,7 @@
 pub mod Handles
 pub mod Holding
+pub mod RunAnswers
+pub mod RunHandles
+pub mod RunPlaces
+pub mod RunTakings
 pub mod Takings

@@ -22,17 +22,6 @@ pub struct LinesTaken {
     pub state: u8,
 }
 
-/// A place of the machine, or none (in C `capcheck_place`).
-#[repr(C)]
-#[derive(Debug, Clone, Copy, PartialEq, Eq)]
-pub struct PassedPlace {
-    /// The number of a register, or an address in a granule; in a result the granule's first address, and 0 where
-    /// there is no place.
-    pub number: u64,
-    /// 1 for a register, 2 for a granule, and 0 where there is none.
-    pub kind: u8,
-}
-
 /// What the rules give for a step (in C `capcheck_expected`).
 #[repr(C)]
 #[derive(Debug, Clone, Copy, PartialEq, Eq)]

@@ -12,4 +12,8 @@ mod judges;
 mod lines;
 mod places;
 mod reports;
+mod run_answers;
+mod run_handle;
+mod run_lines;
+mod run_places;
 mod steps;

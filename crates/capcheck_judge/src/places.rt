@@ -7,9 +7,10 @@ ghost use Rattle.cap_halves.specs.Passed.{cap_of, no_cap};
 ghost use Rattle.capcheck_judge.specs.Handles.{AnswersExpected, Holds, IsGiven, IsPassed, held_in, origin_behind};
 ghost use Rattle.capcheck_judge.specs.Handles.{state_behind, tag_behind};
 
-use crate::answers::{OptionalCap, PassedExpected, PassedPlace};
+use crate::answers::{OptionalCap, PassedExpected};
 use crate::handle::Handle;
 use cap_halves::halves::{no_capability, to_c};
+use cap_halves::values::PassedPlace;
 use cap_judge::Expected;
 use cap_log::Place;
 use cap_word::Cap;
@@ -201,7 +202,7 @@ fn given_by(expected: Expected) -> PassedExpected
 }
 
 /// A capability as C gets it.
-fn there(cap: Cap) -> OptionalCap
+pub(crate) fn there(cap: Cap) -> OptionalCap
     ensures present { result.present ≡ 1 }
     ensures cap { cap_of result.cap ≡ cap }
     ensures tag { result.cap.tag ≤ 1 }
@@ -213,7 +214,7 @@ fn there(cap: Cap) -> OptionalCap
 }
 
 /// No capability: NULL without a tag.
-fn nothing() -> OptionalCap
+pub(crate) fn nothing() -> OptionalCap
     ensures present { result.present ≡ 0 }
     ensures cap { cap_of result.cap ≡ no_cap }
     ensures tag { result.cap.tag ≤ 1 }

@@ -1,0 +1,91 @@
+//! The places of runs that C names.
+
+ghost use Rattle.std.specs.Prelude.{◌≡◌, MatchOption, Some};
+ghost use Rattle.cap_run_log.specs.RunLines.{IsRunPlace, IsRunRegister};
+ghost use Rattle.cap_run_log.specs.declared.lines.{RunPlace.{RunPlace as PlaceIn}, RunRegister.{RunRegister as RegisterIn}};
+ghost use Rattle.cap_halves.specs.PassedRuns.{passed_nowhere, passed_place, passed_register, place_passed, register_passed};
+
+use crate::values::PassedPlace;
+use cap_run_log::{RunPlace, RunRegister};
+
+// The kinds of places, as C has them, and 0 for none.
+const GENERAL: u8 = 1;
+
+const GRANULE: u8 = 2;
+
+const SPECIAL: u8 = 3;
+
+/// The register that C names, of which a general-purpose one has at least this number. `None` if it names none.
+pub fn register_from(least: u64, place: PassedPlace) -> Option<RunRegister>
+    ensures register { MatchOption result
+        ((register : RegisterIn) → register_passed place ≡ Some register → ¬ IsRunRegister least register)
+        (λ register. (register_passed place ≡ Some register) × IsRunRegister least register) }
+{
+    match place.kind {
+        GENERAL if least <= place.number && place.number < 32 => {
+            Some(RunRegister::General(place.number as u8))
+        }
+        SPECIAL if place.number < 32 => Some(RunRegister::Special(place.number as u8)),
+        _ => None,
+    }
+}
+
+/// The place that C names: a granule by the address of its first byte. `None` if it names none.
+pub fn place_from(place: PassedPlace) -> Option<RunPlace>
+    ensures place { MatchOption result
+        ((there : PlaceIn) → place_passed place ≡ Some there → ¬ IsRunPlace there)
+        (λ there. (place_passed place ≡ Some there) × IsRunPlace there) }
+{
+    match place.kind {
+        GENERAL if 0 < place.number && place.number < 32 => {
+            Some(RunPlace::General(place.number as u8))
+        }
+        GRANULE if place.number % 16 == 0 => Some(RunPlace::Granule(place.number / 16)),
+        SPECIAL if place.number < 32 => Some(RunPlace::Special(place.number as u8)),
+        _ => None,
+    }
+}
+
+/// A place as C gets it.
+pub fn to_passed(place: RunPlace) -> PassedPlace
+    requires { IsRunPlace place }
+    ensures place { result ≡ passed_place place }
+{
+    match place {
+        RunPlace::General(number) => PassedPlace {
+            number: u64::from(number),
+            kind: GENERAL,
+        },
+        RunPlace::Special(number) => PassedPlace {
+            number: u64::from(number),
+            kind: SPECIAL,
+        },
+        RunPlace::Granule(granule) => PassedPlace {
+            number: 16 * granule,
+            kind: GRANULE,
+        },
+    }
+}
+
+/// A register as C gets it.
+pub fn register_to_passed(register: RunRegister) -> PassedPlace
+    ensures place { result ≡ passed_register register }
+{
+    match register {
+        RunRegister::General(number) => PassedPlace {
+            number: u64::from(number),
+            kind: GENERAL,
+        },
+        RunRegister::Special(number) => PassedPlace {
+            number: u64::from(number),
+            kind: SPECIAL,
+        },
+    }
+}
+
+/// No place.
+pub fn nowhere() -> PassedPlace
+    ensures place { result ≡ passed_nowhere }
+{
+    PassedPlace { number: 0, kind: 0 }
+}

@@ -1,0 +1,192 @@
+//! A line of a run log read: the inverse of the calls that write lines.
+
+ghost use Rattle.std.specs.Prelude.{◌≡◌, ◌≢◌, ◌≤◌};
+ghost use Rattle.cap_run_log.specs.RunLines.{IsRunLineInRange, IsRunPlace, IsRunStepInRange};
+ghost use Rattle.cap_run_log.specs.declared.lines.RunLine.TheVariants as lines;
+ghost use Rattle.cap_halves.specs.{Passed.no_cap, PassedRuns.passed_nowhere};
+ghost use Rattle.capcheck_c.specs.{LinesRead.HasNumbers, RunLinesRead.{HasNoPlaces, HasPlaces, IsRunLineRead, IsRunStepRead}};
+ghost use Rattle.capcheck_c.specs.RunLinesRead.{ReadsRunFront, tagged_word};
+
+use crate::read_lines::{NO_LINE, line_read};
+use crate::values::{LineRead, RunLineRead};
+use cap_halves::halves::{no_capability, to_c};
+use cap_halves::places::{nowhere, register_to_passed, to_passed};
+use cap_log::{Line, Place};
+use cap_run_log::{RunLine, RunPlace, RunStep, take_run_line};
+use cap_word::{Cap, Word};
+
+// The kinds of lines that only run logs have, as C has them.
+const DERIVE: u8 = 18;
+
+const EXCHANGE: u8 = 19;
+
+const INVOKE: u8 = 20;
+
+const DROP: u8 = 21;
+
+const FILL: u8 = 22;
+
+const OBJECT: u8 = 23;
+
+const FREE: u8 = 24;
+
+const RUN_VERSION: u8 = 25;
+
+const ROOT_SPECIAL: u8 = 26;
+
+/// Reads the line of a run log at the front of some bytes, with its line feed: its kind, its numbers, and how long it is.
+/// Where they begin with no such line and a line feed, the kind is 0, and so is all else.
+#[unsafe(no_mangle)]
+pub extern "C" fn capcheck_read_run_line(bytes: &[u8]) -> RunLineRead
+    ensures read { ReadsRunFront bytes.now result }
+    ensures tags { (result.line.cap.tag ≤ 1) × (result.second.tag ≤ 1) }
+{
+    match take_run_line(bytes) {
+        Some((line, rest)) => run_line_read(line, bytes.len() - rest.len()),
+        None => alone(LineRead::numbered(NO_LINE, 0, 0)),
+    }
+}
+
+// What is read of a line of so many bytes.
+fn run_line_read(line: RunLine, count: usize) -> RunLineRead
+    requires { IsRunLineInRange line }
+    ensures read { IsRunLineRead line result }
+    ensures kind { result.line.kind ≢ 0 }
+    ensures length { result.line.length ≡ count }
+    ensures tags { (result.line.cap.tag ≤ 1) × (result.second.tag ≤ 1) }
+{
+    match line {
+        RunLine::Version => alone(LineRead::numbered(RUN_VERSION, 1, count)),
+        RunLine::Plain(version) => alone(line_read(Line::Version(version), count)),
+        RunLine::Mode(mode) => alone(line_read(Line::Mode(mode), count)),
+        RunLine::Root(place, word) => run_root_read(place, word, count),
+        RunLine::Step(step) => alone(line_read(Line::Step(step), count)),
+        RunLine::Run(step) => run_step_read(step, count),
+        RunLine::End(steps) => alone(line_read(Line::End(steps), count)),
+    }
+}
+
+// What is read of a root.
+fn run_root_read(place: RunPlace, word: Word, count: usize) -> RunLineRead
+    requires { IsRunPlace place }
+    ensures read { IsRunLineRead (lines.Root place word) result }
+    ensures kind { result.line.kind ≢ 0 }
+    ensures length { result.line.length ≡ count }
+    ensures tags { (result.line.cap.tag ≤ 1) × (result.second.tag ≤ 1) }
+{
+    let line = match place {
+        RunPlace::General(number) => line_read(Line::Root(Place::Register(number), word), count),
+        RunPlace::Granule(granule) => line_read(Line::Root(Place::Granule(granule), word), count),
+        RunPlace::Special(number) => {
+            LineRead::written(ROOT_SPECIAL, number, tagged(word), count)
+        }
+    };
+    RunLineRead {
+        target: to_passed(place),
+        ..alone(line)
+    }
+}
+
+// What is read of a step that only runs have.
+fn run_step_read(step: RunStep, count: usize) -> RunLineRead
+    requires { IsRunStepInRange step }
+    ensures read { IsRunStepRead step result }
+    ensures kind { result.line.kind ≢ 0 }
+    ensures length { result.line.length ≡ count }
+    ensures tags { (result.line.cap.tag ≤ 1) × (result.second.tag ≤ 1) }
+{
+    match step {
+        RunStep::Derive(target, source, recorded) => RunLineRead {
+            target: register_to_passed(target),
+            source: register_to_passed(source),
+            ..alone(LineRead::written(DERIVE, 0, recorded, count))
+        },
+        RunStep::Exchange {
+            target,
+            source,
+            special,
+            result: recorded,
+            special_result,
+        } => {
+            let line = LineRead {
+                source,
+                number: u64::from(special),
+                ..LineRead::written(EXCHANGE, target, recorded, count)
+            };
+            with_second(line, special_result)
+        }
+        RunStep::Invoke {
+            code,
+            datum,
+            code_word,
+            datum_word,
+        } => {
+            let line = LineRead {
+                source: code,
+                authority: datum,
+                ..LineRead::written(INVOKE, 0, tagged(code_word), count)
+            };
+            with_second(line, tagged(datum_word))
+        }
+        RunStep::Drop(place) => RunLineRead {
+            target: to_passed(place),
+            ..alone(LineRead::numbered(DROP, 0, count))
+        },
+        RunStep::Fill(granule, word) => {
+            let line = LineRead {
+                number: 16 * granule,
+                ..LineRead::written(FILL, 0, Cap { tag: false, word }, count)
+            };
+            alone(line)
+        }
+        RunStep::Object(register) => alone(object_read(OBJECT, register, 0, count)),
+        RunStep::Widen(register, number) => alone(object_read(OBJECT, register, number, count)),
+        RunStep::FreeOwner(register) => alone(object_read(FREE, register, 0, count)),
+        RunStep::FreeNumber(number) => alone(object_read(FREE, 0, number, count)),
+    }
+}
+
+// What is read of a line that names a register or an object, or both.
+fn object_read(kind: u8, register: u8, object: u32, count: usize) -> LineRead
+    ensures read { HasNumbers kind 0 register 0 object no_cap result }
+    ensures length { result.length ≡ count }
+    ensures tag { result.cap.tag ≤ 1 }
+{
+    LineRead {
+        source: register,
+        ..LineRead::numbered(kind, u64::from(object), count)
+    }
+}
+
+// A word with a tag.
+fn tagged(word: Word) -> Cap
+    ensures { result ≡ tagged_word word }
+{
+    Cap { tag: true, word }
+}
+
+// A line without places.
+fn alone(line: LineRead) -> RunLineRead
+    ensures line { result.line ≡ line }
+    ensures places { HasNoPlaces result }
+    ensures tag { result.second.tag ≤ 1 }
+{
+    RunLineRead {
+        line,
+        second: no_capability(),
+        target: nowhere(),
+        source: nowhere(),
+    }
+}
+
+// A line with a second capability.
+fn with_second(line: LineRead, second: Cap) -> RunLineRead
+    ensures line { result.line ≡ line }
+    ensures places { HasPlaces passed_nowhere passed_nowhere second result }
+    ensures tag { result.second.tag ≤ 1 }
+{
+    RunLineRead {
+        second: to_c(second),
+        ..alone(line)
+    }
+}

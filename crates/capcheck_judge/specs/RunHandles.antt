@@ -1,0 +1,101 @@
+-- What a handle of C holds that judges run logs, and what the calls on it answer (this profile's own, as are all below).
+use Rattle.std.specs.Prelude.{◌≡◌, ◌≢◌, ◌<◌, ◌≤◌, ◌↔◌, ◌⊎◌, ℕ, length, drop, take, List, ◌++◌, Option, None, Some}
+use denote.RattleType.{RattleType}
+use Rattle.cap_streams.specs.Front.{IsCut}
+use Rattle.tagmem.specs.contracts.page_store.{PageStore.the_row as store_row, PageStoreTaggedStore.TheImpl.ghosts}
+use Rattle.cap_run.specs.declared.{asks.Asks.Asks, ends.RunRefusal.RunRefusal}
+use Rattle.cap_run.specs.Run.{Run}
+use Rattle.cap_run_judge.specs.contracts.judges.RunJudge.{the_row as run_judge_row}
+use Rattle.cap_run_judge.specs.declared.verdict.RunVerdict.{RunVerdict}
+use Rattle.cap_run_judge.specs.Readings.{Faults, RefusesNext, stage_of}
+use Rattle.cap_run_judge.specs.{Turns.{Goes, Stage, unread}, Verdicts.{IsRunVerdict, MayLackMemory}}
+use Rattle.capcheck_judge.specs.declared.{answers.LinesTaken.LinesTaken, run_handle.RunHandle.RunHandle, run_answers.RunAnswer.RunAnswer}
+use Rattle.capcheck_judge.specs.RunAnswers.{run_numbers_of, run_without_verdict}
+
+-- a judge of run logs, over pages
+abbrev pub RunJudgeIn : Type 0
+RunJudgeIn = RattleType.Denot (run_judge_row store_row ghosts)
+
+-- what a handle holds: a judge, or none
+abbrev pub HeldRunJudge : Type 0
+HeldRunJudge = Option RunJudgeIn
+
+-- what this handle holds
+abbrev pub run_held_in : RunHandle → HeldRunJudge
+run_held_in handle = handle.judge
+
+-- the bytes lead from a stage to a stage: they are lines, or lines before what begins with a faulty one
+abbrev pub FollowsRun : Stage → List ℕ → Stage → Type 0
+FollowsRun old bytes new =
+    Goes old bytes new
+    ⊎ ((front : List ℕ) × (rest : List ℕ) × (bytes ≡ front ++ rest) × (middle : Stage) × Goes old front middle × Faults middle rest new)
+
+-- a handle holds a judge that was opened with what is asked, and has taken these bytes
+pub record HoldsRun (held : HeldRunJudge) (asks : Asks) (bytes : List ℕ) : Type 0 where
+  pub judge : RunJudgeIn
+  pub held_is : held ≡ Some judge
+  pub taken : FollowsRun (unread asks) bytes (stage_of judge)
+
+-- the run behind these bytes, or before their faulty line
+abbrev pub run_behind : {held : HeldRunJudge} {asks : Asks} {bytes : List ℕ} → HoldsRun held asks bytes → Run
+run_behind holds = (stage_of holds.judge).run
+
+-- the bytes are whole lines that begin a run log, none of them faulty
+abbrev pub BeginsRun : Asks → List ℕ → Type 0
+BeginsRun asks bytes = (stage : Stage) × Goes (unread asks) bytes stage
+
+-- the verdict that stands whatever bytes follow these, or none while no line is faulty
+abbrev pub StandsRun : Asks → List ℕ → Option RunVerdict → Type 0
+StandsRun asks bytes None = BeginsRun asks bytes
+StandsRun asks bytes (Some verdict) = (more : List ℕ) → IsRunVerdict asks (bytes ++ more) verdict
+
+-- how the bytes stand, in numbers: the state 0 says that none of their lines is faulty
+abbrev pub StandingRun : Option RunVerdict → RunAnswer → Type 0
+StandingRun None answer = answer ≡ run_without_verdict 0
+StandingRun (Some verdict) answer = answer ≡ run_numbers_of verdict
+
+-- C learns how a run log stands that begins with these bytes
+pub record AnswersRunSoFar (asks : Asks) (bytes : List ℕ) (answer : RunAnswer) : Type 0 where
+  pub verdict : Option RunVerdict
+  pub numbers : StandingRun verdict answer
+  pub stands : StandsRun asks bytes verdict
+
+-- C gets the verdict on these bytes
+pub record AnswersRunEnd (asks : Asks) (bytes : List ℕ) (answer : RunAnswer) : Type 0 where
+  pub verdict : RunVerdict
+  pub numbers : answer ≡ run_numbers_of verdict
+  pub is_verdict : IsRunVerdict asks bytes verdict
+
+-- C gets the verdict on these bytes, or learns that there is none for want of memory
+pub record AnswersRunBytes (asks : Asks) (bytes : List ℕ) (answer : RunAnswer) : Type 0 where
+  pub verdict : answer.state ≢ 3 → AnswersRunEnd asks bytes answer
+  pub no_memory : answer.state ≡ 3 → (answer ≡ run_without_verdict 3) × ((more : List ℕ) × MayLackMemory asks bytes more)
+
+-- a front is the text of lines that begin a run log, and the line that begins the rest is refused, whatever follows
+abbrev pub IsRunRefusedAfter : Asks → List ℕ → List ℕ → Type 0
+IsRunRefusedAfter asks front rest =
+    (stage : Stage) × (refusal : RunRefusal) × Goes (unread asks) front stage × RefusesNext stage rest refusal
+
+-- what a call answers that hands over as many whole lines as some bytes begin with: how many bytes were taken; and that
+-- no line so far is faulty, and less than a line is left; that a line is faulty, the next one, or an earlier one, and
+-- then no bytes were taken; that memory ran out at the next line, which no check refuses; or that there is no judge
+pub record HandsOverRunLines (given : List ℕ) (old new : HeldRunJudge) (answer : LinesTaken) : Type 0 where
+  pub few : answer.bytes ≤ length given
+  pub answers : answer.state < 5
+  pub never_yes : answer.state ≢ 1
+  pub taken : answer.state ≢ 2 → (asks : Asks) (bytes : List ℕ) → HoldsRun old asks bytes
+      → HoldsRun new asks (bytes ++ take answer.bytes given)
+  pub goes_on : answer.state ≡ 0 → (asks : Asks) (bytes : List ℕ) → HoldsRun old asks bytes
+      → BeginsRun asks (bytes ++ take answer.bytes given) × IsCut (drop answer.bytes given)
+  pub read_all : answer.state ≡ 2 → (asks : Asks) (bytes : List ℕ) → HoldsRun old asks bytes → HoldsRun new asks (bytes ++ given)
+  pub at_fault : answer.state ≡ 2 → (asks : Asks) (bytes : List ℕ) → HoldsRun old asks bytes
+      → (verdict : RunVerdict) × StandsRun asks (bytes ++ given) (Some verdict)
+  pub faulty : answer.state ≡ 2 → (asks : Asks) (bytes : List ℕ) → HoldsRun old asks bytes → BeginsRun asks bytes
+      → IsRunRefusedAfter asks (bytes ++ take answer.bytes given) (drop answer.bytes given)
+  pub faulty_before : answer.state ≡ 2 → (asks : Asks) (bytes : List ℕ) → HoldsRun old asks bytes → (BeginsRun asks bytes → ⊥)
+      → answer.bytes ≡ 0
+  pub no_memory : answer.state ≡ 3 → (asks : Asks) (bytes : List ℕ) → HoldsRun old asks bytes
+      → (more : List ℕ) × MayLackMemory asks (bytes ++ given) more
+  pub no_judge : (answer.state ≡ 4) ↔ (old ≡ None)
+  pub nothing : old ≡ None → answer.bytes ≡ 0
+  pub held : (new ≡ None) ↔ (old ≡ None)

@@ -1,0 +1,118 @@
+//! What the machine of an open judge of run logs holds, and which objects own it.
+
+ghost use Rattle.std.specs.Prelude.{◌≡◌, ◌≢◌, ◌⊎◌, ◌↔◌, ◌<◌, ◌≤◌, ◌/◌, ℕ, IfSome, List, MatchOption, None, Some};
+ghost use Rattle.cap_run.specs.declared.asks.Asks.{Asks as AsksIn};
+ghost use Rattle.cap_run_log.specs.{RunLines.IsRunPlace, declared.lines.RunPlace.RunPlace as PlaceIn};
+ghost use Rattle.cap_run.specs.RunChanges.{place_key};
+ghost use Rattle.cap_halves.specs.Passed.{cap_of, no_cap};
+ghost use Rattle.capcheck_judge.specs.RunAnswers.{IsObjectTold};
+ghost use Rattle.capcheck_judge.specs.RunHandles.{HoldsRun, run_behind, run_held_in};
+ghost use Rattle.capcheck_judge.specs.RunPlaces.{IsOwnerTold, place_asked};
+
+use crate::answers::OptionalCap;
+use crate::places::{nothing, there};
+use crate::run_answers::{PassedObject, told_object};
+use crate::run_handle::RunHandle;
+use cap_halves::values::PassedPlace;
+use cap_run_log::RunPlace;
+use std::alloc::Global;
+
+/// What a place holds after the lines so far, or before the faulty line: a register, 1 to 31, a special register, 0 to 31,
+/// or the granule that an address lies in. There is none where the numbers name no place, and where the handle holds no
+/// judge.
+#[unsafe(no_mangle)]
+pub extern "C" fn capcheck_run_judge_held(
+    alloc: Global,
+    judge: &mut RunHandle,
+    place: PassedPlace,
+) -> OptionalCap
+    ensures held { (there : PlaceIn) → place_asked place ≡ Some there → IsRunPlace there → (asks : AsksIn) (bytes : List ℕ)
+        → (holds : HoldsRun (run_held_in judge.old) asks bytes)
+        → (result.present ≡ 1) × (cap_of result.cap ≡ (let run = run_behind holds in run.state (place_key there))) }
+    ensures tag { result.cap.tag ≤ 1 }
+    ensures no_place { ((there : PlaceIn) → place_asked place ≡ Some there → ¬ IsRunPlace there)
+        → (result.present ≡ 0) × (cap_of result.cap ≡ no_cap) }
+    ensures no_judge { run_held_in judge.old ≡ None → (result.present ≡ 0) × (cap_of result.cap ≡ no_cap) }
+    ensures kept { run_held_in judge.new ≡ run_held_in judge.old }
+{
+    let Some(place) = asked(place) else {
+        return nothing();
+    };
+    match judge.take(alloc) {
+        Some(held) => {
+            let cap = held.machine().holds(place);
+            judge.put(held);
+            there(cap)
+        }
+        None => nothing(),
+    }
+}
+
+/// The number of the object that owns a place after the lines so far, or before the faulty line; 0 where no object owns it,
+/// where the numbers name no place, and where the handle holds no judge. The place is named as in
+/// [`capcheck_run_judge_held`].
+#[unsafe(no_mangle)]
+pub extern "C" fn capcheck_run_judge_owner(
+    alloc: Global,
+    judge: &mut RunHandle,
+    place: PassedPlace,
+) -> u32
+    ensures owner { (there : PlaceIn) → place_asked place ≡ Some there → IsRunPlace there → (asks : AsksIn) (bytes : List ℕ)
+        → (holds : HoldsRun (run_held_in judge.old) asks bytes)
+        → IsOwnerTold (let run = run_behind holds in run.owners (place_key there)) result }
+    ensures no_place { ((there : PlaceIn) → place_asked place ≡ Some there → ¬ IsRunPlace there) → result ≡ 0 }
+    ensures no_judge { run_held_in judge.old ≡ None → result ≡ 0 }
+    ensures kept { run_held_in judge.new ≡ run_held_in judge.old }
+{
+    let Some(place) = asked(place) else {
+        return 0;
+    };
+    match judge.take(alloc) {
+        Some(held) => {
+            let owner = held.machine().owner_number(place);
+            judge.put(held);
+            owner.unwrap_or(0)
+        }
+        None => 0,
+    }
+}
+
+/// The object with a number after the lines so far, or before the faulty line: its extent, how many places it owns, the
+/// line that handed it out, and whether it is live. There is none where no object with this number was handed out, where it
+/// was freed and no place holds it, and where the handle holds no judge.
+#[unsafe(no_mangle)]
+pub extern "C" fn capcheck_run_judge_object(
+    alloc: Global,
+    judge: &mut RunHandle,
+    number: u32,
+) -> PassedObject
+    ensures object { (asks : AsksIn) (bytes : List ℕ) → (holds : HoldsRun (run_held_in judge.old) asks bytes)
+        → (let run = run_behind holds in IsObjectTold run.roots (run.objects number) result) }
+    ensures no_judge { run_held_in judge.old ≡ None → IsObjectTold 0 None result }
+    ensures kept { run_held_in judge.new ≡ run_held_in judge.old }
+{
+    match judge.take(alloc) {
+        Some(held) => {
+            let machine = held.machine();
+            let told = told_object(machine.roots(), machine.object_numbered(number));
+            judge.put(held);
+            told
+        }
+        None => told_object(0, None),
+    }
+}
+
+// The place that C asks about: a granule by any address in it.
+fn asked(place: PassedPlace) -> Option<RunPlace>
+    ensures { MatchOption result ((there : PlaceIn) → place_asked place ≡ Some there → ¬ IsRunPlace there)
+        (λ there. (place_asked place ≡ Some there) × IsRunPlace there) }
+{
+    match place.kind {
+        1 if 0 < place.number && place.number < 32 => {
+            Some(RunPlace::General(place.number as u8))
+        }
+        2 => Some(RunPlace::Granule(place.number / 16)),
+        3 if place.number < 32 => Some(RunPlace::Special(place.number as u8)),
+        _ => None,
+    }
+}
