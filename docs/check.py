@@ -142,7 +142,7 @@ INSTALLED = ("docs/GDB.md", "docs/ALLOCATORS.md")
 # What would help a reader's program to a library or the package without a word of the page.
 HELPS = re.compile(r"LD_|PKG_CONFIG|PYTHON(PATH|HOME)|CAPCHECK|CAPDIAG|CAP_|HEAP_|CPATH|C_INCLUDE|LIBRARY_PATH|CPLUS_INCLUDE")
 
-# Files of the tree that pages show whole.
+# Files of the tree that pages show: whole, or their end, from a part of 20 lines or more on.
 SHOWN = {
     "docs/FIRST_HOUR.md": ["examples/emulator/first.c"],
     "CONTRIBUTING.md": ["crates/arena/src/main.rt", "crates/arena/stdout"],
@@ -290,8 +290,9 @@ def shown(page, text):
     wrong = []
     for path in SHOWN.get(page, []):
         with open(path, encoding="utf-8") as it:
-            if it.read() not in held:
-                wrong.append(f"{page}: {path} isn't shown as it is")
+            text = it.read()
+        if not any(it == text or it.count("\n") >= 20 and text.endswith(it) for it in held):
+            wrong.append(f"{page}: {path} isn't shown as it is")
     return wrong, len(SHOWN.get(page, []))
 
 

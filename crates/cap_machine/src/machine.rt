@@ -142,7 +142,7 @@ impl<M: TaggedStore> Machine<M> {
         self.steps
     }
 
-    /// How many roots were declared, at most as many as the limits allow.
+    /// How many roots were declared.
     pub fn roots(&self) -> u32
         ensures value { result ≡ self.now.roots }
     {
