@@ -2,7 +2,9 @@
 """Writes a run log to standard output, to measure `capdiag run` with.
 
     bench/run_log.py steps FILE         the steps of a log of version 2, as a run log
+    bench/run_log.py owned FILE         the same after an object was handed out, through c30 and c31
     bench/run_log.py calls COUNT        calls and returns: each line is an exchange with PCC
+    bench/run_log.py derivations COUNT  derivations: each line moves the address of c1 into c2
     bench/run_log.py moves COUNT        moves, to compare calls with
     bench/run_log.py objects LIVE COUNT LIVE objects are handed out; then COUNT of them are freed, and others handed out in their place
     bench/run_log.py frame LIVE COUNT   the same without the lines of objects, to subtract"""
@@ -25,6 +27,31 @@ def steps(path):
         sys.stdout.write("run 1\n")
         for line in it:
             sys.stdout.write(line)
+
+
+def object_at(at):
+    """The lines that make an object of 64 bytes and hand it out."""
+    bounded = set_bounds_result(tagged(WHOLE * 2**64 + at), 64).word
+    return (f"setaddr c30 c31 {at:016x} = 1 {word(WHOLE, at)}\nsetbounds c30 c30 0000000000000040 = 1 {bounded:032x}\n"
+            "object c30\n")
+
+
+def owned(path):
+    with open(path, encoding="ascii") as it:
+        it.readline()
+        sys.stdout.write(f"run 1\n{it.readline()}root c31 {word(WHOLE, 0)}\n")
+        before = object_at(0xff0000)
+        for line in it:
+            kind, *rest = line.split()
+            if kind != "root":
+                sys.stdout.write(before)
+                before = ""
+            sys.stdout.write(f"end {int(rest[0]) + 3}\n" if kind == "end" else line)
+
+
+def derivations(count):
+    lines = [f"derive c2 c1 = 1 {word(WHOLE, 0x1000 + number)}\n" for number in range(count)]
+    sys.stdout.write(HEAD + f"root c1 {word(WHOLE, 0)}\n" + "".join(lines) + f"end {count}\n")
 
 
 def calls(count):
@@ -57,9 +84,9 @@ def objects(live, count, told):
 
 if __name__ == "__main__":
     kind, *rest = sys.argv[1:]
-    if kind == "steps":
-        steps(rest[0])
-    elif kind in ("calls", "moves"):
-        {"calls": calls, "moves": moves}[kind](int(rest[0]))
+    if kind in ("steps", "owned"):
+        {"steps": steps, "owned": owned}[kind](rest[0])
+    elif kind in ("calls", "derivations", "moves"):
+        {"calls": calls, "derivations": derivations, "moves": moves}[kind](int(rest[0]))
     else:
         objects(int(rest[0]), int(rest[1]), kind == "objects")
