@@ -1,14 +1,13 @@
 -- Words with the bounds and the permissions of a source that is sound: no check of a derivation refuses them.
-use Rattle.std.proofs.Common.{◌≡◌, ◌⊎◌, inl, inr, ℕ, ◌+◌, ◌*◌, ◌/◌, ◌%◌, ◌^◌, ◌<◌, ◌≤◌, ◌==◌, ◌&&◌, ◌||◌, Bool, true, false, not, None}
-use Rattle.std.proofs.Common.{refl, sym, ap, subst, ◌∙◌, arith, bit_and, eq-eqb, ne_eqb}
+use Rattle.std.proofs.Common.{◌≡◌, ◌⊎◌, inl, inr, ℕ, ◌+◌, ◌*◌, ◌/◌, ◌%◌, ◌^◌, ◌<◌, ◌==◌, ◌||◌, Bool, true, false, None}
+use Rattle.std.proofs.Common.{refl, sym, ap, ◌∙◌, arith, bit_and, eq-eqb}
 use Rattle.std.proofs.lemmas.Bool.{and_from}
 use Rattle.std.specs.Int.Bits.{and_self}
 use Rattle.cap_word.specs.{declared.word.{Cap.Cap, Word.Word}, Fields.{address_of, otype_of, perms_of}}
-use Rattle.cap_bounds.specs.Bounds.{IsSound, base_of, is_sound, length_of, top_of}
-use Rattle.cap_bounds.specs.Range.{KeepsBounds}
+use Rattle.cap_bounds.specs.Bounds.{IsSound, base_of, length_of, top_of}
 use Rattle.cap_bounds.proofs.SameFields.{base_of-low, base_of-same, base_of-with_address, length_of-low, length_of-same, top_of-low, top_of-same, top_of-with_address}
 use Rattle.cap_bounds.proofs.SoundTests.{is_sound-from}
-use Rattle.cap_ops.specs.{Authority.StaysWithin, Checks.first_of, DerivedWords.{derive_checks, is_opened, keeps_seal, reaches_no_more, sentry_type}}
+use Rattle.cap_ops.specs.{Authority.StaysWithin, Checks.first_of, DerivedWords.{derive_checks, keeps_seal, reaches_no_more, sentry_type}}
 use Rattle.cap_ops.specs.{Operations.covers, Permissions.{is_sealed, perm_view_of, unsealed_type, with_type}}
 use Rattle.cap_ops.proofs.{DerivedLemmas.derived_within, TestLemmas.covers-inside}
 use Rattle.cap_run.specs.Moved.{IsMoved, IsOpenSentry}

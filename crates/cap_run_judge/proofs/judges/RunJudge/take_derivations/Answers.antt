@@ -1,4 +1,4 @@
-use Rattle.std.proofs.Common.{[], refl, subst, sym, ◌∙◌}
+use Rattle.std.proofs.Common.{[], refl, subst, sym}
 use Rattle.cap_run_judge.specs.{Readings.stage_of, Turns.{Goes, Stage}}
 use Rattle.cap_run_judge.proofs.TurnLemmas.{goes_line, goes_none}
 use Rattle.cap_run_judge.proofs.judges.RunJudge.take_derivations.Goals as goal
