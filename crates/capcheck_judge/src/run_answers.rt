@@ -10,7 +10,7 @@ use cap_report::answers::{NO, YES};
 use cap_run::Asks;
 use cap_run_judge::{RunVerdict, run_refusal_number};
 
-/// What is asked of freed objects, and of authorities without owner (in C `capcheck_asks`): any number but 0 is a yes.
+/// What is asked of freed objects, and of authorities without owner (in C `capcheck_asks`): any number but 0 asks for it.
 #[repr(C)]
 #[derive(Debug, Clone, Copy, PartialEq, Eq)]
 pub struct PassedAsks {
