@@ -150,3 +150,19 @@ IsComplaint words complaint wrong = read_words words ≡ Err (complaint, wrong)
 abbrev pub order_on : Order → List ℕ → Order
 order_on (Why origins file) front = if bytes_eq front (codes "run 1\n") then Run None false origins true file else Why origins file
 order_on order front = order
+
+-- the line on standard error that names the command for a log of another kind, by the first bytes of the input; none if the
+-- report of a no says it
+abbrev pub machine_hint : List ℕ
+machine_hint = codes "capdiag: this is a log of version 1 or 2; capdiag why judges it\n"
+
+abbrev pub hint_for : Order → List ℕ → Option (List ℕ)
+hint_for (Run freed owned owners false file) front =
+    if bytes_eq front (codes "capche") then Some machine_hint
+    else if bytes_eq front (codes "heap 1") then Some (codes "capdiag: this is the log of an allocator; capdiag heap judges it\n")
+    else None
+hint_for (Heap report false file) front =
+    if bytes_eq front (codes "capche") then Some machine_hint
+    else if bytes_eq front (codes "run 1\n") then Some (codes "capdiag: this is a run log; capdiag run judges it\n")
+    else None
+hint_for order front = None

@@ -164,6 +164,13 @@ pub fn tell_waiting<F: Sink>(faults: &mut F)
     );
 }
 
+/// Pushes a hint. Where the sink fails it took a beginning of it.
+pub fn tell_hint<F: Sink>(hint: &str, faults: &mut F)
+    ensures told { IsPushed F.took F.faults faults.old faults.new hint.now }
+{
+    let _pushed = push_all(faults, hint.as_bytes());
+}
+
 // Writes the first 64 bytes of a word in quotes.
 #[tactic(auto, unfolding(crate::specs::Complaints::quoted))]
 fn put_quoted(buffer: &mut [u8], at: usize, word: &str) -> usize

@@ -1,13 +1,16 @@
-//! The first line of an input, which says whether `why` judges a run log.
+//! The first bytes of an input, which tell the kinds of logs apart.
 
-ghost use Rattle.std.specs.Prelude.{◌≡◌, ◌≤◌, IfOk};
-ghost use Rattle.capdiag.specs.Orders.{order_on};
+ghost use Rattle.std.specs.Prelude.{◌≡◌, ◌≤◌, IfOk, option_map};
+ghost use Rattle.capdiag.specs.Orders.{hint_for, order_on};
 
 use crate::words::Order;
 use std::io::{self, ErrorKind, Read};
 
-/// The first line of a run log, with its line feed.
-pub const RUN_HEADER: &[u8; 6] = b"run 1\n";
+// The first line of a run log, with its line feed.
+const RUN_HEADER: &[u8; 6] = b"run 1\n";
+
+// What is told of the log of a machine.
+const OF_MACHINE: &str = "capdiag: this is a log of version 1 or 2; capdiag why judges it\n";
 
 /// What an order means of an input that begins with these bytes: `why` judges a run log as `run --why` does, with the
 /// owners where the origins are asked for.
@@ -23,6 +26,34 @@ pub fn order_on<'a>(order: Order<'a>, front: &[u8]) -> Order<'a>
             file,
         },
         _ => order,
+    }
+}
+
+/// The line that names the command for a log of another kind, by the first bytes of the input; none if the report of a `no`
+/// says it.
+pub fn hint_for(order: Order<'_>, front: &[u8]) -> Option<&'static str>
+    ensures value { option_map (λ it. it.now) result ≡ hint_for order.entry front.now }
+{
+    match order {
+        Order::Run { why: false, .. } => {
+            if front == b"capche".as_slice() {
+                Some(OF_MACHINE)
+            } else if front == b"heap 1".as_slice() {
+                Some("capdiag: this is the log of an allocator; capdiag heap judges it\n")
+            } else {
+                None
+            }
+        }
+        Order::Heap { why: false, .. } => {
+            if front == b"capche".as_slice() {
+                Some(OF_MACHINE)
+            } else if front == RUN_HEADER.as_slice() {
+                Some("capdiag: this is a run log; capdiag run judges it\n")
+            } else {
+                None
+            }
+        }
+        _ => None,
     }
 }
 

@@ -14,8 +14,10 @@ mod runs;
 mod tests;
 mod words;
 
-pub use crate::complaints::{Complaint, Unopened, Wrong, tell_unopened, tell_waiting, tell_words};
-pub use crate::fronts::{order_on, read_front};
+pub use crate::complaints::{
+    Complaint, Unopened, Wrong, tell_hint, tell_unopened, tell_waiting, tell_words,
+};
+pub use crate::fronts::{hint_for, order_on, read_front};
 pub use crate::runs::run;
 pub use crate::words::{Order, read_words};
 use cap_log::WriteSink;
@@ -78,7 +80,7 @@ fn answer(rt: &HostRuntime) -> Result<u8, AllocError> {
     })
 }
 
-// Follows an order on an input, whose first line says what `why` judges.
+// Follows an order on an input, whose first line says what `why` judges, and whether another command was meant.
 fn follow<R: Read + Drop, O: Write, F: Write>(
     rt: &HostRuntime,
     order: Order,
@@ -86,15 +88,25 @@ fn follow<R: Read + Drop, O: Write, F: Write>(
     out: &mut O,
     errors: &mut F,
 ) -> u8 {
-    let Order::Why { .. } = order else {
+    if !reads_log(order) {
         return run(rt.alloc(), Some(order), Some(input), out, errors);
-    };
+    }
     let mut front = [0u8; 6];
     match read_front(&mut input, &mut front) {
         Ok(length) => {
-            let order = order_on(order, &front[..length]);
-            let input = front[..length].chain(input);
-            run(rt.alloc(), Some(order), Some(input), out, errors)
+            let front = &front[..length];
+            let order = order_on(order, front);
+            let status = run(
+                rt.alloc(),
+                Some(order),
+                Some(front.chain(input)),
+                out,
+                errors,
+            );
+            if let Some(hint) = hint_for(order, front) {
+                tell_hint(hint, &mut WriteSink::new(errors));
+            }
+            status
         }
         Err(_) => {
             let done = Err(Fault::Read);
