@@ -178,7 +178,7 @@ pub const ROWS: &str = r#"
 = holder c1 1 ffff1ffff80810000000000000001000 / holder perms 00078fff / holder otype 3ffff unsealed
 = holder bounds 0000000000001000 00000000000001020
 
-1 run log --why
+1 run log --why / why log / why --origins
 | run 1 / mode strict / root c1 ffff1ffff80810000000000000001000 / object c1 / object c1 / end 2
 = no 5 35 HasOwner / line object c1
 = register c1 1 ffff1ffff80810000000000000001000 / register perms 00078fff / register otype 3ffff unsealed
@@ -216,6 +216,17 @@ pub const ROWS: &str = r#"
 1 run log
 | capcheck 2 / mode strict / end 0
 = no 1 1 BadHeader
+! capdiag: this is a log of version 1 or 2; capdiag why judges it
+
+1 run --owned / run log
+| heap 1 / end 0
+= no 1 1 BadHeader
+! capdiag: this is the log of an allocator; capdiag heap judges it
+
+1 heap log / heap --report
+| run 1 / mode strict / end 0
+= no 1 1 BadHeader
+! capdiag: this is a run log; capdiag run judges it
 
 # a register that was cleared, and a granule
 0 why --origins / why --origins log / why log --origins / why --origins - / why - --origins

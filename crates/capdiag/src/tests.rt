@@ -1,7 +1,9 @@
 //! The words of the program, and what it does for them over readers and writers in memory.
 
 use crate::rows::ROWS;
-use crate::{Unopened, file_of, read_words, run, tell_unopened, tell_words};
+use crate::{
+    Unopened, file_of, hint_for, order_on, read_words, run, tell_hint, tell_unopened, tell_words,
+};
 use cap_log::WriteSink;
 use std::alloc::{AllocError, Global};
 
@@ -43,7 +45,14 @@ fn outcome<'a>(
         }
     };
     match file_of(order) {
-        None | Some("log") => run(alloc, Some(order), Some(input), text, told),
+        None | Some("log") => {
+            let front = &input[..input.len().min(6)];
+            let status = run(alloc, Some(order_on(order, front)), Some(input), text, told);
+            if let Some(hint) = hint_for(order, front) {
+                tell_hint(hint, &mut WriteSink::new(told));
+            }
+            status
+        }
         Some(path) => {
             tell_unopened(path, Unopened::Missing, &mut WriteSink::new(told));
             3
