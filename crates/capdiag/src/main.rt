@@ -20,7 +20,7 @@ pub use crate::complaints::{
 pub use crate::fronts::{hint_for, order_on, read_front};
 pub use crate::runs::run;
 pub use crate::words::{Order, read_words};
-use cap_log::WriteSink;
+use cap_log::{Sink, WriteSink};
 pub use cap_program::carry_out;
 use cap_program::{Fault, collect_words, exit_status, tell};
 use std::alloc::AllocError;
@@ -103,8 +103,8 @@ fn follow<R: Read + Drop, O: Write, F: Write>(
                 out,
                 errors,
             );
-            if let Some(hint) = hint_for(order, front) {
-                tell_hint(hint, &mut WriteSink::new(errors));
+            if status == 1 {
+                tell_other_log(order, front, &mut WriteSink::new(errors));
             }
             status
         }
@@ -113,6 +113,13 @@ fn follow<R: Read + Drop, O: Write, F: Write>(
             tell("capdiag", done, &mut WriteSink::new(errors));
             exit_status(done)
         }
+    }
+}
+
+// Tells which command judges a log of another kind, by its first bytes.
+fn tell_other_log<F: Sink>(order: Order, front: &[u8], errors: &mut F) {
+    if let Some(hint) = hint_for(order, front) {
+        tell_hint(hint, errors);
     }
 }
 
