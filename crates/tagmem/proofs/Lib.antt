@@ -3,8 +3,10 @@ pub mod Indexes
 pub mod Listed
 mod Added
 mod Blocks
+mod Joined
 mod NextPut
 mod Numbers
+mod Orders
 mod Regions
 mod Rooms
 mod Slots

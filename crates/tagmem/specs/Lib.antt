@@ -5,6 +5,7 @@ pub mod Granules
 pub mod Kept
 pub mod Listed
 pub mod ListLaws
+pub mod Orders
 pub mod Regions
 pub mod Rooms
 pub mod Stores

@@ -1,44 +1,51 @@
 -- What a `Directory` keeps. All of it is this profile's own.
 use Rattle.std.specs.Prelude.{◌≡◌, ◌≢◌, ℕ, ◌/◌, ◌%◌, ◌^◌, ◌<◌, ◌≤◌, Bool, true, false, ◌==◌, List, length, map, All, Option}
-use Rattle.std.specs.{Prelude.{None, Some, slice_index}, BTreeMap.BTreeMap, Int.bit_at, Ordering.nat_cmp, List.Contains}
-use Rattle.std.specs.BTreeMap as tree
+use Rattle.std.specs.{Prelude.{None, Some, slice_index}, Int.bit_at, List.Contains}
 use Rattle.tagmem.specs.declared.region.Region.{Region}
 
--- the page at a place in a region is there
-abbrev pub has_page : Region → ℕ → Bool
-has_page region place = bit_at region.there place == 1
+-- the bits of a region, one for each page
+abbrev pub pages_in : Region → ℕ
+pages_in region = region.there
+
+-- the page at a place in a region is there, by the region's bits
+abbrev pub has_page : ℕ → ℕ → Bool
+has_page bits place = bit_at bits place == 1
 
 -- some page of a region is there
-abbrev pub HasPage : Region → Type 0
-HasPage region = ((place : ℕ) → has_page region place ≡ false) → ⊥
+abbrev pub HasPage : ℕ → Type 0
+HasPage bits = ((place : ℕ) → has_page bits place ≡ false) → ⊥
 
 -- some page of each region is there
-abbrev pub EachHasPage : List Region → Type 0
-EachHasPage regions = All HasPage regions
+abbrev pub EachHasPage : List ℕ → Type 0
+EachHasPage pages = All HasPage pages
 
 -- the page at a place in the region that stands somewhere is there, if the region stands
-abbrev pub has_at : List Region → Option ℕ → ℕ → Bool
-has_at regions None place = false
-has_at regions (Some at) place = bit_at (slice_index (map (λ region. region.there) regions) at) place == 1
+abbrev pub has_at : List ℕ → Option ℕ → ℕ → Bool
+has_at pages None place = false
+has_at pages (Some at) place = has_page (slice_index pages at) place
 
 -- the page with a number is there: region n has the pages from 64 * n on
-abbrev pub is_there : List Region → BTreeMap ℕ ℕ → ℕ → Bool
-is_there regions by_number page = has_at regions (tree.get nat_cmp by_number (page / 64)) (page % 64)
+abbrev pub is_there : List ℕ → (ℕ → Option ℕ) → ℕ → Bool
+is_there pages region page = has_at pages (region (page / 64)) (page % 64)
 
 -- the numbers of regions
 abbrev pub numbers_of : List Region → List ℕ
 numbers_of regions = map (λ region. region.number) regions
 
--- a tree says of each of some numbers where it stands among them, and of no other
-pub record AreIndexed (numbers : List ℕ) (by_number : BTreeMap ℕ ℕ) : Type 0 where
-  pub in_range : (number at : ℕ) → tree.get nat_cmp by_number number ≡ Some at → at < length numbers
-  pub stands : (number at : ℕ) → tree.get nat_cmp by_number number ≡ Some at → slice_index numbers at ≡ number
-  pub found : (at : ℕ) → at < length numbers → tree.get nat_cmp by_number (slice_index numbers at) ≡ Some at
-  pub small : (number at : ℕ) → tree.get nat_cmp by_number number ≡ Some at → number < 2 ^ 50
+-- their bits
+abbrev pub pages_of : List Region → List ℕ
+pages_of regions = map pages_in regions
 
--- no region from a number on is there
-abbrev pub IsAbove : BTreeMap ℕ ℕ → ℕ → Type 0
-IsAbove by_number above = (region : ℕ) → above ≤ region → tree.get nat_cmp by_number region ≡ None
+-- and their links
+abbrev pub children_of : List Region → List (List ℕ)
+children_of regions = map (λ region. region.children) regions
+
+-- it is said of each of some numbers where it stands among them, and of no other
+pub record AreIndexed (numbers : List ℕ) (region : ℕ → Option ℕ) : Type 0 where
+  pub in_range : (number at : ℕ) → region number ≡ Some at → at < length numbers
+  pub stands : (number at : ℕ) → region number ≡ Some at → slice_index numbers at ≡ number
+  pub found : (at : ℕ) → at < length numbers → region (slice_index numbers at) ≡ Some at
+  pub small : (number at : ℕ) → region number ≡ Some at → number < 2 ^ 50
 
 -- the least number from one on that is there, where there is one
 abbrev pub IsLeast : (ℕ → Bool) → ℕ → Option ℕ → Type 0

@@ -4,6 +4,7 @@
 mod block;
 mod directory;
 mod list_store;
+mod order;
 mod overwrites;
 mod page_store;
 mod region;

@@ -1,30 +1,37 @@
 //! A region: 64 pages that stand side by side.
-ghost use Rattle.std.specs.Prelude.{◌≡◌, ◌≢◌, ◌<◌, ◌^◌, ℕ, false, true};
+ghost use Rattle.std.specs.Prelude.{◌≡◌, ◌≢◌, ◌<◌, ◌^◌, ℕ, false, length, slice_index, slice_set, true};
 
-// Its number, and a bit for each of its pages: whether it is there.
+// Its number, a bit for each of its pages, which says whether it is there, and the links to eight other regions.
 #[derive(Drop)]
 pub(crate) struct Region {
     pub(crate) number: u64,
     there: u64,
+    pub(crate) children: [u32; 8],
     ghost small: { there < 2 ^ 64 },
+    ghost each_has_child: { length children ≡ 8 },
 }
 
 impl Region {
-    ghost use Rattle.tagmem.specs.Regions.{has_page, IsLeast};
+    ghost use Rattle.tagmem.specs.Regions.{has_page, pages_in, IsLeast};
 
-    // A region of which no page is there.
+    // A region of which no page is there, and which leads to no other.
     pub(crate) fn new(number: u64) -> Region
         ensures number { result.number ≡ number }
-        ensures none { (place : ℕ) → has_page result place ≡ false }
+        ensures none { (place : ℕ) → has_page (pages_in result) place ≡ false }
+        ensures children { (digit : ℕ) → slice_index result.children digit ≡ 0 }
     {
-        Region { number, there: 0 }
+        Region {
+            number,
+            there: 0,
+            children: [0; 8],
+        }
     }
 
     // Whether a page is there.
     #[inline(always)]
     pub(crate) fn has(&self, place: u8) -> bool
         requires { place < 64 }
-        ensures { result ≡ has_page self.now place }
+        ensures { result ≡ has_page (pages_in self.now) place }
     {
         (self.there >> place) % 2 == 1
     }
@@ -32,7 +39,7 @@ impl Region {
     // The first page from a place on that is there.
     #[tactic(auto, using(crate::proofs::Regions::past))]
     pub(crate) fn first_from(&self, place: u8) -> Option<u8>
-        ensures { IsLeast (has_page self.now) place result }
+        ensures { IsLeast (has_page (pages_in self.now)) place result }
     {
         for i in place..64 {
             if self.has(i) {
@@ -46,9 +53,20 @@ impl Region {
     pub(crate) fn add(&mut self, place: u8)
         requires { place < 64 }
         ensures number { self.new.number ≡ self.old.number }
-        ensures own { has_page self.new place ≡ true }
-        ensures others { (other : ℕ) → other ≢ place → has_page self.new other ≡ has_page self.old other }
+        ensures children { self.new.children ≡ self.old.children }
+        ensures own { has_page (pages_in self.new) place ≡ true }
+        ensures others { (other : ℕ) → other ≢ place → has_page (pages_in self.new) other ≡ has_page (pages_in self.old) other }
     {
         self.there |= 1 << place;
+    }
+
+    // Leads to a region on a digit.
+    pub(crate) fn lead(&mut self, digit: usize, link: u32)
+        requires { digit < 8 }
+        ensures number { self.new.number ≡ self.old.number }
+        ensures pages { pages_in self.new ≡ pages_in self.old }
+        ensures children { self.new.children ≡ slice_set self.old.children digit link }
+    {
+        self.children[digit] = link;
     }
 }

@@ -1,9 +1,9 @@
-use Rattle.std.specs.BTreeMap as tree
 use Rattle.std.specs.FinMap as map
 use Rattle.std.proofs.Common.{◌≡◌, ◌<◌, ◌∷◌, [], ◌++◌, ◌/◌, ◌%◌, length, get_or, set, All, refl, sym, ap, subst, ◌∙◌}
-use Rattle.std.proofs.{Common.{arith, nat_cmp}, lemmas.List.{length-map, get_or_push, get_or_append_left, Elements.All-from_get_or}}
-use Rattle.tagmem.specs.{declared.{block.Block.Block, directory.Directory.Directory}, Blocks.{contents_of, IsAbsent}}
-use Rattle.tagmem.specs.{Blocks.{numbers_of}, Directories.there_in, Granules.with_write, Trees.AreTrees}
+use Rattle.std.proofs.{Common.{arith, ℕ, List}, lemmas.List.{length-map, get_or_push, get_or_append_left, Elements.All-from_get_or}}
+use Rattle.tagmem.specs.{declared.{block.Block.Block, directory.Directory.Directory}, Blocks.{block_number_at, contents_of, IsAbsent}}
+use Rattle.tagmem.specs.{Blocks.{numbers_of}, Directories.there_in, Granules.with_write, Trees.AreTrees, Orders.IsStanding}
+use Rattle.tagmem.specs.Regions.{children_of, numbers_of as regions_numbers}
 use Rattle.tagmem.specs.Rooms.{HasRoomFor, blocks_of, blocks_with}
 use Rattle.tagmem.proofs.Added.{IsAdded, numbers_of-add, length-add, AreDistinct-add, ArePaged-add, ArePaged-has, contents_of-add}
 use Rattle.tagmem.proofs.{Added.{AreStored-add, len-add}, Blocks.get_absent, Indexes.OnErr-from, NextPut.none_in_page}
@@ -33,7 +33,7 @@ invariant_of-self-in_default c =
       found = m.found;
       distinct = m.distinct;
       paged = λ there is. rw is (record {
-        has = λ i lt. same _ ∙ (m.paged _ refl).has i lt;
+        has = λ i lt. same (block_number_at m.blocks.items i / 32) ∙ (m.paged _ refl).has i lt;
         used = λ page there. (m.paged _ refl).used page (sym (same page) ∙ there);
       });
       stored = m.stored;
@@ -44,12 +44,19 @@ invariant_of-self-in_default c =
       fits = m.fits;
     }
 
+abbrev numbers_in : Directory → List ℕ
+numbers_in directory = regions_numbers directory.regions.items
+
+abbrev children_in : Directory → List (List ℕ)
+children_in directory = children_of directory.regions.items
+
 pub insert-requires : goal.insert-requires
 insert-requires c =
     let same = sym c.make_room.ensures.directory in
     record {
       small = omega (arith, c.requires.in_memory);
-      region = c.region_at-region.ensures ∙ ap (λ (d : Directory). tree.get nat_cmp d.tree (c.args.granule / 256 / 64)) same;
+      region = subst (λ (d : Directory). IsStanding (numbers_in d) (children_in d) d.roots (c.args.granule / 256 / 64)
+          c.region_at-region.result) same c.region_at-region.ensures;
       there = c.has-there.ensures ∙ ap (λ d. there_in d (c.args.granule / 256)) same;
       fits = omega (arith, c.make_room.new.self.roomy, c.make_room.new.self.blocks.small);
     }

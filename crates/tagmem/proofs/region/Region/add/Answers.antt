@@ -2,7 +2,7 @@ use Rattle.std.{specs.Prelude.{◌==◌}, proofs.{Common.{ap, arith, w64}, lemma
 use Rattle.tagmem.proofs.region.Region.add.Goals as goal
 
 pub invariant_of-self : goal.invariant_of-self
-invariant_of-self c = record { small = or_lt 64 _ _ c.args.self.now.small (omega arith) }
+invariant_of-self c = record { small = or_lt 64 _ _ c.args.self.now.small (omega arith); each_has_child = c.args.self.now.each_has_child }
 
 pub returns-clause-own : goal.returns-clause-own
 returns-clause-own c = ap (λ bit. bit == 1) (bit_at_set_same w64 c.args.self.now.there c.args.place (omega arith))

@@ -1,0 +1,131 @@
+//! Where regions stand in a list, by their numbers, and which of them is next.
+//!
+//! A region has links to eight others: a link is one more than an index in the list, and 0 for none. From a region a
+//! way goes on to the child that the next octal digit of a number names, the highest first. So a way has no more steps
+//! than a number has digits, and all that is led to on a digit is less than all on a higher one.
+ghost use Rattle.std.specs.Prelude.{◌≡◌, ◌*◌, ◌+◌, ◌^◌, ◌<◌, ◌≤◌, ℕ, MatchOption, false, length, ltb};
+ghost use Rattle.tagmem.specs.Orders.{AreLinked, IsLeastUnder, IsStanding, above, child_of, height_of, last_of, lesser_of};
+ghost use Rattle.tagmem.specs.Regions.{children_of, numbers_of};
+
+use crate::region::Region;
+
+// How many digits a way has: few for short numbers, so that it doesn't begin with many zeros.
+#[inline(always)]
+pub(crate) fn height(number: u64) -> usize
+    ensures value { result ≡ height_of number }
+    ensures small { result < 18 }
+{
+    if number < 1 << 18 {
+        6
+    } else if number < 1 << 30 {
+        10
+    } else {
+        17
+    }
+}
+
+// Where the region with a number stands, or else where the last region on its way does and the digit on which that
+// leads to none. Where the way has no root, there is no last region, and its height stands for the digit.
+pub(crate) fn find(
+    regions: &[Region],
+    roots: &[u32; 18],
+    number: u64,
+) -> Result<usize, (Option<usize>, usize)>
+    requires small { number < 2 ^ 51 }
+    requires linked { AreLinked (numbers_of regions.now) (children_of regions.now) roots.now }
+    ensures { IsStanding (numbers_of regions.now) (children_of regions.now) roots.now number result }
+{
+    let mut level = height(number);
+    let root = roots[level];
+    if root == 0 {
+        return Err((None, level));
+    }
+    let mut index = root as usize - 1;
+    loop {
+        let region = &regions[index];
+        if region.number == number {
+            return Ok(index);
+        }
+        level -= 1;
+        let digit = (number >> (3 * level)) as usize % 8;
+        let child = region.children[digit];
+        if child == 0 {
+            return Err((Some(index), digit));
+        }
+        index = child as usize - 1;
+    }
+}
+
+// The least number from one on of a region that a link leads to: their numbers have a prefix, and so many digits
+// after it.
+pub(crate) fn least_under(
+    regions: &[Region],
+    from: u64,
+    level: usize,
+    link: u32,
+    prefix: u64,
+) -> Option<u64>
+    requires in_range { link ≤ length regions.now }
+    requires within { (index digit : ℕ) → child_of (children_of regions.now) index digit ≤ length regions.now }
+    requires low { level < 18 }
+    requires small { last_of level prefix < 2 ^ 64 }
+    ensures { IsLeastUnder (numbers_of regions.now) (children_of regions.now) from level link prefix result }
+{
+    if link == 0 {
+        return None;
+    }
+    let region = &regions[link as usize - 1];
+    let mut least = own(region.number, from);
+    if level == 0 {
+        return least;
+    }
+    for digit in 0..8 {
+        let child = 8 * prefix + digit;
+        if child < from >> (3 * (level - 1)) {
+            continue;
+        }
+        if ends_before(least, child, level - 1) {
+            break;
+        }
+        let next = least_under(
+            regions,
+            from,
+            level - 1,
+            region.children[digit as usize],
+            child,
+        );
+        least = lesser(least, next);
+    }
+    least
+}
+
+// A number, if it is not less than another.
+fn own(number: u64, from: u64) -> Option<u64>
+    ensures { MatchOption result (number < from) (λ same. (same ≡ number) × (from ≤ number)) }
+{
+    if number < from { None } else { Some(number) }
+}
+
+// Whether a number is there that is less than all with a prefix.
+fn ends_before(least: Option<u64>, prefix: u64, level: usize) -> bool
+    requires { level < 18 }
+    ensures { MatchOption least (result ≡ false) (λ number. result ≡ ltb (above level number) prefix) }
+{
+    match least {
+        Some(number) => number >> (3 * level) < prefix,
+        None => false,
+    }
+}
+
+// The lesser of two numbers that are there.
+pub(crate) fn lesser(first: Option<u64>, second: Option<u64>) -> Option<u64>
+    ensures { result ≡ lesser_of first second }
+{
+    match first {
+        Some(one) => match second {
+            Some(other) => Some(one.min(other)),
+            None => first,
+        },
+        None => second,
+    }
+}
