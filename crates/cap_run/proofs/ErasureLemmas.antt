@@ -41,7 +41,7 @@ put_none owners key owner none is other = elim (cases_Bool (key == other)) [
   | inr away ↦ ap (λ (b : Bool). if b then owner else owners other) away ∙ none other
 ]
 
-disowned_none : (written : Option Place) (state : State) (owners : Owners) → ((key : ℕ) → owners key ≡ None)
+pub disowned_none : (written : Option Place) (state : State) (owners : Owners) → ((key : ℕ) → owners key ≡ None)
     → (key : ℕ) → disowned written state owners key ≡ None
 disowned_none None state owners none key = none key
 disowned_none (Some (Granule granule)) state owners none key = none key
@@ -49,7 +49,7 @@ disowned_none (Some (Register number)) state owners none key =
     put_none owners number (owner_for (state number) (owners number)) none
     (no_owner _ (owners number) (none number)) key
 
-then_none : (owners : Owners) (parent : Option ℕ) → ((key : ℕ) → owners key ≡ None) → option_and_then owners parent ≡ None
+pub then_none : (owners : Owners) (parent : Option ℕ) → ((key : ℕ) → owners key ≡ None) → option_and_then owners parent ≡ None
 then_none owners None none = refl
 then_none owners (Some key) none = none key
 
@@ -96,7 +96,7 @@ first_free : (test : Bool) (refusal : RunRefusal) (checks : List (Bool × RunRef
     → first_of ((test, refusal) ∷ checks) ≡ None
 first_free test refusal checks passes free = ap (λ (b : Bool). if b then Some refusal else first_of checks) passes ∙ free
 
-and_none : (b c : Bool) → c ≡ false → (b && c) ≡ false
+pub and_none : (b c : Bool) → c ≡ false → (b && c) ≡ false
 and_none true c is = is
 and_none false c is = refl
 

@@ -13,6 +13,7 @@ pub mod ApartLemmas
 mod NotHeldLemmas
 mod StillHeldLemmas
 mod ErasureLemmas
+pub mod UsualRunLemmas
 mod PlaceLemmas
 mod OwnerLemmas
 mod ObjectLemmas

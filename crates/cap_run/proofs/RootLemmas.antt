@@ -16,7 +16,8 @@ use Rattle.cap_objects.specs.{Handed.held_of, HandoutsIn.objects_of}
 use Rattle.cap_run_log.specs.declared.lines.{RunPlace.TheVariants.Special}
 use Rattle.cap_run.specs.declared.{ends.{RunRefusal.{RunRefusal, TheVariants.Usual}}, specials.Specials.Specials}
 use Rattle.cap_run.specs.{Numbers.{by_number, numbered, numbered_run}, Owned.{AreWithin, IsWithin, object_by}, RootSteps.{CountsRoot, EndsCount, count_checks}, Run.{Run, first_special, with_specials}}
-use Rattle.cap_run.specs.{RunChanges.{in_run, root_after}, RunChecks.{Answers, root_end, root_wants, usual_ended}, RunOf.{run_owners, run_state}}
+use Rattle.cap_run_log.specs.UsualLines.{in_run}
+use Rattle.cap_run.specs.{RunChanges.root_after, RunChecks.{Answers, root_end, root_wants, usual_ended}, RunOf.{run_owners, run_state}}
 use Rattle.cap_run.specs.Specials.{cap_in, label_in}
 use Rattle.cap_run.proofs.{GranuleLemmas.put-kept, PlaceLemmas.{choice_under, with-main, with-special}, RunNumberLemmas.{index_in, run-is}, UsualLemmas.place-low}
 

@@ -213,6 +213,19 @@ module _ (held : Held) (specials : Specials) (h : Handouts) (alone : h.count ≡
       (fun_ext (λ key. ap (option_and_then (number_at (objects_of h))) (none key)))
       (fun_ext (λ n. nowhere (objects_of h) empty (index_in h n))) alone refl refl refl refl refl refl
 
+-- what is asked refuses no step there
+module _ (held : Held) (specials : Specials) (h : Handouts) (sized : length specials.labels ≡ 32)
+    (counts : CountsAre (run_owners held specials) (λ n. held_of (objects_of h n))) (stored : AreStored held.memory) (alone : h.count ≡ 0)
+    (step : Step) where
+  pub asked-alike : (asks other : Asks) → usual_end asks (numbered_run held specials h) step ≡ usual_end other (numbered_run held specials h) step
+  unfolding IsNear
+  asked-alike asks other =
+      let account = account_of held in
+      let near : IsNear account.state = λ key far. state-far held key stored far in
+      subst (λ (r : Run). usual_end asks r step ≡ usual_end other r step)
+      (sym (bare-run held specials h alone (unowned held specials h sized counts alone)))
+      (bare-end account (cap_in specials) near asks step ∙ sym (bare-end account (cap_in specials) near other step))
+
 module _ (held new : Held) (specials : Specials) (h : Handouts) (asks : Asks) (sized : length specials.labels ≡ 32)
     (counts : CountsAre (run_owners held specials) (λ n. held_of (objects_of h n))) (stored : AreStored held.memory) (alone : h.count ≡ 0)
     (bytes : List ℕ) (makes : MakesSteps held bytes new) where

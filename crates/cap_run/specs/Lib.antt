@@ -19,5 +19,6 @@ pub mod Holders
 pub mod HeldExtents
 pub mod OwnedAccesses
 pub mod Erasure
+pub mod UsualRuns
 pub mod StepLines
 pub mod Moved

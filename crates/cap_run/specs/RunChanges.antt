@@ -3,7 +3,6 @@ use Rattle.std.specs.Prelude.{ℕ, ◌+◌, nat_lt, false, if◌then◌else◌, 
 use Rattle.cap_word.specs.declared.word.{Cap.Cap, Word.Word}
 use Rattle.cap_bounds.specs.Bounds.{base_of, top_of}
 use Rattle.cap_log.specs.declared.{kinds.Step.Step, lines.Mode.Mode, lines.Mode.TheVariants.{Strict, Clear}}
-use Rattle.cap_log.specs.declared.lines.Place.{Place, TheVariants.{Granule, Register}}
 use Rattle.cap_machine.specs.declared.{limits.Limits.Limits, rules.Rules.{Rules, TheVariants.{TwoStrict, TwoClear}}}
 use Rattle.cap_machine.specs.Accounts.{Account, naming, with_step}
 use Rattle.cap_machine.specs.{Labels.untagged, Runs.parent_of, States.{State, granule_key, put, tagged, untagged_null}, Steps.row_of}
@@ -26,11 +25,6 @@ place_key (places.Granule number) = granule_key number
 abbrev pub granule_in : RunPlace → Option ℕ
 granule_in (places.Granule number) = Some number
 granule_in place = None
-
--- a place of the machine without special registers, as one of a run
-abbrev pub in_run : Place → RunPlace
-in_run (Register number) = places.General number
-in_run (Granule number) = places.Granule number
 
 -- what registers and granules hold, without special registers
 abbrev pub main_of : State → State

@@ -33,14 +33,17 @@ fn access_by<M: TaggedStore>(machine: &Machine<M>, step: &Step) -> Option<(u8, A
                 size: 16,
             },
         )),
-        Step::StoreCap(step) => Some((
-            step.authority.number(),
-            Access {
-                kind: Kind::StoreCap(machine.register(step.source.number())),
-                offset: step.offset.number(),
-                size: 16,
-            },
-        )),
+        Step::StoreCap(step) => {
+            let (authority, stored) = (step.authority.number(), step.source.number());
+            Some((
+                authority,
+                Access {
+                    kind: Kind::StoreCap(machine.register(stored)),
+                    offset: step.offset.number(),
+                    size: 16,
+                },
+            ))
+        }
         Step::Load(step) => Some((
             step.authority.number(),
             Access {
@@ -110,15 +113,13 @@ impl<M: TaggedStore> RunMachine<M> {
                 if !self.asks.owned {
                     return None;
                 }
-                match may_access(cap, access) {
-                    Err(_) => None,
-                    Ok(address) => {
-                        if self.meets_live(address, u128::from(address) + u128::from(access.size)) {
-                            Some(RunRefusal::NotOwned)
-                        } else {
-                            None
-                        }
-                    }
+                let Ok(address) = may_access(cap, access) else {
+                    return None;
+                };
+                if self.meets_live(address, u128::from(address) + u128::from(access.size)) {
+                    Some(RunRefusal::NotOwned)
+                } else {
+                    None
                 }
             }
         }

@@ -1,13 +1,15 @@
 //! Laws about runs. These functions do nothing: what they say is their contract.
 
 ghost use Rattle.std.specs.Prelude.{IsTrue, List, ◌++◌, ◌∷◌, ◌||◌};
-ghost use Rattle.cap_machine.specs.Parents.{IsSoundState};
+ghost use Rattle.cap_log.specs.{declared.lines.Line.Line, Lines.IsInRange};
+ghost use Rattle.cap_machine.specs.{Accounts.Account, Parents.IsSoundState};
 ghost use Rattle.cap_run_log.specs.declared.lines.RunLine.{RunLine};
 ghost use Rattle.cap_run_log.specs.RunLines.{IsRunLineInRange};
 ghost use Rattle.cap_run.specs.declared.asks.Asks.{Asks as AsksIn};
 ghost use Rattle.cap_run.specs.Choices.{EndsByChoice, AsksNoMore, IsFirstRefused, IsOwnedAccess, RefusedByChoice};
 ghost use Rattle.cap_run.specs.{Allowed.{AreAllowed, DescendsFromOne, IsLineAllowed, LineStaysWithin}, Descents.{LiesInRoot, StaysWithinRoots, run_along}};
 ghost use Rattle.cap_run.specs.{Erasure.AllowsErased, HeldExtents.IsHeldExactly, Holders.OwnersDescend, OwnedAccesses.{AccessesOwn, IsOwnersAccess}, Run.Run, RunChanges.no_run, Safety.IsSafe};
+ghost use Rattle.cap_run.specs.UsualRuns.{IsOfLog, MeansTheSame};
 
 /// Where each tagged capability of a run is sound, each one after an allowed line is sound too: it is the root that the
 /// line declares, or reaches no more than what the place held before the line that it comes from. A place that the line
@@ -68,6 +70,12 @@ pub fn owned_accesses_have_owners()
 /// same run, except its objects and how many steps it has.
 pub fn lines_are_allowed_without_objects()
     ensures law { (asks other : AsksIn) (read : List RunLine) → AreAllowed asks no_run read → AllowsErased other read }
+{}
+
+/// A line that logs have, too, means in a run without objects what it means in a log: it is refused for the same reason, unless
+/// a limit of logs is passed, and leads to the same places, counts and rules.
+pub fn usual_lines_mean_the_same()
+    ensures law { (asks : AsksIn) (account : Account) (line : Line) → IsInRange line → IsOfLog account → MeansTheSame asks account line }
 {}
 
 /// Along lines that are each allowed in its turn, at every moment an object owns just the places that reach some address

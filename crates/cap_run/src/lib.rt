@@ -32,7 +32,7 @@ pub use crate::laws::{
     first_refused_is_first, held_objects_are_met_exactly, lines_are_allowed_without_objects,
     lines_are_refused_by_choice, lines_end_by_choice, lines_stay_within, objects_are_safe,
     objects_own_what_descends, owned_accesses_are_of_owners, owned_accesses_have_owners,
-    places_descend_from_one_root, runs_stay_within_roots,
+    places_descend_from_one_root, runs_stay_within_roots, usual_lines_mean_the_same,
 };
 pub use crate::run_machine::RunMachine;
 pub use crate::specials::Specials;

@@ -7,7 +7,8 @@ ghost use Rattle.cap_log.specs.declared.lines.Place.TheVariants.{Register};
 ghost use Rattle.cap_machine.specs.{Accounts.root_checks, Helds.{EndsRoot, account_of}};
 ghost use Rattle.cap_run_log.specs.RunLines.{IsRunPlace};
 ghost use Rattle.cap_run_log.specs.declared.lines.RunPlace.TheVariants.{Special};
-ghost use Rattle.cap_run.specs.{Numbers.numbered_run, RunChanges.{in_run, root_after}, RunChecks.{Answers, root_end, root_wants}, RootSteps.{CountsRoot, EndsCount}};
+ghost use Rattle.cap_run_log.specs.UsualLines.{in_run};
+ghost use Rattle.cap_run.specs.{Numbers.numbered_run, RunChanges.root_after, RunChecks.{Answers, root_end, root_wants}, RootSteps.{CountsRoot, EndsCount}};
 
 use crate::ends::{RunEnd, RunRefusal};
 use crate::lines::usual_ended;

@@ -134,6 +134,56 @@ impl<M: TaggedStore> RunMachine<M> {
         self.usual_kind(kind)
     }
 
+    /// Makes a step of one kind, as [`RunMachine::make_usual`] does. Where no object was handed out, it takes no longer than in
+    /// the machine without objects.
+    #[inline(always)]
+    pub fn make_instruction<I: Instruction>(&mut self, kind: I) -> Result<(), RunEnd>
+        ensures outcome { let old = numbered_run self.old.machine self.old.specials self.old.objects in
+            Answers (usual_end self.old.asks old (I.step kind)) (usual_after old (I.step kind)) (usual_wants old (I.step kind)) old result
+            (numbered_run self.new.machine self.new.specials self.new.objects) }
+        ensures asks { self.new.asks ≡ self.old.asks }
+        ensures range { IsStepInRange (I.step kind) }
+    {
+        kind.in_range();
+        if self.objects.count() == 0 {
+            return self.make_alone(kind);
+        }
+        self.make_kind(kind)
+    }
+
+    // Makes it where no object was handed out: what is asked then refuses no step.
+    #[inline(always)]
+    fn make_alone<I: Instruction>(&mut self, kind: I) -> Result<(), RunEnd>
+        requires none { self.old.objects.count ≡ 0 }
+        requires range { IsStepInRange (I.step kind) }
+        ensures outcome { let old = numbered_run self.old.machine self.old.specials self.old.objects in
+            Answers (usual_end self.old.asks old (I.step kind)) (usual_after old (I.step kind)) (usual_wants old (I.step kind)) old result
+            (numbered_run self.new.machine self.new.specials self.new.objects) }
+        ensures asks { self.new.asks ≡ self.old.asks }
+    {
+        self.machine.kept();
+        match self.kind_alone(kind) {
+            Ok(()) => Ok(()),
+            Err(end) => Err(usual_ended(end)),
+        }
+    }
+
+    // Makes it as the machine without objects does, where no object was handed out.
+    #[inline(always)]
+    fn kind_alone<I: Instruction>(&mut self, kind: I) -> Result<(), StepEnd>
+        requires none { self.old.objects.count ≡ 0 }
+        requires range { IsStepInRange (I.step kind) }
+        ensures outcome { MatchResult result
+            (λ _. MakesUsual self.old.machine (objects_of self.old.objects) (I.step kind) self.new.machine (objects_of self.new.objects))
+            (λ end. EndsStep self.old.machine (I.step kind) end self.new.machine) }
+        ensures specials { self.new.specials ≡ self.old.specials }
+        ensures objects { self.new.objects ≡ self.old.objects }
+        ensures asks { self.new.asks ≡ self.old.asks }
+    {
+        self.machine.kept();
+        kind.perform(&mut self.machine)
+    }
+
     // Makes it where nothing is asked of its access.
     #[inline(always)]
     fn usual_kind<I: Instruction>(&mut self, kind: I) -> Result<(), RunEnd>

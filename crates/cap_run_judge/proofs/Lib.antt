@@ -2,8 +2,10 @@ mod GuardLemmas
 pub mod TurnLemmas
 pub mod CountLemmas
 pub mod EndLemmas
+pub mod FollowLemmas
 mod SourceLemmas
 mod TextLemmas
 pub mod OneVerdict
 mod OwnerLemmas
+mod UsualLogLemmas
 pub mod RunReportLemmas

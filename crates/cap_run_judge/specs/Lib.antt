@@ -1,5 +1,6 @@
 pub mod Turns
 pub mod Verdicts
+pub mod UsualLogs
 pub mod VerdictLines
 pub mod Judgings
 pub mod OwnerLists

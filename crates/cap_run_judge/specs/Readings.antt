@@ -1,5 +1,5 @@
 -- What a judge of run logs has read of the bytes that it was handed (this profile's own, as are all below).
-use Rattle.std.specs.Prelude.{◌≡◌, ◌⊎◌, ℕ, ◌+◌, Bool, false, IsTrue, List, [], Option, None, Some, Result, Ok, Err}
+use Rattle.std.specs.Prelude.{◌≡◌, ◌⊎◌, ℕ, ◌+◌, Bool, false, IsTrue, List, [], ◌++◌, Option, None, Some, Result, Ok, Err}
 use Rattle.cap_ops.specs.declared.refusal.Refusal.TheVariants.{Misplaced, Truncated}
 use Rattle.cap_streams.specs.{declared.judge_faults.JudgeFault.JudgeFault, FaultLines.bytes_of, Front.{IsCut, IsLine, IsTooLong}}
 use Rattle.tagmem.specs.declared.store.TaggedStore.{Ghosts}
@@ -84,6 +84,16 @@ Faults old bytes new =
     (IsAtFault old.due × (new ≡ old))
     ⊎ ((IsAtFault old.due → ⊥) × (refusal : RunRefusal) × (text : List ℕ) × RefusesNext old bytes refusal × IsLastFront bytes false text
     × (new ≡ refused_at old refusal text))
+
+-- the bytes lead from a stage to a stage: they are lines, or lines before what begins with a faulty one
+abbrev pub Follows : Stage → List ℕ → Stage → Type 0
+Follows old bytes new =
+    Goes old bytes new
+    ⊎ ((front : List ℕ) × (rest : List ℕ) × (bytes ≡ front ++ rest) × (middle : Stage) × Goes old front middle × Faults middle rest new)
+
+-- a step may come next, and its line isn't taken
+abbrev pub IsUnmade : Stage → RunLine → RunEnd → Type 0
+IsUnmade stage line end = (stage.due ≡ Body) × EndsFor stage line end
 
 -- a judge that was handed a front and a rest took the front and stopped: the rest is less than a line; or begins with a
 -- faulty line; or with a line that nothing refuses and that may want memory

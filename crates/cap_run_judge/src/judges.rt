@@ -202,7 +202,7 @@ impl<M: TaggedStore> RunJudge<M> {
     }
 
     // Takes the line at the front of some bytes: what follows it.
-    fn take_next<'a>(&mut self, bytes: &'a [u8]) -> Result<&'a [u8], Stop>
+    pub(crate) fn take_next<'a>(&mut self, bytes: &'a [u8]) -> Result<&'a [u8], Stop>
         ensures ok { IfOk result (λ rest. (line : RunLine) × Begins IsRunLineInRange run_spelling 10 bytes.now line rest.now
             × Takes (stage_of self.old) line (stage_of self.new)) }
         ensures err { IfErr result (λ stop. StopsAt (stage_of self.old) [] bytes.now stop (stage_of self.new)) }
@@ -239,7 +239,7 @@ impl<M: TaggedStore> RunJudge<M> {
     // Stops at a line that is not taken.
     #[cold]
     #[inline(never)]
-    fn stop(&mut self, end: RunEnd, found: Front, bytes: &[u8]) -> Stop
+    pub(crate) fn stop(&mut self, end: RunEnd, found: Front, bytes: &[u8]) -> Stop
         requires found { IsFront bytes.now found }
         requires clear { IsAtFault (stage_of self.old).due → ⊥ }
         requires ends { EndsAt (stage_of self.old) bytes.now end }

@@ -11,13 +11,14 @@ mod judges;
 mod laws;
 mod output;
 mod owners;
+mod steps;
 mod streams;
 mod verdict;
 mod verdict_lines;
 
 pub use crate::faults::RefusedRunLine;
 pub use crate::judges::RunJudge;
-pub use crate::laws::{one_run_verdict, stages_are_of_run_logs};
+pub use crate::laws::{logs_are_run_logs, one_run_verdict, stages_are_of_run_logs};
 pub use crate::output::{judge_run_to, push_run_report, push_run_verdict};
 pub use crate::owners::{object_text, owner_text, push_owners};
 pub use crate::streams::{

@@ -4,3 +4,4 @@ mod PartLemmas
 mod Rows
 mod SmallLemmas
 pub mod Spellings
+pub mod UsualLineLemmas

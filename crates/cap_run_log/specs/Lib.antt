@@ -2,3 +2,4 @@ pub mod RunLines
 pub mod RunHeads
 pub mod RunParts
 pub mod Spaces
+pub mod UsualLines

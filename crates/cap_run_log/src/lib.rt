@@ -5,12 +5,14 @@
 #![tactic(auto)]
 
 mod heads;
+mod laws;
 mod lines;
 mod parts;
 mod readers;
 mod writers;
 
 pub use crate::heads::RunHead;
+pub use crate::laws::usual_lines_are_run_lines;
 pub use crate::lines::{DeriveLine, ExchangeLine, RunLine, RunPlace, RunRegister, RunStep};
 pub use crate::readers::{
     read_run_line, run_spellings_are_distinct, take_derive, take_exchange, take_run_line,

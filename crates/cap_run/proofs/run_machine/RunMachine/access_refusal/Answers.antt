@@ -61,7 +61,7 @@ returns-then-meets_live-clause-some g c =
           c.in-Ok-may_access.ensures.outcome.0,
       asked-unowned s.machine s.specials s.objects s.objects.kept.numbered s.asks access (sym c.owner.ensures.owner ∙ c.in-None.is) c.if-not-self.false
           (ap (λ (a : ℕ). meets run None is_live a (a + access.size)) (sym address) ∙ ap (meets run None is_live c.in-Ok-may_access.address)
-          (ap (λ (a : ℕ). a + access.size) (sym c.from.ensures) ∙ ap (λ (n : ℕ). c.from.result + n) (sym c.from-in-Ok-may_access.ensures)) ∙ sym c.meets_live.ensures ∙ c.if-meets_live.true),
+          (ap (λ (a : ℕ). a + access.size) (sym c.from.ensures) ∙ ap (λ (n : ℕ). c.from.result + n) (sym c.from-in-None.ensures)) ∙ sym c.meets_live.ensures ∙ c.if-meets_live.true),
     )
 
 pub returns-else-meets_live-clause-none : goal.returns-else-meets_live-clause-none
@@ -79,4 +79,8 @@ returns-else-meets_live-clause-none g c none =
     asked-none s.machine s.specials s.objects s.objects.kept.numbered s.asks access (sym c.owner.ensures.owner ∙ c.in-None.is)
     (ap (λ (b : Bool). s.asks.owned && b)
     (ap (λ (a : ℕ). meets run None is_live a (a + access.size)) (sym address) ∙ ap (meets run None is_live c.in-Ok-may_access.address)
-    (ap (λ (a : ℕ). a + access.size) (sym c.from.ensures) ∙ ap (λ (n : ℕ). c.from.result + n) (sym c.from-in-Ok-may_access.ensures)) ∙ sym c.meets_live.ensures ∙ c.if-meets_live.false) ∙ and_none s.asks.owned)
+    (ap (λ (a : ℕ). a + access.size) (sym c.from.ensures) ∙ ap (λ (n : ℕ). c.from.result + n) (sym c.from-in-None.ensures)) ∙ sym c.meets_live.ensures ∙ c.if-meets_live.false) ∙ and_none s.asks.owned)
+
+-- nothing refuses what its own checks refuse
+pub returns-in-Err-clause-some : goal.returns-in-Err-clause-some
+returns-in-Err-clause-some g c = tt

@@ -2,7 +2,8 @@ use Rattle.std.proofs.Common.{ap, arith, option_map, subst, sym, ◌∙◌}
 use Rattle.std.specs.Prelude.{Err}
 use Rattle.cap_machine.specs.{Helds.{account_of}, States.key_of}
 use Rattle.cap_run.specs.declared.ends.{RunEnd.RunEnd, RunRefusal.TheVariants.Usual}
-use Rattle.cap_run.specs.{Numbers.numbered_run, RunChanges.{in_run, root_after}, RunChecks.{Answers, root_end, root_wants}}
+use Rattle.cap_run_log.specs.UsualLines.{in_run}
+use Rattle.cap_run.specs.{Numbers.numbered_run, RunChanges.root_after, RunChecks.{Answers, root_end, root_wants}}
 use Rattle.cap_run.proofs.RootLemmas.{main-after, main-kept, main-unowned, root-end, root-refused, taken-free}
 use Rattle.cap_run.proofs.UsualLemmas.{place-low}
 use Rattle.cap_run.proofs.run_machine.RunMachine.declare_main.Goals as goal

@@ -1,0 +1,40 @@
+use Rattle.std.proofs.Common.{◌≡◌, ap, option_map, subst, sym, ◌∙◌, Option}
+use Rattle.std.specs.Prelude.{Err}
+use Rattle.cap_run.specs.declared.ends.{RunEnd.RunEnd, RunRefusal.{RunRefusal, TheVariants.Usual}}
+use Rattle.cap_run.specs.{Numbers.numbered_run, RunChanges.usual_after, RunChecks.{Answers, usual_end, usual_ended, usual_wants}}
+use Rattle.cap_objects.specs.{Counts.CountsAre, Handed.held_of, HandoutsIn.objects_of}
+use Rattle.cap_objects.specs.declared.handouts.Handouts.{Handouts}
+use Rattle.cap_run.specs.{declared.specials.Specials.Specials, Run.Run, RunOf.run_owners}
+use Rattle.cap_run.proofs.StepLineLemmas.{asked-alike}
+use Rattle.cap_run.proofs.UsualNumberLemmas.{asks_nothing, usual-end, usual-numbered, usual-refused, written-low}
+use Rattle.cap_run.proofs.run_machine.RunMachine.make_alone.Goals as goal
+
+pub returns-in-Ok-clause-outcome : goal.returns-in-Ok-clause-outcome
+returns-in-Ok-clause-outcome g c =
+    let s = c.args.self.now in
+    let n = c.kind_alone.new.self in
+    let step = g.I.Operands.step c.args.kind in
+    let makes = c.in-Ok.ensures.outcome in
+    let low = written-low s.machine step c.requires.range in (
+      asked-alike s.machine s.specials s.objects s.specials.sized.1 s.counted c.kept.ensures.stored c.requires.none step s.asks (asks_nothing s.asks)
+          ∙ usual-end s.machine s.specials s.objects step s.asks c.kept.ensures.stored ∙ ap (option_map Usual) makes.checks,
+      subst (λ (x : Specials). numbered_run n.machine x n.objects ≡ usual_after (numbered_run s.machine s.specials s.objects) step) (sym c.in-Ok.ensures.specials)
+          (usual-numbered s.machine n.machine s.specials s.objects n.objects step c.requires.range c.kept.ensures.stored s.specials.sized.1
+          (subst (λ (x : Specials). CountsAre (run_owners n.machine x) (λ slot. held_of (objects_of n.objects slot))) c.in-Ok.ensures.specials n.counted)
+          s.objects.kept.numbered n.objects.kept.numbered low (ap (λ (h : Handouts). h.count) c.in-Ok.ensures.objects) makes),
+    )
+
+pub returns-in-Err-clause-outcome : goal.returns-in-Err-clause-outcome
+returns-in-Err-clause-outcome g c =
+    let s = c.args.self.now in
+    let n = c.kind_alone.new.self in
+    let step = g.I.Operands.step c.args.kind in
+    let run = numbered_run s.machine s.specials s.objects in
+    let answers : Option RunRefusal → RunEnd → Run → Type 0 = λ end e new. Answers end (usual_after run step) (usual_wants run step) run (Err e) new in
+    let alike = asked-alike s.machine s.specials s.objects s.specials.sized.1 s.counted c.kept.ensures.stored c.requires.none step s.asks (asks_nothing s.asks) in
+    subst (λ (end : Option RunRefusal). answers end c.usual_ended.result (numbered_run n.machine n.specials n.objects)) (sym alike)
+    (subst (λ (e : RunEnd). answers (usual_end (asks_nothing s.asks) run step) e (numbered_run n.machine n.specials n.objects)) (sym c.usual_ended.ensures)
+    (subst (answers (usual_end (asks_nothing s.asks) run step) (usual_ended c.in-Err.end))
+    (ap (λ (x : Specials). numbered_run n.machine x s.objects) (sym c.in-Err.ensures.specials)
+    ∙ ap (numbered_run n.machine n.specials) (sym c.in-Err.ensures.objects))
+    (usual-refused s.machine n.machine s.specials s.objects step s.asks c.in-Err.end c.kept.ensures.stored c.in-Err.ensures.outcome)))

@@ -1,0 +1,40 @@
+use Rattle.std.proofs.Common.{[], ◌≡◌, ◌≢◌, ◌⊎◌, inl, inr, subst}
+use Rattle.cap_judge.specs.declared.judges.Stop.{Stop, TheVariants.{Cut, Fault}}
+use Rattle.cap_judge.proofs.TurnLemmas.{whole_uncut}
+use Rattle.cap_run_judge.specs.{Readings.{StopsAt, stage_of}, Turns.Stage, Verdicts.Lacks}
+use Rattle.cap_run_judge.proofs.FollowLemmas.{line_whole, nothing_goes, stop_follows, whole_lacks}
+use Rattle.cap_run_judge.proofs.TurnLemmas.{ends_at}
+use Rattle.cap_run_judge.proofs.judges.RunJudge.take_end.Goals as goal
+
+pub stop-requires-clause-ends : goal.stop-requires-clause-ends
+stop-requires-clause-ends g c =
+    let ends = c.requires.ends in
+    ends_at (stage_of c.args.self.now) c.args.text.now [] ends.0 c.args.end ends.1 ends.2.1
+
+pub returns-in-NoMemory-clause-unchanged : goal.returns-in-NoMemory-clause-unchanged
+returns-in-NoMemory-clause-unchanged g c =
+    nothing_goes (stage_of c.args.self.now) (stage_of c.stop.new.self) (c.in-NoMemory.ensures.stops).0
+
+pub returns-in-NoMemory-clause-no_memory : goal.returns-in-NoMemory-clause-no_memory
+returns-in-NoMemory-clause-no_memory g c = λ _.
+    let ends = c.requires.ends in
+    let stop = c.in-NoMemory.ensures.stops in
+    let same = nothing_goes (stage_of c.args.self.now) (stage_of c.stop.new.self) stop.0 in
+    whole_lacks (stage_of c.args.self.now) c.args.text.now stop.1 (line_whole c.args.text.now ends.0 ends.1)
+    (subst (λ (s : Stage). Lacks s c.args.text.now stop.1) same stop.2)
+
+fault_only : (stop : Stop) → (stop ≡ Fault) ⊎ (stop ≡ Cut) → stop ≢ Cut → stop ≡ Fault
+fault_only stop (inl fault) uncut = fault
+fault_only stop (inr cut) uncut = absurd (uncut cut)
+
+pub returns-in-Fault : goal.returns-in-Fault
+returns-in-Fault g c =
+    let old = stage_of c.args.self.now in
+    let new = stage_of c.stop.new.self in
+    let text = c.args.text.now in
+    let ends = c.requires.ends in
+    let uncut : c.stop.result ≢ Cut = λ cut.
+    let stop = subst (λ (s : Stop). StopsAt old [] text s new) cut c.stop.ensures.stops in
+    whole_uncut text (line_whole text ends.0 ends.1) stop.1 in
+    let stop = subst (λ (s : Stop). StopsAt old [] text s new) (fault_only c.stop.result c.in-Fault.is uncut) c.stop.ensures.stops in
+    record { taken = stop_follows old new [] text stop; unchanged = tt; line = λ e. cc; no_memory = λ e. cc }

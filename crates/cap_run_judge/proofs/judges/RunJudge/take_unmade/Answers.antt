@@ -1,0 +1,23 @@
+use Rattle.std.proofs.Common.{[], ◌∷◌, ◌++◌, subst}
+use Rattle.cap_judge.specs.Readings.{IsNoLine}
+use Rattle.cap_run_log.specs.declared.lines.RunLine.{RunLine}
+use Rattle.cap_run_log.specs.RunLines.{IsRunLineInRange, run_spelling}
+use Rattle.cap_run_judge.proofs.TurnLemmas.{IsLine-run_spelling}
+use Rattle.cap_run_judge.proofs.judges.RunJudge.take_unmade.Goals as goal
+
+pub returns-in-Some-clause-taken : goal.returns-in-Some-clause-taken
+returns-in-Some-clause-taken g c = rw c.write_run_line-length.ensures.line.written at c.take_end.ensures.taken
+
+pub returns-in-Some-clause-no_memory : goal.returns-in-Some-clause-no_memory
+returns-in-Some-clause-no_memory g c = rw c.write_run_line-length.ensures.line.written at c.take_end.ensures.no_memory
+
+-- what a line spells is one line
+line_is_line : (line : RunLine) → IsRunLineInRange line → IsNoLine (run_spelling line ++ 10 ∷ []) → ⊥
+line_is_line line range none = none.0 (run_spelling line) (IsLine-run_spelling line range [])
+
+pub returns-in-None-clause-taken : goal.returns-in-None-clause-taken
+returns-in-None-clause-taken g c = rw c.write_run_line-length.ensures.line.written at c.take_line.ensures.taken
+
+pub returns-in-None-clause-line : goal.returns-in-None-clause-line
+returns-in-None-clause-line g c = λ is.
+    line_is_line _ c.requires.range (subst IsNoLine c.write_run_line-length.ensures.line.written (c.take_line.ensures.no_line.0 is))
