@@ -169,6 +169,19 @@ status=0
 "$work/stepped" --bug > "$work/log" 2> "$work/stepping" || status=$?
 [ "$status" = 1 ] && cmp "$work/complaints" "$work/stepping" || { echo 'check.sh: the emulator by steps stops elsewhere' >&2; exit 1; }
 
+# The recorder of one hook: which line it chooses, and that the emulator's log by it has the lines of the emulator's own calls.
+for compiler in "${CC:-cc} -std=c99" "${CXX:-c++} -std=c++11 -x c++"; do
+    command -v "${compiler%% *}" > "$work/found" || continue
+    quietly $compiler $strict -Wconversion examples/emulator/hooks.c -x none $library -o "$work/hooks"
+    "$work/hooks" > "$work/log"
+    [ "$("$diagnosis" run "$work/log")" = 'yes 53 4 1' ] || { echo 'check.sh: the log of hooks gets another verdict' >&2; exit 1; }
+done
+quietly ${CC:-cc} -std=c99 $strict -DHOOKED examples/emulator/emulator.c $library -o "$work/hooked"
+"$work/emulator" | sed '1s/.*/run 1/' > "$work/wanted"
+"$work/hooked" > "$work/log"
+cmp "$work/wanted" "$work/log" || { echo 'check.sh: the hook chooses other lines' >&2; exit 1; }
+[ "$("$diagnosis" run "$work/log")" = 'yes 27 1 0' ] || { echo 'check.sh: the log of the hook gets another verdict' >&2; exit 1; }
+
 judged 'yes 27 1' 0
 judged 'no 12 12 NotExact' 1 --bug
 grep -qx 'emulator: line 12: NotExact' "$work/complaints" || { echo 'check.sh: the emulator names another line' >&2; exit 1; }

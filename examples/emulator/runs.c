@@ -3,9 +3,10 @@
  *
  *     runs run [--freed held|used|both] [--owned] [--owners] LOG..
  *
- * A log is judged in memory by one call, and piece by piece, cut at every 1, 7 and 4096 bytes: each way must get the same
- * verdict. Of the owners of granules it prints those below 0x20000. Without words, it tries what the calls answer of places, owners and objects. Status: 0 if each log got a
- * verdict and all ways agree. It is C and C++.
+ * A log is judged in memory by one call; piece by piece, cut at every 1, 7 and 4096 bytes; line by line; and by lines whose
+ * steps are passed by their numbers: each way must get the same verdict. Of the owners of granules it prints those below
+ * 0x20000. Without words, it tries what the calls answer of places, owners and objects. Status: 0 if each log got a verdict
+ * and all ways agree. It is C and C++.
  */
 #include <capcheck_judge.h>
 
@@ -111,12 +112,76 @@ static capcheck_run_answer in_pieces(const char *log, size_t length, size_t size
     return end;
 }
 
+/* Passes a step by its numbers; any other line as it is. */
+static uint8_t pass_numbers(capcheck_run_judge *judge, const capcheck_run_line *it, const char *text, size_t length) {
+    const capcheck_line *l = &it->line;
+    switch (l->kind) {
+    case CAPCHECK_KIND_MOVE: return capcheck_run_step_move(judge, l->target, l->source, l->cap);
+    case CAPCHECK_KIND_CLEARTAG: return capcheck_run_step_cleartag(judge, l->target, l->source, l->cap);
+    case CAPCHECK_KIND_SETBOUNDS: return capcheck_run_step_setbounds(judge, l->target, l->source, l->number, l->cap);
+    case CAPCHECK_KIND_SETBOUNDSEXACT: return capcheck_run_step_setboundsexact(judge, l->target, l->source, l->number, l->cap);
+    case CAPCHECK_KIND_SETADDR: return capcheck_run_step_setaddr(judge, l->target, l->source, l->number, l->cap);
+    case CAPCHECK_KIND_ANDPERM: return capcheck_run_step_andperm(judge, l->target, l->source, l->number, l->cap);
+    case CAPCHECK_KIND_SEAL: return capcheck_run_step_seal(judge, l->target, l->source, l->authority, l->cap);
+    case CAPCHECK_KIND_UNSEAL: return capcheck_run_step_unseal(judge, l->target, l->source, l->authority, l->cap);
+    case CAPCHECK_KIND_LC: return capcheck_run_step_lc(judge, l->target, l->authority, l->offset, l->cap);
+    case CAPCHECK_KIND_SC: return capcheck_run_step_sc(judge, l->source, l->authority, l->offset);
+    case CAPCHECK_KIND_LOAD: return capcheck_run_step_load(judge, l->authority, l->offset, l->size, l->number);
+    case CAPCHECK_KIND_STORE: return capcheck_run_step_store(judge, l->authority, l->offset, l->size, l->number);
+    case CAPCHECK_KIND_DERIVE: return capcheck_run_step_derive(judge, it->target, it->source, l->cap);
+    case CAPCHECK_KIND_EXCHANGE:
+        return capcheck_run_step_exchange(judge, l->target, l->source, l->number, l->cap, it->second);
+    case CAPCHECK_KIND_INVOKE: return capcheck_run_step_invoke(judge, l->source, l->authority, l->cap.word, it->second.word);
+    case CAPCHECK_KIND_DROP: return capcheck_run_step_drop(judge, it->target);
+    case CAPCHECK_KIND_FILL: return capcheck_run_step_fill(judge, l->number, l->cap.word);
+    case CAPCHECK_KIND_OBJECT: return capcheck_run_step_object(judge, l->source, l->number);
+    case CAPCHECK_KIND_FREE: return capcheck_run_step_free(judge, l->source, l->number);
+    default: return capcheck_run_judge_line(judge, text, length);
+    }
+}
+
+/* Passes a log line by line, or by lines whose steps are passed by their numbers, and returns the verdict. */
+static capcheck_run_answer line_by_line(const char *log, size_t length, capcheck_asks asks, bool numbers) {
+    capcheck_run_judge judge = CAPCHECK_NO_RUN_JUDGE_YET;
+    capcheck_run_answer verdict;
+    uint8_t state = CAPCHECK_GOES_ON;
+    size_t at = 0;
+    EXPECT(capcheck_run_judge_open(&judge, asks) == CAPCHECK_GOES_ON);
+    while (at < length && state == CAPCHECK_GOES_ON) {
+        const char *feed = (const char *)memchr(log + at, '\n', length - at);
+        size_t size = feed != NULL ? (size_t)(feed - log) + 1 - at : length - at;
+        if (numbers) {
+            capcheck_run_line line = capcheck_read_run_line(log + at, length - at);
+            EXPECT(line.line.length == 0 || line.line.length == size);
+            state = pass_numbers(&judge, &line, log + at, size);
+        } else {
+            state = capcheck_run_judge_line(&judge, log + at, size);
+        }
+        if (state != CAPCHECK_NO_LINE)
+            at += size;
+        EXPECT(state == CAPCHECK_GOES_ON || state == CAPCHECK_NO || (state == CAPCHECK_NO_LINE && feed == NULL));
+    }
+    EXPECT(capcheck_run_judge_answer(&judge).state == (state == CAPCHECK_NO ? CAPCHECK_NO : CAPCHECK_GOES_ON));
+    verdict = capcheck_run_judge_end(&judge);
+    if (verdict.state == CAPCHECK_YES && at < length) { /* less than a line after the end line */
+        char rest[CAPCHECK_LINE_SIZE + 1];
+        memcpy(rest, log + at, length - at);
+        rest[length - at] = '\n';
+        EXPECT(capcheck_run_judge_line(&judge, rest, length - at + 1) == CAPCHECK_NO);
+        verdict = capcheck_run_judge_end(&judge);
+    }
+    capcheck_run_judge_close(&judge);
+    return verdict;
+}
+
 static void judge_log(const char *log, size_t length, capcheck_asks asks, bool owners) {
     const size_t sizes[] = {1, 7, 4096};
     size_t i;
     capcheck_run_answer verdict = capcheck_run_judge_bytes((const uint8_t *)log, length, asks);
     for (i = 0; i < 3; i++)
         EXPECT(same(verdict, in_pieces(log, length, sizes[i], asks)));
+    EXPECT(same(verdict, line_by_line(log, length, asks, false)));
+    EXPECT(same(verdict, line_by_line(log, length, asks, true)));
     if (verdict.state == CAPCHECK_YES)
         printf("yes %u %u %u\n", (unsigned)verdict.steps, (unsigned)verdict.roots, (unsigned)verdict.objects);
     else
@@ -232,6 +297,85 @@ static void objects(void) {
     capcheck_run_judge_close(&judge);
 }
 
+static bool is_place(capcheck_place place, uint8_t kind, uint64_t number) { return place.kind == kind && place.number == number; }
+
+/* The first holder of an object, and the present objects by their numbers. */
+static void holders(void) {
+    capcheck_run_judge judge = CAPCHECK_NO_RUN_JUDGE_YET;
+    char lines[512];
+    EXPECT(is_place(capcheck_run_judge_holder(&judge, 1), CAPCHECK_NO_PLACE, 0) && capcheck_run_judge_next_object(&judge, 1) == 0);
+    EXPECT(capcheck_run_judge_open(&judge, usual) == CAPCHECK_GOES_ON);
+    narrowed(lines, sizeof lines);
+    EXPECT(pass(&judge, lines) == CAPCHECK_GOES_ON && pass(&judge, "sc c2 c1 16\n") == CAPCHECK_GOES_ON);
+    EXPECT(is_place(capcheck_run_judge_holder(&judge, 1), CAPCHECK_REGISTER, 2));
+    EXPECT(is_place(capcheck_run_judge_holder(&judge, 0), CAPCHECK_NO_PLACE, 0));
+    EXPECT(is_place(capcheck_run_judge_holder(&judge, 2), CAPCHECK_NO_PLACE, 0));
+    EXPECT(capcheck_run_judge_next_object(&judge, 0) == 1 && capcheck_run_judge_next_object(&judge, 1) == 1);
+    EXPECT(capcheck_run_judge_next_object(&judge, 2) == 0 && capcheck_run_judge_next_object(&judge, UINT32_MAX) == 0);
+    EXPECT(capcheck_run_step_drop(&judge, at(CAPCHECK_REGISTER, 2)) == CAPCHECK_GOES_ON);
+    EXPECT(is_place(capcheck_run_judge_holder(&judge, 1), CAPCHECK_GRANULE, 16));
+    EXPECT(capcheck_run_step_free(&judge, 0, 1) == CAPCHECK_GOES_ON);
+    EXPECT(capcheck_run_step_drop(&judge, at(CAPCHECK_GRANULE, 16)) == CAPCHECK_GOES_ON);
+    EXPECT(capcheck_run_judge_next_object(&judge, 1) == 0 && is_place(capcheck_run_judge_holder(&judge, 1), CAPCHECK_NO_PLACE, 0));
+    capcheck_run_judge_close(&judge);
+}
+
+static capcheck_cap any(void) {
+    capcheck_cap cap = CAPCHECK_NULL;
+    return cap;
+}
+
+/* Numbers out of range are no line, and change nothing; without a judge there is none. */
+static void out_of_range(void) {
+    capcheck_run_judge judge = CAPCHECK_NO_RUN_JUDGE_YET;
+    capcheck_place c0 = at(CAPCHECK_REGISTER, 0), c1 = at(CAPCHECK_REGISTER, 1), scr32 = at(CAPCHECK_SPECIAL, 32);
+    capcheck_word word = capcheck_null();
+    int open;
+    for (open = 0; open < 2; open++) {
+        uint8_t none = open ? CAPCHECK_NO_LINE : CAPCHECK_NO_JUDGE;
+        EXPECT(capcheck_run_step_move(&judge, 0, 1, any()) == none && capcheck_run_step_cleartag(&judge, 1, 32, any()) == none);
+        EXPECT(capcheck_run_step_setbounds(&judge, 32, 1, 0, any()) == none && capcheck_run_step_setboundsexact(&judge, 0, 1, 0, any()) == none);
+        EXPECT(capcheck_run_step_setaddr(&judge, 0, 1, 0, any()) == none && capcheck_run_step_andperm(&judge, 0, 1, 0, any()) == none);
+        EXPECT(capcheck_run_step_seal(&judge, 1, 1, 32, any()) == none && capcheck_run_step_unseal(&judge, 1, 32, 1, any()) == none);
+        EXPECT(capcheck_run_step_lc(&judge, 1, 1, 2048, any()) == none && capcheck_run_step_sc(&judge, 1, 1, -2049) == none);
+        EXPECT(capcheck_run_step_load(&judge, 1, 0, 3, 0) == none && capcheck_run_step_store(&judge, 1, 0, 1, 256) == none);
+        EXPECT(capcheck_run_step_derive(&judge, c0, c1, any()) == none && capcheck_run_step_derive(&judge, c1, scr32, any()) == none);
+        EXPECT(capcheck_run_step_exchange(&judge, 0, 1, 0, any(), any()) == none);
+        EXPECT(capcheck_run_step_exchange(&judge, 1, 1, 32, any(), any()) == none);
+        EXPECT(capcheck_run_step_invoke(&judge, 32, 1, word, word) == none && capcheck_run_step_drop(&judge, c0) == none);
+        EXPECT(capcheck_run_step_fill(&judge, 8, word) == none && capcheck_run_step_object(&judge, 0, 0) == none);
+        EXPECT(capcheck_run_step_object(&judge, 1, UINT64_C(1) << 32) == none && capcheck_run_step_free(&judge, 1, 1) == none);
+        EXPECT(capcheck_run_step_free(&judge, 0, 0) == none && capcheck_run_judge_line(&judge, "run 1", 5) == none);
+        if (!open)
+            EXPECT(capcheck_run_judge_open(&judge, usual) == CAPCHECK_GOES_ON && pass(&judge, BEGIN) == CAPCHECK_GOES_ON);
+    }
+    EXPECT(capcheck_run_judge_line(&judge, "drop c1\ndrop c1\n", 16) == CAPCHECK_NO_LINE);
+    EXPECT(capcheck_run_step_drop(&judge, c1) == CAPCHECK_GOES_ON && capcheck_run_judge_line(&judge, "end 1\n", 6) == CAPCHECK_GOES_ON);
+    EXPECT(capcheck_run_judge_end(&judge).state == CAPCHECK_YES);
+    EXPECT(capcheck_run_step_drop(&judge, c1) == CAPCHECK_NO); /* a step after the end line */
+    EXPECT(capcheck_run_judge_answer(&judge).line == 6 && capcheck_run_judge_answer(&judge).refusal == CAPCHECK_MISPLACED);
+    EXPECT(capcheck_run_step_move(&judge, 1, 2, any()) == CAPCHECK_NO && capcheck_run_judge_answer(&judge).line == 6);
+    capcheck_run_judge_close(&judge);
+}
+
+/* The diagnosis, in a room that is too small and in one that isn't. */
+static void reports(void) {
+    static const char *const wanted = "no 4 34 NoCapability\nline object c2\nregister c2 0 00001ffffc0180040000000000000000\n";
+    capcheck_run_judge judge = CAPCHECK_NO_RUN_JUDGE_YET;
+    char text[CAPCHECK_REPORT_SIZE];
+    uint64_t length;
+    EXPECT(capcheck_run_judge_report(&judge, text, sizeof text) == 0 && capcheck_run_judge_end_report(&judge, text, sizeof text) == 0);
+    EXPECT(capcheck_run_judge_open(&judge, usual) == CAPCHECK_GOES_ON && pass(&judge, BEGIN) == CAPCHECK_GOES_ON);
+    EXPECT(capcheck_run_judge_report(&judge, text, sizeof text) == 0);
+    length = capcheck_run_judge_end_report(&judge, text, sizeof text);
+    EXPECT(length > 17 && memcmp(text, "no 4 5 Truncated\n", 17) == 0);
+    EXPECT(capcheck_run_step_object(&judge, 2, 0) == CAPCHECK_NO);
+    length = capcheck_run_judge_report(&judge, text, sizeof text);
+    EXPECT(length >= strlen(wanted) && memcmp(text, wanted, strlen(wanted)) == 0);
+    EXPECT(capcheck_run_judge_report(&judge, text, 1) == length && capcheck_run_judge_end_report(&judge, text, sizeof text) == length);
+    capcheck_run_judge_close(&judge);
+}
+
 /* What is asked decides what a freed object's capability may do. */
 static void asked(void) {
     char lines[600];
@@ -255,6 +399,9 @@ int main(int count, char **words) {
         return judge_files(count, words);
     no_places();
     objects();
+    holders();
+    out_of_range();
+    reports();
     asked();
     return failures == 0 ? 0 : 1;
 }

@@ -4,4 +4,5 @@
 
 pub mod halves;
 pub mod places;
+pub mod run_steps;
 pub mod values;

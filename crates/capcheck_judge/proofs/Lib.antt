@@ -2,5 +2,6 @@ pub mod HandleFields
 pub mod HandleLemmas
 pub mod HeldFields
 pub mod RunHandleFields
+mod RunStepLemmas
 mod RunTakingLemmas
 mod TakingLemmas

@@ -1,14 +1,19 @@
 -- What a handle of C holds that judges run logs, and what the calls on it answer (this profile's own, as are all below).
-use Rattle.std.specs.Prelude.{◌≡◌, ◌≢◌, ◌<◌, ◌≤◌, ◌↔◌, ◌⊎◌, ℕ, length, drop, take, List, ◌++◌, Option, None, Some}
+use Rattle.std.specs.Prelude.{◌≡◌, ◌≢◌, ◌<◌, ◌≤◌, ◌↔◌, ℕ, length, drop, take, List, [], ◌∷◌, ◌++◌, Option, None, Some}
 use denote.RattleType.{RattleType}
 use Rattle.cap_streams.specs.Front.{IsCut}
 use Rattle.tagmem.specs.contracts.page_store.{PageStore.the_row as store_row, PageStoreTaggedStore.TheImpl.ghosts}
+use Rattle.cap_run_log.specs.declared.lines.{RunLine.RunLine, RunStep.RunStep}
+use Rattle.cap_run_log.specs.declared.lines.RunLine.TheVariants as lines
+use Rattle.cap_run_log.specs.RunLines.{IsRunLineInRange, run_spelling}
 use Rattle.cap_run.specs.declared.{asks.Asks.Asks, ends.RunRefusal.RunRefusal}
 use Rattle.cap_run.specs.Run.{Run}
 use Rattle.cap_run_judge.specs.contracts.judges.RunJudge.{the_row as run_judge_row}
 use Rattle.cap_run_judge.specs.declared.verdict.RunVerdict.{RunVerdict}
-use Rattle.cap_run_judge.specs.Readings.{Faults, RefusesNext, stage_of}
+use Rattle.cap_run_judge.specs.Readings.{Follows, RefusesNext, stage_of}
 use Rattle.cap_run_judge.specs.{Turns.{Goes, Stage, unread}, Verdicts.{IsRunVerdict, MayLackMemory}}
+use Rattle.cap_report.specs.Texts.{IsTold}
+use Rattle.cap_run_report.specs.Answers.{ExplainsRunEnd, ExplainsRunSoFar}
 use Rattle.capcheck_judge.specs.declared.{answers.LinesTaken.LinesTaken, run_handle.RunHandle.RunHandle, run_answers.RunAnswer.RunAnswer}
 use Rattle.capcheck_judge.specs.RunAnswers.{run_numbers_of, run_without_verdict}
 
@@ -24,17 +29,16 @@ HeldRunJudge = Option RunJudgeIn
 abbrev pub run_held_in : RunHandle → HeldRunJudge
 run_held_in handle = handle.judge
 
--- the bytes lead from a stage to a stage: they are lines, or lines before what begins with a faulty one
-abbrev pub FollowsRun : Stage → List ℕ → Stage → Type 0
-FollowsRun old bytes new =
-    Goes old bytes new
-    ⊎ ((front : List ℕ) × (rest : List ℕ) × (bytes ≡ front ++ rest) × (middle : Stage) × Goes old front middle × Faults middle rest new)
-
 -- a handle holds a judge that was opened with what is asked, and has taken these bytes
 pub record HoldsRun (held : HeldRunJudge) (asks : Asks) (bytes : List ℕ) : Type 0 where
   pub judge : RunJudgeIn
   pub held_is : held ≡ Some judge
-  pub taken : FollowsRun (unread asks) bytes (stage_of judge)
+  pub taken : Follows (unread asks) bytes (stage_of judge)
+
+-- how far the judge of a handle has read, where there is one
+abbrev pub stage_in : HeldRunJudge → Option Stage
+stage_in None = None
+stage_in (Some judge) = Some (stage_of judge)
 
 -- the run behind these bytes, or before their faulty line
 abbrev pub run_behind : {held : HeldRunJudge} {asks : Asks} {bytes : List ℕ} → HoldsRun held asks bytes → Run
@@ -71,6 +75,37 @@ pub record AnswersRunBytes (asks : Asks) (bytes : List ℕ) (answer : RunAnswer)
   pub verdict : answer.state ≢ 3 → AnswersRunEnd asks bytes answer
   pub no_memory : answer.state ≡ 3 → (answer ≡ run_without_verdict 3) × ((more : List ℕ) × MayLackMemory asks bytes more)
 
+-- what a call answers that hands over a text as one line: that it was taken, and no line so far is faulty; that it or one
+-- before it is faulty; that memory ran out at it; that there is no judge; or that it is none
+pub record HandsOverRunText (text : List ℕ) (old new : HeldRunJudge) (state : ℕ) : Type 0 where
+  pub answers : state < 6
+  pub never_yes : state ≢ 1
+  pub taken : state < 3 → (asks : Asks) (bytes : List ℕ) → HoldsRun old asks bytes → HoldsRun new asks (bytes ++ text)
+  pub goes_on : state ≡ 0 → (asks : Asks) (bytes : List ℕ) → HoldsRun old asks bytes → BeginsRun asks (bytes ++ text)
+  pub at_fault : state ≡ 2 → (asks : Asks) (bytes : List ℕ) → HoldsRun old asks bytes
+      → (verdict : RunVerdict) × StandsRun asks (bytes ++ text) (Some verdict)
+  pub unchanged : 2 < state → stage_in new ≡ stage_in old
+  pub still_holds : 2 < state → (asks : Asks) (bytes : List ℕ) → HoldsRun old asks bytes → HoldsRun new asks bytes
+  pub no_memory : state ≡ 3 → (asks : Asks) (bytes : List ℕ) → HoldsRun old asks bytes → MayLackMemory asks (bytes ++ text) []
+  pub no_judge : (state ≡ 4) ↔ (old ≡ None)
+  pub held : (new ≡ None) ↔ (old ≡ None)
+
+-- what a call answers that hands over a step: where the step's line is in range, what the call answers that hands over
+-- that line; else that it is none
+pub record HandsOverRun (line : RunLine) (old new : HeldRunJudge) (state : ℕ) : Type 0 where
+  pub handed : HandsOverRunText (run_spelling line ++ 10 ∷ []) old new state
+  pub no_line : (state ≡ 5) ↔ ((old ≢ None) × (¬ IsRunLineInRange line))
+
+-- that there is no judge, or that what was handed over is no line
+abbrev pub IsNoStep : HeldRunJudge → ℕ → Type 0
+IsNoStep None state = state ≡ 4
+IsNoStep (Some judge) state = state ≡ 5
+
+-- the same for a step that C's numbers name, and where they name none
+abbrev pub HandsOverRunStep : Option RunStep → HeldRunJudge → HeldRunJudge → ℕ → Type 0
+HandsOverRunStep (Some step) old new state = HandsOverRun (lines.Run step) old new state
+HandsOverRunStep None old new state = IsNoStep old state × (stage_in new ≡ stage_in old) × ((new ≡ None) ↔ (old ≡ None))
+
 -- a front is the text of lines that begin a run log, and the line that begins the rest is refused, whatever follows
 abbrev pub IsRunRefusedAfter : Asks → List ℕ → List ℕ → Type 0
 IsRunRefusedAfter asks front rest =
@@ -99,3 +134,20 @@ pub record HandsOverRunLines (given : List ℕ) (old new : HeldRunJudge) (answer
   pub no_judge : (answer.state ≡ 4) ↔ (old ≡ None)
   pub nothing : old ≡ None → answer.bytes ≡ 0
   pub held : (new ≡ None) ↔ (old ≡ None)
+
+-- C gets the text of how a run log stands that begins with these bytes, where there is room for it: none while no line is
+-- faulty, and never more than 3,136 bytes
+pub record AnswersRunReport (asks : Asks) (bytes old new : List ℕ) (count : ℕ) : Type 0 where
+  pub verdict : Option RunVerdict
+  pub text : List ℕ
+  pub explains : ExplainsRunSoFar asks bytes verdict text
+  pub few : length text ≤ 3136
+  pub told : IsTold 0 count text old new
+
+-- C gets the text of the verdict on these bytes as a whole run log, where there is room for it: never more than 3,136 bytes
+pub record AnswersRunEndReport (asks : Asks) (bytes old new : List ℕ) (count : ℕ) : Type 0 where
+  pub verdict : RunVerdict
+  pub text : List ℕ
+  pub explains : ExplainsRunEnd asks bytes verdict text
+  pub few : length text ≤ 3136
+  pub told : IsTold 0 count text old new

@@ -1,7 +1,7 @@
 -- What a judge of run logs takes that is handed lines (this profile's own).
-use Rattle.std.specs.Prelude.{◌≡◌, ◌≤◌, ℕ, List, length, drop, take}
+use Rattle.std.specs.Prelude.{◌≡◌, ◌≤◌, ◌<◌, ℕ, List, [], length, drop, take}
 use Rattle.cap_judge.specs.declared.judges.Stop.{Stop}
-use Rattle.cap_run_judge.specs.Readings.{StopsAt, stage_of}
+use Rattle.cap_run_judge.specs.{Readings.{Follows, IsAtFault, StopsAt, stage_of}, Verdicts.Lacks}
 use Rattle.capcheck_judge.specs.{RunHandles.RunJudgeIn, Takings.state_at, declared.answers.LinesTaken.LinesTaken}
 
 -- a judge took whole lines from the front of some bytes, and stopped
@@ -10,3 +10,11 @@ pub record TakesRunLines (old : RunJudgeIn) (given : List ℕ) (answer : LinesTa
   pub stop : Stop
   pub state_is : answer.state ≡ state_at stop
   pub stops : StopsAt (stage_of old) (take answer.bytes given) (drop answer.bytes given) stop (stage_of new)
+
+-- a judge was handed a line: it took the line, and none so far is faulty, or one is; or nothing has changed
+pub record TakesRunLine (old : RunJudgeIn) (line : List ℕ) (state : ℕ) (new : RunJudgeIn) : Type 0 where
+  pub taken : state < 3 → Follows (stage_of old) line (stage_of new)
+  pub goes_on : state ≡ 0 → IsAtFault (stage_of new).due → ⊥
+  pub at_fault : state ≡ 2 → IsAtFault (stage_of new).due
+  pub unchanged : 2 < state → stage_of new ≡ stage_of old
+  pub no_memory : state ≡ 3 → Lacks (stage_of old) line []

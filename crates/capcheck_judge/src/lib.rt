@@ -16,4 +16,6 @@ mod run_answers;
 mod run_handle;
 mod run_lines;
 mod run_places;
+mod run_reports;
+mod run_steps;
 mod steps;

@@ -1,16 +1,17 @@
 //! A judge of run logs that C opens, hands the lines of a run log to, and closes.
 
-ghost use Rattle.std.specs.Prelude.{◌≡◌, ◌⊎◌, ℕ, List, [], None};
+ghost use Rattle.std.specs.Prelude.{◌≡◌, ◌≢◌, ◌↔◌, ◌⊎◌, ℕ, List, [], None};
+ghost use Rattle.cap_judge.specs.Readings.{IsNoLine};
 ghost use Rattle.cap_run.specs.declared.asks.Asks.{Asks as AsksIn};
 ghost use Rattle.capcheck_judge.specs.RunAnswers.{asks_passed, run_without_verdict};
-ghost use Rattle.capcheck_judge.specs.RunHandles.{AnswersRunBytes, AnswersRunEnd, AnswersRunSoFar, HandsOverRunLines, HoldsRun};
-ghost use Rattle.capcheck_judge.specs.{RunHandles.run_held_in, RunTakings.TakesRunLines};
+ghost use Rattle.capcheck_judge.specs.RunHandles.{AnswersRunBytes, AnswersRunEnd, AnswersRunSoFar, HandsOverRunLines, HandsOverRunText, HoldsRun};
+ghost use Rattle.capcheck_judge.specs.{RunHandles.run_held_in, RunTakings.{TakesRunLine, TakesRunLines}};
 
 use crate::answers::LinesTaken;
 use crate::run_answers::{PassedAsks, RunAnswer, asks_of, run_numbers_of, run_without_verdict};
 use crate::run_handle::RunHandle;
-use cap_judge::Stop;
-use cap_report::answers::{GOES_ON, NO, NO_JUDGE, NO_MEMORY};
+use cap_judge::{Stop, TakeFault};
+use cap_report::answers::{GOES_ON, NO, NO_JUDGE, NO_LINE, NO_MEMORY};
 use cap_run_judge::{RunJudge, judge_run_bytes};
 use std::alloc::Global;
 use tagmem::PageStore;
@@ -51,6 +52,25 @@ pub extern "C" fn capcheck_run_judge_open(
             GOES_ON
         }
         Err(_) => NO_MEMORY,
+    }
+}
+
+/// Takes the next line, with its line feed. Returns 0 if it was taken and no line so far is faulty, 2 if it was
+/// taken and it or an earlier line is faulty, 3 if memory ran out, and 4 if the handle holds no judge. Returns 5 if
+/// the bytes aren't one line with its line feed, unless they begin with more bytes than a line has. With 3, 4 and 5
+/// nothing has changed, and the line may be handed over again.
+#[unsafe(no_mangle)]
+pub extern "C" fn capcheck_run_judge_line(alloc: Global, judge: &mut RunHandle, line: &[u8]) -> u8
+    ensures handed { HandsOverRunText line.now (run_held_in judge.old) (run_held_in judge.new) result }
+    ensures no_line { (result ≡ 5) ↔ ((run_held_in judge.old ≢ None) × IsNoLine line.now) }
+{
+    match judge.take(alloc) {
+        Some(mut held) => {
+            let state = take_run_line(&mut held, line);
+            judge.put(held);
+            state
+        }
+        None => NO_JUDGE,
     }
 }
 
@@ -127,6 +147,22 @@ pub extern "C" fn capcheck_run_judge_close(alloc: Global, judge: &mut RunHandle)
     ensures none { run_held_in judge.new ≡ None }
 {
     drop(judge.take(alloc));
+}
+
+// Hands a line to a judge of run logs: 0, 2, 3 or 5, as `capcheck_run_judge_line` says.
+fn take_run_line(judge: &mut RunJudge<PageStore>, line: &[u8]) -> u8
+    ensures answers { (result ≡ 0) ⊎ (result ≡ 2) ⊎ (result ≡ 3) ⊎ (result ≡ 5) }
+    ensures takes { TakesRunLine judge.old line.now result judge.new }
+    ensures no_line { (result ≡ 5) ↔ IsNoLine line.now }
+{
+    match judge.take_line(line) {
+        Ok(()) => match judge.refused() {
+            None => GOES_ON,
+            Some(_) => NO,
+        },
+        Err(TakeFault::NoMemory) => NO_MEMORY,
+        Err(TakeFault::NoLine) => NO_LINE,
+    }
 }
 
 // Hands lines to a judge of run logs, as `capcheck_run_judge_lines` says.

@@ -4,17 +4,19 @@ ghost use Rattle.std.specs.Prelude.{◌≡◌, ◌≢◌, ◌⊎◌, ◌↔◌, 
 ghost use Rattle.cap_run.specs.declared.asks.Asks.{Asks as AsksIn};
 ghost use Rattle.cap_run_log.specs.{RunLines.IsRunPlace, declared.lines.RunPlace.RunPlace as PlaceIn};
 ghost use Rattle.cap_run.specs.RunChanges.{place_key};
-ghost use Rattle.cap_halves.specs.Passed.{cap_of, no_cap};
+ghost use Rattle.cap_halves.specs.{Passed.{cap_of, no_cap}, PassedRuns.passed_nowhere};
 ghost use Rattle.capcheck_judge.specs.RunAnswers.{IsObjectTold};
 ghost use Rattle.capcheck_judge.specs.RunHandles.{HoldsRun, run_behind, run_held_in};
-ghost use Rattle.capcheck_judge.specs.RunPlaces.{IsOwnerTold, place_asked};
+ghost use Rattle.capcheck_judge.specs.RunPlaces.{IsHolderTold, IsNextTold, IsOwnerTold, holder_passed, place_asked};
 
 use crate::answers::OptionalCap;
 use crate::places::{nothing, there};
 use crate::run_answers::{PassedObject, told_object};
 use crate::run_handle::RunHandle;
+use cap_halves::places::{nowhere, to_passed};
 use cap_halves::values::PassedPlace;
 use cap_run_log::RunPlace;
+use cap_run_report::holder;
 use std::alloc::Global;
 
 /// What a place holds after the lines so far, or before the faulty line: a register, 1 to 31, a special register, 0 to 31,
@@ -99,6 +101,67 @@ pub extern "C" fn capcheck_run_judge_object(
             told
         }
         None => told_object(0, None),
+    }
+}
+
+/// The first place that the object with a number owns after the lines so far, or before the faulty line: c1 to c31, scr0 to
+/// scr31, and the granules, of which the one of the least address; no place where it owns none, where no object with this
+/// number was handed out, and where the handle holds no judge.
+#[unsafe(no_mangle)]
+pub extern "C" fn capcheck_run_judge_holder(
+    alloc: Global,
+    judge: &mut RunHandle,
+    number: u32,
+) -> PassedPlace
+    ensures holder { (asks : AsksIn) (bytes : List ℕ) → (holds : HoldsRun (run_held_in judge.old) asks bytes)
+        → IsHolderTold (run_behind holds) number result }
+    ensures no_judge { run_held_in judge.old ≡ None → result ≡ passed_nowhere }
+    ensures kept { run_held_in judge.new ≡ run_held_in judge.old }
+{
+    match judge.take(alloc) {
+        Some(held) => {
+            let place = holder(held.machine(), number);
+            judge.put(held);
+            told_holder(place)
+        }
+        None => nowhere(),
+    }
+}
+
+/// The least number, from a number on, of an object that is live or that a place holds, after the lines so far, or before the
+/// faulty line; 0 where there is none, and where the handle holds no judge.
+#[unsafe(no_mangle)]
+pub extern "C" fn capcheck_run_judge_next_object(
+    alloc: Global,
+    judge: &mut RunHandle,
+    from: u32,
+) -> u32
+    ensures next { (asks : AsksIn) (bytes : List ℕ) → (holds : HoldsRun (run_held_in judge.old) asks bytes)
+        → IsNextTold (run_behind holds) from result }
+    ensures no_judge { run_held_in judge.old ≡ None → result ≡ 0 }
+    ensures kept { run_held_in judge.new ≡ run_held_in judge.old }
+{
+    match judge.take(alloc) {
+        Some(held) => {
+            let next = held.machine().next_object(from);
+            judge.put(held);
+            match next {
+                Some(object) => object.number,
+                None => 0,
+            }
+        }
+        None => 0,
+    }
+}
+
+// The first place that an object owns, if there is one, as C gets it.
+fn told_holder(place: Option<RunPlace>) -> PassedPlace
+    requires { IfSome place IsRunPlace }
+    ensures { result ≡ holder_passed place }
+{
+    match place {
+        Some(place) => to_passed(place),
+        None => nowhere(),
     }
 }
 

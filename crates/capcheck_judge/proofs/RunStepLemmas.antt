@@ -1,0 +1,152 @@
+-- What a handle's judge takes that is handed one line of a run log, or a step.
+use Rattle.std.proofs.Common.{◌≡◌, ◌≢◌, ◌<◌, ◌⊎◌, ◌∙◌, inl, inr, ℕ, List, [], ◌∷◌, ◌++◌, ap, arith, refl, sym, subst, IfNone, IfSome, None, Some, Option}
+use Rattle.cap_run.specs.{Run.Run, declared.asks.Asks.Asks}
+use Rattle.cap_run_log.specs.declared.lines.{RunLine.RunLine, RunPlace.RunPlace, RunStep.RunStep}
+use Rattle.cap_run_log.specs.declared.lines.RunLine.TheVariants as lines
+use Rattle.cap_run_log.specs.RunLines.{IsRunLineInRange, IsRunPlace, run_spelling}
+use Rattle.cap_run_judge.specs.declared.verdict.RunVerdict.TheVariants.{No}
+use Rattle.cap_run_judge.specs.{Readings.{Follows, stage_of}, Turns.unread}
+use Rattle.cap_run_judge.proofs.FollowLemmas.{clear_goes, follows_on, no_stands, refused_in}
+use Rattle.cap_halves.specs.{PassedRuns.IsStepFrom, declared.values.PassedPlace.PassedPlace}
+use Rattle.cap_run_report.specs.ObjectParts.{HasNoHolder, IsFirstHolder}
+use Rattle.capcheck_judge.specs.RunPlaces.{IsHolderTold, holder_passed}
+use Rattle.capcheck_judge.specs.RunHandles.{HandsOverRun, HandsOverRunStep, HandsOverRunText, HeldRunJudge, HoldsRun, IsNoStep, RunJudgeIn, stage_in}
+use Rattle.capcheck_judge.specs.RunTakings.{TakesRunLine}
+use Rattle.capcheck_judge.proofs.RunTakingLemmas.{held_taken, lacking, there}
+
+-- the states of a call on a judge that is there
+IsState : ℕ → Type 0
+IsState state = (state ≡ 0) ⊎ (state ≡ 2) ⊎ (state ≡ 3) ⊎ (state ≡ 5)
+
+few : (state : ℕ) → IsState state → (state < 6) × (state ≢ 1) × (state ≢ 4)
+unfolding IsState
+few state (inl is) = (omega (arith, is), λ one. omega (arith, is, one), λ four. omega (arith, is, four))
+few state (inr (inl is)) = (omega (arith, is), λ one. omega (arith, is, one), λ four. omega (arith, is, four))
+few state (inr (inr (inl is))) = (omega (arith, is), λ one. omega (arith, is, one), λ four. omega (arith, is, four))
+few state (inr (inr (inr is))) = (omega (arith, is), λ one. omega (arith, is, one), λ four. omega (arith, is, four))
+
+pub any_state : (state : ℕ) → (state ≡ 0) ⊎ (state ≡ 2) ⊎ (state ≡ 3) → (state ≡ 0) ⊎ (state ≡ 2) ⊎ (state ≡ 3) ⊎ (state ≡ 5)
+any_state state (inl is) = inl is
+any_state state (inr (inl is)) = inr (inl is)
+any_state state (inr (inr is)) = inr (inr (inl is))
+
+not_five : (state : ℕ) → (state ≡ 0) ⊎ (state ≡ 2) ⊎ (state ≡ 3) → state ≢ 5
+not_five state (inl is) five = omega (arith, is, five)
+not_five state (inr (inl is)) five = omega (arith, is, five)
+not_five state (inr (inr is)) five = omega (arith, is, five)
+
+-- the handle's judge was handed a text as one line
+pub text_handed : (text : List ℕ) (held after : HeldRunJudge) (old new : RunJudgeIn) (state : ℕ) → held ≡ Some old → after ≡ Some new
+    → (state ≡ 0) ⊎ (state ≡ 2) ⊎ (state ≡ 3) ⊎ (state ≡ 5) → TakesRunLine old text state new → HandsOverRunText text held after state
+unfolding IsState
+text_handed text held after old new state is now answers takes =
+    let small = few state answers in
+    let read : state < 3 → (asks_are : Asks) (bytes : List ℕ) → HoldsRun held asks_are bytes → Follows (unread asks_are) (bytes ++ text) (stage_of new) =
+    λ below asks_are bytes holds. follows_on (unread asks_are) (stage_of old) (stage_of new) bytes text (held_taken held asks_are bytes holds old is) (takes.taken below) in
+    record {
+      answers = small.0;
+      never_yes = small.1;
+      taken = λ below asks_are bytes holds. record { judge = new; held_is = now; taken = read below asks_are bytes holds };
+      goes_on = λ zero asks_are bytes holds.
+          (stage_of new, clear_goes (unread asks_are) (bytes ++ text) (stage_of new) (read (omega (arith, zero)) asks_are bytes holds) (takes.goes_on zero));
+      at_fault = λ two asks_are bytes holds.
+          let fault = refused_in (stage_of new).due (takes.at_fault two) in
+          (No fault.0 fault.1, no_stands asks_are (bytes ++ text) (stage_of new) fault.0 fault.1 fault.2 (read (omega (arith, two)) asks_are bytes holds) fault.3);
+      unchanged = λ large. ap stage_in now ∙ ap Some (takes.unchanged large) ∙ sym (ap stage_in is);
+      still_holds = λ large asks_are bytes holds. record {
+        judge = new;
+        held_is = now;
+        taken = subst (Follows (unread asks_are) bytes) (sym (takes.unchanged large)) (held_taken held asks_are bytes holds old is);
+      };
+      no_memory = λ three asks_are bytes holds.
+          lacking asks_are bytes text (stage_of old) [] (held_taken held asks_are bytes holds old is) (takes.no_memory three);
+      no_judge = (λ four. absurd (small.2 four), λ none. absurd (there held old is none));
+      held = (λ none. absurd (there after new now none), λ none. absurd (there held old is none));
+    }
+
+-- an answer that is none of the first three
+not_three : (state : ℕ) → (state ≡ 4) ⊎ (state ≡ 5) → (state < 3 → ⊥) × (state ≢ 0) × (state ≢ 2) × (state ≢ 3)
+not_three state (inl is) = (λ below. omega (arith, is, below), λ it. omega (arith, is, it), λ it. omega (arith, is, it), λ it. omega (arith, is, it))
+not_three state (inr is) = (λ below. omega (arith, is, below), λ it. omega (arith, is, it), λ it. omega (arith, is, it), λ it. omega (arith, is, it))
+
+-- no line was handed over to the judge that is there
+pub none_handed : (text : List ℕ) (held after : HeldRunJudge) (state : ℕ) → IsNoStep held state → after ≡ held → HandsOverRunText text held after state
+none_handed text None after state is same =
+    let no = not_three state (inl is) in
+    record {
+      answers = omega (arith, is);
+      never_yes = λ one. omega (arith, is, one);
+      taken = λ below asks_are bytes holds. absurd (no.0 below);
+      goes_on = λ zero asks_are bytes holds. absurd (no.1 zero);
+      at_fault = λ two asks_are bytes holds. absurd (no.2 two);
+      unchanged = λ large. ap stage_in same;
+      still_holds = λ large asks_are bytes holds. subst (λ (h : HeldRunJudge). HoldsRun h asks_are bytes) (sym same) holds;
+      no_memory = λ three asks_are bytes holds. absurd (no.3 three);
+      no_judge = (λ four. refl, λ none. is);
+      held = (λ none. sym same ∙ none, λ none. same ∙ none);
+    }
+none_handed text (Some judge) after state is same =
+    let no = not_three state (inr is) in
+    record {
+      answers = omega (arith, is);
+      never_yes = λ one. omega (arith, is, one);
+      taken = λ below asks_are bytes holds. absurd (no.0 below);
+      goes_on = λ zero asks_are bytes holds. absurd (no.1 zero);
+      at_fault = λ two asks_are bytes holds. absurd (no.2 two);
+      unchanged = λ large. ap stage_in same;
+      still_holds = λ large asks_are bytes holds. subst (λ (h : HeldRunJudge). HoldsRun h asks_are bytes) (sym same) holds;
+      no_memory = λ three asks_are bytes holds. absurd (no.3 three);
+      no_judge = (λ four. let never : ⊥ = omega (arith, is, four) in absurd never, λ none. absurd (there (Some judge) judge refl none));
+      held = (λ none. sym same ∙ none, λ none. same ∙ none);
+    }
+
+-- a step in range was handed over
+pub step_handed : (line : RunLine) (held after : HeldRunJudge) (old new : RunJudgeIn) (state : ℕ) → IsRunLineInRange line → held ≡ Some old
+    → after ≡ Some new → (state ≡ 0) ⊎ (state ≡ 2) ⊎ (state ≡ 3) → TakesRunLine old (run_spelling line ++ 10 ∷ []) state new
+    → HandsOverRun line held after state
+step_handed line held after old new state range is now answers takes = record {
+  handed = text_handed (run_spelling line ++ 10 ∷ []) held after old new state is now (any_state state answers) takes;
+  no_line = (λ five. absurd (not_five state answers five), λ both. absurd (both.1 range));
+}
+
+-- none was handed over, since its numbers are out of range, or since there is no judge
+pub unhanded : (line : RunLine) (held after : HeldRunJudge) (state : ℕ) → ¬ IsRunLineInRange line → IsNoStep held state → after ≡ held
+    → HandsOverRun line held after state
+unhanded line None after state out is same = record {
+  handed = none_handed (run_spelling line ++ 10 ∷ []) None after state is same;
+  no_line = (λ five. let never : ⊥ = omega (arith, is, five) in absurd never, λ both. absurd (both.0 refl));
+}
+unhanded line (Some judge) after state out is same = record {
+  handed = none_handed (run_spelling line ++ 10 ∷ []) (Some judge) after state is same;
+  no_line = (λ five. (λ none. there (Some judge) judge refl none, out), λ both. is);
+}
+
+pub no_judge_handed : (line : RunLine) (held after : HeldRunJudge) → held ≡ None → after ≡ None → HandsOverRun line held after 4
+no_judge_handed line held after none still = record {
+  handed = none_handed (run_spelling line ++ 10 ∷ []) held after 4 (subst (λ (h : HeldRunJudge). IsNoStep h 4) (sym none) refl) (still ∙ sym none);
+  no_line = (λ five. let never : ⊥ = omega (arith, five) in absurd never, λ both. absurd (both.0 none));
+}
+
+-- the same for a step that C's numbers name, if they do
+pub run_step_handed : (passed : Option RunStep) (step : RunStep) (held after : HeldRunJudge) (old new : RunJudgeIn) (state : ℕ)
+    → IsStepFrom passed (Some step) → held ≡ Some old → after ≡ Some new → (state ≡ 0) ⊎ (state ≡ 2) ⊎ (state ≡ 3)
+    → TakesRunLine old (run_spelling (lines.Run step) ++ 10 ∷ []) state new → HandsOverRunStep passed held after state
+run_step_handed passed step held after old new state from is now answers takes =
+    subst (λ (p : Option RunStep). HandsOverRunStep p held after state) (sym from.0)
+    (step_handed (lines.Run step) held after old new state from.1 is now answers takes)
+
+pub no_run_step : (passed : Option RunStep) (held after : HeldRunJudge) (state : ℕ) → IsStepFrom passed None → IsNoStep held state → after ≡ held
+    → HandsOverRunStep passed held after state
+no_run_step None held after state from is same = (is, ap stage_in same, (λ none. sym same ∙ none, λ none. same ∙ none))
+no_run_step (Some step) held after state from is same = unhanded (lines.Run step) held after state (from step refl) is same
+
+pub no_judge_step : (passed : Option RunStep) (step : RunStep) (held after : HeldRunJudge) → IsStepFrom passed (Some step) → held ≡ None → after ≡ None
+    → HandsOverRunStep passed held after 4
+no_judge_step passed step held after from none still =
+    subst (λ (p : Option RunStep). HandsOverRunStep p held after 4) (sym from.0) (no_judge_handed (lines.Run step) held after none still)
+
+-- the first place that an object owns, as C gets it
+pub holder_told : (run : Run) (number : ℕ) (found : Option RunPlace) (told : PassedPlace) → IfSome found (IsFirstHolder run number)
+    → IfSome found IsRunPlace → IfNone found (HasNoHolder run number) → told ≡ holder_passed found → IsHolderTold run number told
+holder_told run number (Some place) told first is none same = inl (place, is, first, same)
+holder_told run number None told first is none same = inr (none, same)
