@@ -48,11 +48,25 @@ apart_lines at size (Some entry) =
     then text_line (codes "hint") (codes "the two objects share bytes: no bounds keep them apart")
     else live_right_lines entry.1
 
+-- what freeing an address means that no live object begins at: one may have it in its bounds
+abbrev pub free_hint : Option (ℕ × ℕ) → List ℕ
+free_hint None = codes "no live object has this address: it was freed before, or never handed out"
+free_hint (Some entry) = codes "the address lies in a live object: free takes its first one"
+
+-- what is told of an address that is freed in vain among these objects: the live object that has it in its bounds, where
+-- one has
+abbrev pub AreFreeDetails : Objects → ℕ → List ℕ → Type 0
+AreFreeDetails objects at details =
+    (found : Option (ℕ × ℕ))
+    × MatchOption found ((other length : ℕ) → objects other ≡ Some length → LieApart at 1 other length)
+    (λ entry. Shares rounded_base rounded_top objects at 1 entry.0 entry.1)
+    × (details ≡ live_lines found ++ text_line (codes "hint") (free_hint found))
+
 -- what is told of an event that is refused among these objects: of a request its bounds, of one outside the heap the
 -- heap's, of another a live object that has an address in common with it, where one has, and what would keep the two
 -- apart
 abbrev pub AreEventDetails : Interval → Objects → Event → HeapRefusal → List ℕ → Type 0
-AreEventDetails heap objects (Free at) refusal details = details ≡ []
+AreEventDetails heap objects (Free at) refusal details = AreFreeDetails objects at details
 AreEventDetails heap objects (Malloc at size) OutsideHeap details =
     details ≡ request_lines [] at size ++ bounds_line (codes "root") (codes " ") heap.base heap.top ++ right_lines size
 AreEventDetails heap objects (Malloc at size) refusal details =

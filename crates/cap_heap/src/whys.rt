@@ -4,7 +4,7 @@ ghost use Rattle.std.specs.Prelude.{◌≡◌, ℕ, List, ◌+◌, ◌≤◌, le
 ghost use Rattle.cap_streams.specs.Written.{Writes};
 ghost use Rattle.cap_heap.specs.declared.events.Event.TheVariants.{Malloc};
 ghost use Rattle.cap_heap.specs.Beginnings.{AreDetailsBehind, Beginning, due_of, lines_of};
-ghost use Rattle.cap_heap.specs.HeapWhys.{AreEventDetails, apart_lines, count_in, counted_lines, due_line};
+ghost use Rattle.cap_heap.specs.HeapWhys.{AreEventDetails, AreFreeDetails, apart_lines, count_in, counted_lines, due_line, free_hint};
 ghost use Rattle.cap_heap.specs.HeapWhys.{live_lines, live_right_lines, request_lines, right_lines, share_bytes};
 ghost use Rattle.cap_heap.specs.{Heaps.objects_in, Progresses.{AreEventDetailsIn, StandsFor}};
 
@@ -94,8 +94,31 @@ fn put_event_lines(
         Some(Event::Malloc { address, length }) => {
             put_malloc_lines(heap, address, length, refusal, buffer, at)
         }
-        Some(Event::Free { .. }) => at,
+        Some(Event::Free { address }) => put_free_lines(heap, address, buffer, at),
         None => at,
+    }
+}
+
+// Writes what is told of an address that was freed in vain.
+fn put_free_lines(heap: &Heap, address: u64, buffer: &mut [u8], at: usize) -> usize
+    requires room { at + 384 ≤ length buffer.old }
+    ensures fits { result ≤ length buffer.old }
+    ensures written { (details : List ℕ) × AreFreeDetails (objects_in heap.now) address details
+        × Writes at details buffer.old buffer.new result }
+{
+    let found = heap.overlapped(address, 1);
+    let at = put_live_lines(buffer, at, found);
+    put_line(buffer, at, b"hint", free_hint(found))
+}
+
+// What freeing an address means that no live object begins at.
+fn free_hint(found: Option<(u64, u64)>) -> &'static [u8]
+    ensures text { result.now ≡ free_hint found }
+    ensures short { length result.now ≤ 80 }
+{
+    match found {
+        Some(_) => b"the address lies in a live object: free takes its first one",
+        None => b"no live object has this address: it was freed before, or never handed out",
     }
 }
 

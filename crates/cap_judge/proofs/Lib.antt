@@ -4,12 +4,12 @@ pub mod JudgeLemmas
 mod VersionLemmas
 pub mod EscapeLaws
 pub mod SourceLemmas
-mod OneVerdict
+pub mod OneVerdict
 pub mod FaultPlaces
 mod OriginLemmas
 pub mod ReportLemmas
 mod SomeVerdict
-mod InTurn
+pub mod InTurn
 pub mod ExpectedLemmas
 pub mod TurnLemmas
 pub mod TurnLaws

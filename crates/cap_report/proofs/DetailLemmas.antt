@@ -5,12 +5,12 @@ use Rattle.cap_bounds.specs.Bounds.{length_of}
 use Rattle.cap_ops.specs.declared.refusal.Refusal.{Refusal, TheVariants.{BadHeader, LineTooLong, BadLine, Misplaced}}
 use Rattle.cap_ops.specs.declared.refusal.Refusal.TheVariants.{Truncated, WrongCount, PlaceTaken, LimitPassed, BadMode}
 use Rattle.cap_log.specs.{declared.{kinds.Step.Step, lines.{Line.Line, Place.Place}}, Lines.Spells}
-use Rattle.cap_texts.specs.{CapLines.cap_lines, TextLines.text_line}
+use Rattle.cap_texts.specs.{CapLines.cap_lines, TextLines.{says_line, text_line}}
 use Rattle.cap_machine.specs.{declared.rules.Rules.{Rules, TheVariants.{One, TwoStrict, TwoClear}}, Accounts.Account}
 use Rattle.cap_machine.specs.States.{tagged}
 use Rattle.cap_judge.specs.Logs.{SpellsBy, has_form}
 use Rattle.cap_judge.proofs.JudgeLemmas.{no_form}
-use Rattle.cap_report.specs.FaultReports.{AreDetails, known_lines, root_lines}
+use Rattle.cap_report.specs.{FaultReports.{AreDetails, known_lines, root_lines}, Says.unsound_text}
 
 -- the details of a line that is refused for what its tests saw
 abbrev pub OfLine : Account → List ℕ → Refusal → List ℕ → Type 0
@@ -53,6 +53,6 @@ nothing_told account text line refusal false formed spells none = inr (no_form a
 -- a root that is refused for another reason than its place
 pub root_other : (account : Account) (place : Place) (word : Word) (refusal : Refusal) → (refusal ≡ PlaceTaken → ⊥)
     → root_lines account place word refusal ≡ cap_lines (codes "root") place (tagged word)
-    ++ text_line (codes "length") (hex_digits 17 (length_of word.0))
+    ++ text_line (codes "length") (hex_digits 17 (length_of word.0)) ++ says_line (unsound_text word.0)
 root_other account place word PlaceTaken other = absurd (other refl)
 root_other account place word refusal other = refl

@@ -2,6 +2,8 @@ pub mod Answers
 pub mod BadLines
 pub mod FaultReports
 pub mod Parts
+pub mod Says
+pub mod Sentences
 pub mod Sinks
 pub mod StepLines
 pub mod Texts

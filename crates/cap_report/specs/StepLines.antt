@@ -1,17 +1,17 @@
 -- What the report on a step shows (this profile's own).
-use Rattle.std.specs.Prelude.{ℕ, Bool, ◌+◌, ◌*◌, ◌%◌, ◌^◌, nat_le, if◌then◌else◌, List, [], ◌∷◌, ◌++◌, Option, Some, None}
+use Rattle.std.specs.Prelude.{ℕ, Bool, ◌+◌, ◌*◌, if◌then◌else◌, List, [], ◌∷◌, ◌++◌, Option, Some, None}
 use Rattle.std.specs.Prelude.{codes}
 use Rattle.cap_word.specs.{Digits.hex_digits, Fields.address_of}
-use Rattle.cap_bounds.specs.{Bounds.{base_of, top_of, cut_exponent_of, window_size}, Range.{window_start, with_address}}
+use Rattle.cap_bounds.specs.{Bounds.{base_of, top_of}, Range.with_address}
 use Rattle.cap_bounds.specs.Rounding.{rounded_base, rounded_top}
 use Rattle.cap_ops.specs.declared.refusal.Refusal.{Refusal, TheVariants.WrongResult}
 use Rattle.cap_log.specs.declared.{kinds.Step.Step, lines.Place.{Place, TheVariants.Register}}
-use Rattle.cap_texts.specs.TextLines.{text_line}
+use Rattle.cap_texts.specs.TextLines.{says_line, text_line}
 use Rattle.cap_machine.specs.declared.shown.{Given.{Given, TheVariants.{Capability, Number, Nothing}}, Reached.Reached}
 use Rattle.cap_machine.specs.{declared.shown.{Request.Request, Shown.Shown}, Accounts.Account, Shown.shown_of}
 use Rattle.cap_machine.specs.States.{key_of}
 use Rattle.cap_machine.specs.declared.shown.Request.TheVariants as requests
-use Rattle.cap_report.specs.{declared.parts.ReportPart.ReportPart, Parts.lines_of_parts}
+use Rattle.cap_report.specs.{declared.parts.ReportPart.ReportPart, Parts.lines_of_parts, Says.{range_end, range_start, step_sentence}}
 use Rattle.cap_report.specs.declared.parts.ReportPart.TheVariants as parts
 
 -- an account whose origins are shown, or are not
@@ -26,12 +26,9 @@ source_part account place = let key = key_of place in parts.Source place (accoun
 abbrev pub authority_part : Account → ℕ → ReportPart
 authority_part account register = parts.Authority (Register register) (account.state register) (account.origin register)
 
--- the representable range of a word, whose end is not reduced modulo 2 ^ 64: the word's window, and from the cut
--- exponent 50 on, where each address keeps the bounds, the address space
+-- the representable range of a word
 abbrev pub range_part : ℕ → ReportPart
-range_part w =
-    if nat_le 50 (cut_exponent_of w) then parts.Representable 0 (2 ^ 64)
-    else parts.Representable (window_start w % 2 ^ 64) (window_start w % 2 ^ 64 + window_size w)
+range_part w = parts.Representable (range_start w) (range_end w)
 
 -- the bounds of a length from a word's address on, and what they are rounded to
 abbrev pub bounds_parts : ℕ → ℕ → List ReportPart
@@ -92,4 +89,6 @@ shown_lines account shown refusal = lines_of_parts (asked_parts account shown)
 
 -- the lines of a step
 abbrev pub step_lines : Account → Step → Refusal → List ℕ
-step_lines account step refusal = shown_lines account (shown_of account.state step) refusal
+step_lines account step refusal =
+    let shown = shown_of account.state step in
+    shown_lines account shown refusal ++ says_line (step_sentence account.state shown refusal)

@@ -7,6 +7,7 @@ ghost use Rattle.cap_machine.specs.Helds.{account_of};
 ghost use Rattle.cap_report.specs.FaultReports.{AreDetails, IsLineReport, count_lines, due_line, root_lines};
 
 use crate::bad_lines::{put_bad_header, put_bad_line};
+use crate::root_says::{put_taken_says, put_unsound_says};
 use crate::step_lines::put_step_lines;
 use cap_bounds::length_of;
 use cap_judge::FaultLine;
@@ -14,8 +15,8 @@ use cap_log::{Line, Place, read_line};
 use cap_machine::{Machine, Refusal};
 use cap_texts::cap_lines::{put_cap_lines, put_operand_lines};
 use cap_texts::shown_bytes::put_shown_line;
-use cap_texts::text_lines::{put_decimal_line, put_hex_line, put_line};
-use cap_texts::wrong_lines::{SHORT_LINE, WHOLE_LOG, put_header_lines};
+use cap_texts::text_lines::{put_decimal_line, put_hex_line, put_line, put_says};
+use cap_texts::wrong_lines::{SHORT_LINE, WHOLE_LOG, cut_hint, put_header_lines, put_hint_line};
 use cap_word::{Cap, Word};
 use tagmem::TaggedStore;
 
@@ -59,8 +60,12 @@ fn put_details<M: TaggedStore>(
         Refusal::LineTooLong => put_line(buffer, at, b"expected", SHORT_LINE),
         Refusal::BadLine => put_bad_line(buffer, at, text),
         Refusal::BadMode => put_header_lines(buffer, at, text, b"mode strict or mode clear"),
-        Refusal::Misplaced | Refusal::Truncated | Refusal::WrongCount | Refusal::LimitPassed => {
+        Refusal::Misplaced | Refusal::WrongCount | Refusal::LimitPassed => {
             put_counted_lines(machine, refusal, buffer, at)
+        }
+        Refusal::Truncated => {
+            let at = put_counted_lines(machine, Refusal::Truncated, buffer, at);
+            put_hint_line(buffer, at, cut_hint(text))
         }
         _ => match read_line(text) {
             Some(line) => match line {
@@ -114,6 +119,11 @@ fn put_due_line<M: TaggedStore>(
         Refusal::WrongCount => {
             put_decimal_line(buffer, at, b"expected end", u64::from(machine.steps()))
         }
+        Refusal::LimitPassed => put_says(
+            buffer,
+            at,
+            b"it would pass a limit on roots, steps or granules",
+        ),
         _ => at,
     }
 }
@@ -142,20 +152,18 @@ fn put_root_lines<M: TaggedStore>(
     requires place { IsPlace place }
     requires room { at + 512 ≤ length buffer.old }
     ensures written { Writes at (root_lines (account_of machine.now) place word refusal) buffer.old buffer.new result }
-    ensures fits { result ≤ at + 256 }
+    ensures fits { result ≤ at + 512 }
 {
     match refusal {
-        Refusal::PlaceTaken => put_operand_lines(
-            buffer,
-            at,
-            b"holds",
-            place,
-            machine.holds(place),
-            machine.origin(place),
-        ),
+        Refusal::PlaceTaken => {
+            let (held, root) = (machine.holds(place), machine.origin(place));
+            let at = put_operand_lines(buffer, at, b"holds", place, held, root);
+            put_taken_says(place, buffer, at)
+        }
         _ => {
             let at = put_cap_lines(buffer, at, b"root", place, Cap { tag: true, word });
-            put_hex_line(buffer, at, b"length", 17, length_of(word))
+            let at = put_hex_line(buffer, at, b"length", 17, length_of(word));
+            put_unsound_says(word, buffer, at)
         }
     }
 }

@@ -15,6 +15,9 @@ mod explanations;
 pub mod fault_reports;
 mod operands;
 mod parts;
+pub mod root_says;
+pub mod says;
+pub mod sentences;
 pub mod step_lines;
 pub mod texts;
 

@@ -7,14 +7,16 @@ ghost use Rattle.cap_streams.specs.Written.{Writes};
 ghost use Rattle.cap_machine.specs.{Helds.account_of, Shown.{IsRead, IsShown}};
 ghost use Rattle.cap_machine.specs.declared.shown.Given.TheVariants as givens;
 ghost use Rattle.cap_report.specs.{Parts.lines_of_parts, StepLines.{access_parts, asked_parts, given_lines}};
-ghost use Rattle.cap_report.specs.StepLines.{operand_parts, range_part, request_parts, seen, step_lines};
+ghost use Rattle.cap_report.specs.StepLines.{operand_parts, request_parts, seen, shown_lines, step_lines};
 ghost use Rattle.cap_report.specs.declared.parts.ReportPart.TheVariants as parts;
 
 use crate::operands::{authority_in, held_in};
 use crate::parts::{ReportPart, put_parts};
-use cap_bounds::{Interval, bounds, reach, round};
+use crate::says::{put_step_says, range_of};
+use cap_bounds::{Interval, bounds, round};
 use cap_log::{Place, Step};
 use cap_machine::{Given, Machine, Reached, Refusal, Request, Shown};
+use cap_texts::cap_lines::put_bounds_line;
 use cap_texts::text_lines::put_hex_line;
 use cap_word::{Cap, Word};
 use tagmem::TaggedStore;
@@ -34,7 +36,25 @@ pub fn put_step_lines<M: TaggedStore>(
     ensures fits { result ≤ at + 2560 }
 {
     let shown = machine.shown(step);
-    let at = put_asked(machine, origins, &shown, buffer, at);
+    let at = put_shown(machine, origins, &shown, refusal, buffer, at);
+    put_step_says(machine, &shown, refusal, buffer, at)
+}
+
+// Writes what a step read and asked for, and what the rules give.
+fn put_shown<M: TaggedStore>(
+    machine: &Machine<M>,
+    origins: bool,
+    shown: &Shown,
+    refusal: Refusal,
+    buffer: &mut [u8],
+    at: usize,
+) -> usize
+    requires in_range { IsShown shown.now }
+    requires room { at + 2560 ≤ length buffer.old }
+    ensures written { Writes at (shown_lines (seen origins (account_of machine.now)) shown.now refusal) buffer.old buffer.new result }
+    ensures fits { result ≤ at + 2176 }
+{
+    let at = put_asked(machine, origins, shown, buffer, at);
     match refusal {
         Refusal::WrongResult => put_given(shown.given, buffer, at),
         _ => at,
@@ -52,7 +72,7 @@ pub fn put_asked<M: TaggedStore>(
     requires in_range { IsShown shown.now }
     requires room { at + 1536 ≤ length buffer.old }
     ensures written { Writes at (lines_of_parts (asked_parts (seen origins (account_of machine.now)) shown.now)) buffer.old buffer.new result }
-    ensures fits { result ≤ at + 1536 }
+    ensures fits { result ≤ at + 1152 }
 {
     let at = put_operands(machine, origins, shown.source, shown.request, buffer, at);
     put_access(machine, origins, shown.access, buffer, at)
@@ -99,7 +119,9 @@ fn put_request<M: TaggedStore>(
         Request::Length(length) => put_bounds(held.address(), length, buffer, at),
         Request::Address(address) => {
             let Interval { base, top } = bounds(Word(held.0 >> 64 << 64 | u128::from(address)));
-            put_parts(buffer, at, &[ReportPart::Moved(base, top), range_of(held)])
+            let range = range_of(held);
+            let range = ReportPart::Representable(range.base, range.top);
+            put_parts(buffer, at, &[ReportPart::Moved(base, top), range])
         }
         Request::Authority(register, needs) => {
             let authority = authority_in(machine, origins, register);
@@ -126,19 +148,6 @@ fn put_bounds(base: u64, span: u64, buffer: &mut [u8], at: usize) -> usize
     )
 }
 
-// The representable range of a word: the address space where each address keeps its bounds.
-fn range_of(word: Word) -> ReportPart
-    ensures { result ≡ range_part word.0 }
-{
-    match reach(word) {
-        Some((start, size)) => ReportPart::Representable(
-            start,
-            u128::from(start) + u128::from(size),
-        ),
-        None => ReportPart::Representable(0, 1 << 64),
-    }
-}
-
 // Writes an access to memory, its authority, and the permissions that it needs.
 fn put_access<M: TaggedStore>(
     machine: &Machine<M>,
@@ -149,18 +158,15 @@ fn put_access<M: TaggedStore>(
 ) -> usize
     requires { at + 768 ≤ length buffer.old }
     ensures written { Writes at (lines_of_parts (access_parts (seen origins (account_of machine.now)) access)) buffer.old buffer.new result }
-    ensures fits { result ≤ at + 768 }
+    ensures fits { result ≤ at + 384 }
 {
     match access {
         Some(access) => {
             let authority = authority_in(machine, origins, access.authority);
             let end = u128::from(access.address) + u128::from(access.size);
-            let bytes = ReportPart::Access(access.address, end);
-            put_parts(
-                buffer,
-                at,
-                &[authority, bytes, ReportPart::Needs(access.needs)],
-            )
+            let at = put_parts(buffer, at, &[authority]);
+            let at = put_bounds_line(buffer, at, b"access", b" ", access.address, end);
+            put_hex_line(buffer, at, b"needs", 8, u128::from(access.needs))
         }
         None => at,
     }

@@ -1,3 +1,3 @@
 mod ObjectLemmas
 mod StepLemmas
-mod WhyLemmas
+pub mod WhyLemmas

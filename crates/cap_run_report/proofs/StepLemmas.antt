@@ -5,24 +5,26 @@ use Rattle.cap_ops.specs.declared.refusal.Refusal.TheVariants.{Truncated, WrongC
 use Rattle.cap_log.specs.declared.kinds.Step.{Step}
 use Rattle.cap_machine.specs.{Accounts.Account, Shown.shown_of}
 use Rattle.cap_report.specs.{Parts.lines_of_parts, StepLines.asked_parts}
+use Rattle.cap_texts.specs.TextLines.{says_line}
 use Rattle.cap_run.specs.declared.ends.RunRefusal.{RunRefusal}
 use Rattle.cap_run.specs.declared.ends.RunRefusal.TheVariants.{AlreadyFreed, HasOwner, NoObject, Overlaps, StillHeld, Usual}
 use Rattle.cap_run.specs.{Run.Run, RunChanges.account_in}
-use Rattle.cap_run_report.specs.{LineReports.{AreLineDetails, AreRunDetails, AreUsualDetails}, StepParts.{AreAccessLines, AreLifeLines, AreUsualLines}}
+use Rattle.cap_run_report.specs.{LineReports.{AreLineDetails, AreRunDetails, AreUsualDetails}, RunSentences.run_sentence}
+use Rattle.cap_run_report.specs.StepParts.{AreAccessLines, AreLifeLines, AreUsualLines}
 
 -- a step of version 2 that is refused for its owner
 pub usual_other : (run : Run) (step : Step) (refusal : RunRefusal) (access : List ℕ) → ((usual : Refusal) → refusal ≡ Usual usual → ⊥)
     → (let account = account_in run in let shown = shown_of account.state step in AreAccessLines run shown.access refusal access
-    → AreUsualLines run step refusal (lines_of_parts (asked_parts account shown) ++ access))
+    → AreUsualLines run step refusal (lines_of_parts (asked_parts account shown) ++ (access ++ says_line (run_sentence refusal))))
 usual_other run step (Usual usual) access other are = absurd (other usual refl)
 usual_other run step refusal access other are = (access, are, refl)
 
 pub usual_told : (run : Run) (step : Step) (refusal : RunRefusal) (access : List ℕ) (account : Account) → account_in run ≡ account
     → ((usual : Refusal) → refusal ≡ Usual usual → ⊥) → (let shown = shown_of account.state step in AreAccessLines run shown.access refusal access
-    → AreUsualLines run step refusal (lines_of_parts (asked_parts account shown) ++ access))
+    → AreUsualLines run step refusal (lines_of_parts (asked_parts account shown) ++ (access ++ says_line (run_sentence refusal))))
 usual_told run step refusal access account is other =
     subst (λ (a : Account). let shown = shown_of a.state step in AreAccessLines run shown.access refusal access
-    → AreUsualLines run step refusal (lines_of_parts (asked_parts a shown) ++ access)) is (usual_other run step refusal access other)
+    → AreUsualLines run step refusal (lines_of_parts (asked_parts a shown) ++ (access ++ says_line (run_sentence refusal)))) is (usual_other run step refusal access other)
 
 -- what a register holds is handed out or freed in vain for another reason
 pub life_other : (run : Run) (register : ℕ) (number : Option ℕ) (refusal : RunRefusal) → (refusal ≡ HasOwner → ⊥) → (refusal ≡ AlreadyFreed → ⊥)

@@ -1,9 +1,13 @@
 -- The text of a judge of run logs that explains, by where it stopped.
-use Rattle.std.proofs.Common.{◌≡◌, ℕ, Bool, List, ◌++◌, refl, sym, subst}
+use Rattle.std.proofs.Common.{◌≡◌, ℕ, Bool, false, List, [], ◌++◌, refl, sym, subst, Some, Ok, Err, Result}
+use Rattle.cap_streams.specs.FaultLines.{bytes_of}
 use Rattle.cap_run.specs.{declared.{asks.Asks.Asks, ends.RunRefusal.RunRefusal}, Run.Run}
-use Rattle.cap_run_judge.specs.declared.verdict.RunVerdict.{RunVerdict, TheVariants.{Yes, No}}
+use Rattle.cap_run_judge.specs.declared.{faults.RefusedRunLine.RefusedRunLine, verdict.RunVerdict.{RunVerdict, TheVariants.{Yes, No}}}
 use Rattle.cap_run_judge.specs.{Judgings.StopsIn, OwnerLists.run_report_text, Reports.AreNumbered, VerdictLines.run_verdict_line}
-use Rattle.cap_run_report.specs.{Answers.{ExplainsRun, IsRunWhyText}, LineReports.IsRunLineReport}
+use Rattle.cap_run_judge.specs.{Readings.{EndsAs, Follows}, Turns.{Refused, Stage, unread}}
+use Rattle.cap_run_judge.proofs.FollowLemmas.{all_ends, no_ends}
+use Rattle.cap_run_report.specs.Answers.{ExplainsRun, ExplainsRunEnd, ExplainsRunSoFar, IsRunWhyText}
+use Rattle.cap_run_report.specs.LineReports.{IsRunLineReport}
 
 pub told : (asks : Asks) (owners : Bool) (given : List ℕ) (ended : Bool) (run : Run) (fault : List ℕ) (verdict : RunVerdict) (said : List ℕ)
     → AreNumbered run → StopsIn asks given ended run fault verdict → IsRunWhyText owners run fault verdict said
@@ -21,3 +25,28 @@ pub why_no : (owners : Bool) (run : Run) (fault : List ℕ) (verdict : RunVerdic
     → verdict ≡ No line refusal → IsRunLineReport run fault refusal report → IsRunWhyText owners run fault verdict (run_verdict_line verdict ++ report)
 why_no owners run fault verdict line refusal report is by =
     subst (λ (v : RunVerdict). IsRunWhyText owners run fault v (run_verdict_line v ++ report)) (sym is) (report, by, refl)
+
+-- the text of a faulty line that a judge was handed
+pub so_far : (asks : Asks) (bytes : List ℕ) (stage : Stage) (n : ℕ) (refusal : RunRefusal) (text report : List ℕ)
+    → Follows (unread asks) bytes stage → stage.due ≡ Refused n refusal text → IsRunLineReport stage.run text refusal report
+    → ExplainsRunSoFar asks bytes (Some (No n refusal)) (run_verdict_line (No n refusal) ++ report)
+so_far asks bytes stage n refusal text report follows is by =
+    let ends = no_ends asks bytes stage n refusal text false follows is in
+    (ends.0, (stage.run, text, ends.1, report, by, refl))
+
+-- the text of a verdict on the lines that it was handed as a whole log
+pub yes_at_end : (asks : Asks) (bytes : List ℕ) (stage : Stage) (end : Result RunVerdict RefusedRunLine) (verdict : RunVerdict)
+    → end ≡ Ok verdict → AreNumbered stage.run → Follows (unread asks) bytes stage → EndsAs stage [] end
+    → ExplainsRunEnd asks bytes verdict (run_verdict_line verdict)
+yes_at_end asks bytes stage end (Yes steps roots objects) is are follows ends =
+    let told_is = all_ends asks bytes stage (Yes steps roots objects) [] follows (subst (EndsAs stage []) is ends) in
+    (told_is.0, (stage.run, (told_is.1, are), refl))
+yes_at_end asks bytes stage end (No line refusal) is are follows ends = absurd (subst (EndsAs stage []) is ends)
+
+pub no_at_end : (asks : Asks) (bytes : List ℕ) (stage : Stage) (end : Result RunVerdict RefusedRunLine) (fault : RefusedRunLine) (report : List ℕ)
+    → end ≡ Err fault → Follows (unread asks) bytes stage → EndsAs stage [] end
+    → IsRunLineReport stage.run (bytes_of fault.text) fault.refusal report
+    → ExplainsRunEnd asks bytes (No fault.line fault.refusal) (run_verdict_line (No fault.line fault.refusal) ++ report)
+no_at_end asks bytes stage end fault report is follows ends by =
+    let told_is = all_ends asks bytes stage (No fault.line fault.refusal) (bytes_of fault.text) follows (subst (EndsAs stage []) is ends) in
+    (told_is.0, (stage.run, bytes_of fault.text, told_is.1, report, by, refl))

@@ -47,4 +47,5 @@ abbrev pub AreFirstRunLines : List ℕ → List ℕ → Type 0
 AreFirstRunLines text told =
     (((text ≡ codes "capcheck 1") ⊎ (text ≡ codes "capcheck 2")) × (told ≡ other_log (codes "a log of version 1 or 2: capcheck judge judges it")))
     ⊎ (((text ≡ codes "heap 1") × (told ≡ other_log (codes "the log of an allocator: capdiag heap judges it")))
-    ⊎ (told ≡ header_lines text (codes "run 1")))
+    ⊎ ((text ≡ codes "capcheck 1" → ⊥) × (text ≡ codes "capcheck 2" → ⊥) × (text ≡ codes "heap 1" → ⊥)
+    × (told ≡ header_lines text (codes "run 1"))))

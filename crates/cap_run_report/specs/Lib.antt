@@ -3,4 +3,5 @@ pub mod BadRunLines
 pub mod CapParts
 pub mod LineReports
 pub mod ObjectParts
+pub mod RunSentences
 pub mod StepParts

@@ -5,26 +5,30 @@ use Rattle.cap_bounds.specs.Bounds.{length_of}
 use Rattle.cap_ops.specs.declared.refusal.Refusal.{Refusal, TheVariants.{BadHeader, BadLine, BadMode, LimitPassed, LineTooLong, Misplaced}}
 use Rattle.cap_ops.specs.declared.refusal.Refusal.TheVariants.{PlaceTaken, Truncated, WrongCount}
 use Rattle.cap_machine.specs.States.{tagged}
-use Rattle.cap_texts.specs.{ShownBytes.shown_line, TextLines.text_line, WrongLines.header_lines}
-use Rattle.cap_report.specs.FaultReports.{count_lines, due_line}
+use Rattle.cap_texts.specs.{ShownBytes.shown_line, TextLines.{says_line, text_line}, WrongLines.{cut_hint, header_lines, hint_line}}
+use Rattle.cap_report.specs.{FaultReports.{count_lines, due_line}, Says.{taken_text, unsound_text}}
 use Rattle.cap_run_log.specs.declared.lines.{RunLine.RunLine, RunPlace.RunPlace}
 use Rattle.cap_run_log.specs.declared.lines.RunLine.TheVariants as lines
-use Rattle.cap_run_log.specs.RunLines.{SpellsRun}
+use Rattle.cap_run_log.specs.RunLines.{SpellsRun, run_place_spelling}
 use Rattle.cap_run.specs.declared.ends.RunRefusal.{RunRefusal, TheVariants.Usual}
 use Rattle.cap_run.specs.{Run.Run, RunChanges.{account_in, place_key}}
-use Rattle.cap_run_report.specs.{BadRunLines.{AreBadRunLines, AreFirstRunLines}, CapParts.held_lines, StepParts.{AreRunStepLines, AreUsualLines}}
+use Rattle.cap_run_report.specs.{BadRunLines.{AreBadRunLines, AreFirstRunLines}, CapParts.held_lines, RunSentences.run_sentence}
+use Rattle.cap_run_report.specs.StepParts.{AreRunStepLines, AreUsualLines}
 
 -- a root: what its place holds already, or what its word stands for, with its length
 abbrev pub root_lines : Run → RunPlace → Word → RunRefusal → List ℕ
-root_lines run place word (Usual PlaceTaken) = held_lines (codes "holds") place (run.state (place_key place))
+root_lines run place word (Usual PlaceTaken) =
+    held_lines (codes "holds") place (run.state (place_key place)) ++ says_line (run_place_spelling place ++ taken_text)
 root_lines run place word refusal =
     held_lines (codes "root") place (tagged word) ++ text_line (codes "length") (hex_digits 17 (length_of word.0))
+    ++ says_line (unsound_text word.0)
 
 -- a line that has a form
 abbrev pub AreKnownLines : Run → RunLine → RunRefusal → List ℕ → Type 0
 AreKnownLines run (lines.Root place word) refusal told = told ≡ root_lines run place word refusal
 AreKnownLines run (lines.Step step) refusal told = AreUsualLines run step refusal told
-AreKnownLines run (lines.Run step) refusal told = AreRunStepLines run step refusal told
+AreKnownLines run (lines.Run step) refusal told =
+    (details : List ℕ) × AreRunStepLines run step refusal details × (told ≡ details ++ says_line (run_sentence refusal))
 AreKnownLines run line refusal told = told ≡ []
 
 -- what the checks of a line saw, if it has a form
@@ -41,7 +45,8 @@ AreUsualDetails run text LineTooLong told = told ≡ text_line (codes "expected"
 AreUsualDetails run text BadLine told = AreBadRunLines text told
 AreUsualDetails run text BadMode told = told ≡ header_lines text (codes "mode strict or mode clear")
 AreUsualDetails run text Misplaced told = told ≡ count_lines (account_in run) ++ due_line (account_in run) Misplaced
-AreUsualDetails run text Truncated told = told ≡ count_lines (account_in run) ++ due_line (account_in run) Truncated
+AreUsualDetails run text Truncated told =
+    told ≡ (count_lines (account_in run) ++ due_line (account_in run) Truncated) ++ hint_line (cut_hint text)
 AreUsualDetails run text WrongCount told = told ≡ count_lines (account_in run) ++ due_line (account_in run) WrongCount
 AreUsualDetails run text LimitPassed told = told ≡ count_lines (account_in run) ++ due_line (account_in run) LimitPassed
 AreUsualDetails run text refusal told = AreLineDetails run text (Usual refusal) told

@@ -12,12 +12,13 @@ use Rattle.cap_run_log.specs.declared.lines.RunPlace.TheVariants as places
 use Rattle.cap_run_log.specs.declared.lines.RunRegister.{RunRegister, TheVariants.{General, Special}}
 use Rattle.cap_run_log.specs.declared.lines.RunStep.{RunStep}
 use Rattle.cap_run_log.specs.declared.lines.RunStep.TheVariants as steps
-use Rattle.cap_texts.specs.TextLines.{text_line}
+use Rattle.cap_texts.specs.TextLines.{says_line, text_line}
 use Rattle.cap_run.specs.declared.ends.RunRefusal.{RunRefusal}
 use Rattle.cap_run.specs.declared.ends.RunRefusal.TheVariants.{AlreadyFreed, HasOwner, NoObject, NotOwned, Overlaps, OwnerFreed, StillHeld, Usual}
 use Rattle.cap_run.specs.{Run.{Run, register_key}, RunChanges.account_in}
 use Rattle.cap_report.specs.{Parts.lines_of_parts, StepLines.{asked_parts, step_lines}}
 use Rattle.cap_run_report.specs.{CapParts.{held_lines, owned_lines, place_of, register_lines}, ObjectParts.{AreExtentLines, AreMetLines, AreNumberLines, AreOwnerLines}}
+use Rattle.cap_run_report.specs.RunSentences.{run_sentence}
 
 -- what is told of the access of a step that is refused for its owner: the freed object that owns the authority, or the live
 -- one that it touches
@@ -36,7 +37,8 @@ AreUsualLines run step (Usual refusal) told = told ≡ step_lines (account_in ru
 AreUsualLines run step refusal told =
     let account = account_in run in
     let shown = shown_of account.state step in
-    (access : List ℕ) × AreAccessLines run shown.access refusal access × (told ≡ lines_of_parts (asked_parts account shown) ++ access)
+    (access : List ℕ) × AreAccessLines run shown.access refusal access
+    × (told ≡ lines_of_parts (asked_parts account shown) ++ (access ++ says_line (run_sentence refusal)))
 
 -- a source, and what the line records for the register that gets it
 abbrev pub derived_lines : Run → RunRegister → RunRegister → Cap → List ℕ

@@ -1,10 +1,12 @@
 //! The lines that show what a place of a run holds.
 
-ghost use Rattle.std.specs.Prelude.{◌≡◌, ◌+◌, ◌≤◌, length};
+ghost use Rattle.std.specs.Prelude.{◌≡◌, ◌+◌, ◌++◌, ◌≤◌, length};
 ghost use Rattle.cap_streams.specs.Written.{Writes};
 ghost use Rattle.cap_run.specs.Run.{IsSource};
 ghost use Rattle.cap_run_judge.specs.Readings.{run_in};
 ghost use Rattle.cap_run_log.specs.RunLines.{run_place_spelling};
+ghost use Rattle.cap_texts.specs.TextLines.{says_line};
+ghost use Rattle.cap_report.specs.Says.{taken_text};
 ghost use Rattle.cap_run_report.specs.CapParts.{IsReadable, held_lines, owned_lines, owner_number_line, place_of, register_lines};
 
 use cap_log::Place;
@@ -104,4 +106,29 @@ pub fn put_owned(buffer: &mut [u8], at: usize, owner: Option<u32>) -> usize
         Some(number) => put_owner_number(buffer, at, number),
         None => at,
     }
+}
+
+/// Writes in a sentence that a root's place has one already, as a line at an index of the buffer, and returns the index
+/// after it.
+#[tactic(auto, unfolding(cap_texts::specs::TextLines::says_line))]
+pub fn put_taken_says(place: RunPlace, buffer: &mut [u8], at: usize) -> usize
+    requires place { IsReadable place }
+    requires room { at + 102 ≤ length buffer.old }
+    ensures written { Writes at (says_line (run_place_spelling place ++ taken_text)) buffer.old buffer.new result }
+    ensures fits { result ≤ at + 102 }
+{
+    let at = put(buffer, at, b"says ");
+    let at = put_taken(place, buffer, at);
+    put(buffer, at, b"\n")
+}
+
+// Writes that a root's place has one already.
+fn put_taken(place: RunPlace, buffer: &mut [u8], at: usize) -> usize
+    requires place { IsReadable place }
+    requires room { at + 48 ≤ length buffer.old }
+    ensures written { Writes at (run_place_spelling place ++ taken_text) buffer.old buffer.new result }
+    ensures fits { result ≤ at + 48 }
+{
+    let at = put_run_place(buffer, at, place);
+    put(buffer, at, b" has a root already")
 }

@@ -1,18 +1,21 @@
 //! The judge of run logs that explains a `no`.
 
-ghost use Rattle.std.specs.Prelude.{◌≡◌, ◌≤◌, ℕ, List, ◌++◌, length, take, Err, OnOk, OnErr};
+ghost use Rattle.std.specs.Prelude.{◌≡◌, ◌≤◌, ℕ, List, ◌++◌, length, take, Err, OnOk, OnErr, Option};
 ghost use Rattle.std.specs.FinMap as map;
 ghost use Rattle.cap_streams.specs.declared.judge_faults.JudgeToFault.TheVariants.{Pull, Push};
 ghost use Rattle.cap_streams.specs.{FaultLines.bytes_of, Streams.{CountsFault, CountsOnly}};
-ghost use Rattle.cap_run_judge.specs.declared.verdict.RunVerdict.TheVariants.{No};
-ghost use Rattle.cap_run_judge.specs.{Readings.run_in, Reports.RunReported, VerdictLines.run_verdict_line};
-ghost use Rattle.cap_run_report.specs.{Answers.{ExplainsRun, IsRunWhyText}, LineReports.IsRunLineReport};
+ghost use Rattle.cap_run.specs.declared.asks.Asks.{Asks as AsksIn};
+ghost use Rattle.cap_run_judge.specs.declared.verdict.RunVerdict.{RunVerdict as RunVerdictIn, TheVariants.No};
+ghost use Rattle.cap_run_judge.specs.Readings.{Follows, run_in, stage_of};
+ghost use Rattle.cap_run_judge.specs.{Reports.RunReported, Turns.unread, VerdictLines.run_verdict_line};
+ghost use Rattle.cap_run_report.specs.{Answers.{ExplainsRun, ExplainsRunEnd, ExplainsRunSoFar, IsRunWhyText}, LineReports.IsRunLineReport};
 
 use crate::line_reports::put_run_report;
 use cap_log::buffers::put;
 use cap_run::{Asks, RunMachine};
 use cap_run_judge::{
-    RefusedRunLine, RunJudgeEnd, RunVerdict, judge_run_keeping, push_run_report, run_verdict_text,
+    RefusedRunLine, RunJudge, RunJudgeEnd, RunVerdict, judge_run_keeping, push_run_report,
+    push_run_verdict, run_verdict_text,
 };
 use cap_streams::{FaultLine, JudgeToFault, PushFault, Sink, Source, push_all};
 use std::alloc::Global;
@@ -45,6 +48,45 @@ pub fn judge_run_why<S: Source, M: TaggedStore, K: Sink>(
     let verdict = answer?;
     push_why(owners, &verdict, &machine, &fault, sink)?;
     Ok(verdict)
+}
+
+/// Pushes the answer for the lines handed to a judge so far: nothing while none is faulty; otherwise the line of
+/// the `no`, and the report of the faulty line. It is what [`judge_run_why`] pushes for these lines, whatever lines
+/// follow, and has at most 3,136 bytes.
+pub fn push_run_refused<M: TaggedStore, K: Sink>(
+    judge: &RunJudge<M>,
+    sink: &mut K,
+) -> Result<(), PushFault>
+    ensures ok { OnOk result ((asks : AsksIn) (bytes : List ℕ) → Follows (unread asks) bytes (stage_of judge.now) → (verdict : Option RunVerdictIn)
+        × (told : List ℕ) × ExplainsRunSoFar asks bytes verdict told × K.took sink.old sink.new told × (length told ≤ 3136)) }
+    ensures err { OnErr result ((asks : AsksIn) (bytes : List ℕ) → Follows (unread asks) bytes (stage_of judge.now) → (verdict : Option RunVerdictIn)
+        × (told : List ℕ) × ExplainsRunSoFar asks bytes verdict told × (n : ℕ) × K.took sink.old sink.new (take n told)) }
+    ensures counted { CountsFault (K.faults sink.old) (K.faults sink.new) result }
+{
+    match judge.refused() {
+        Some(fault) => push_fault(judge.machine(), &fault, sink),
+        None => Ok(()),
+    }
+}
+
+/// Pushes the answer for the lines handed to a judge so far as a whole run log: the line of the verdict, and after a `no`
+/// the report of the faulty line. It is what [`judge_run_why`] pushes for these lines without owners, and has at most 3,136
+/// bytes.
+pub fn push_run_ending<M: TaggedStore, K: Sink>(
+    judge: &RunJudge<M>,
+    sink: &mut K,
+) -> Result<(), PushFault>
+    ensures ok { OnOk result ((asks : AsksIn) (bytes : List ℕ) → Follows (unread asks) bytes (stage_of judge.now) → (verdict : RunVerdictIn)
+        × (told : List ℕ) × ExplainsRunEnd asks bytes verdict told × K.took sink.old sink.new told × (length told ≤ 3136)) }
+    ensures err { OnErr result ((asks : AsksIn) (bytes : List ℕ) → Follows (unread asks) bytes (stage_of judge.now) → (verdict : RunVerdictIn)
+        × (told : List ℕ) × ExplainsRunEnd asks bytes verdict told × (n : ℕ) × K.took sink.old sink.new (take n told)) }
+    ensures counted { CountsFault (K.faults sink.old) (K.faults sink.new) result }
+{
+    judge.machine().kept();
+    match judge.ending(&[]) {
+        Ok(verdict) => push_run_verdict(&verdict, sink),
+        Err(fault) => push_fault(judge.machine(), &fault, sink),
+    }
 }
 
 // Pushes the text of a verdict: after a `yes` with the owners where they are asked for, and after a `no` with the report of
@@ -83,7 +125,8 @@ fn push_fault<M: TaggedStore, K: Sink>(
 ) -> Result<(), PushFault>
     ensures ok { OnOk result ((report : List ℕ)
         × IsRunLineReport (run_in machine.now) (bytes_of fault.now.text) fault.now.refusal report
-        × K.took sink.old sink.new (run_verdict_line (No fault.now.line fault.now.refusal) ++ report)) }
+        × K.took sink.old sink.new (run_verdict_line (No fault.now.line fault.now.refusal) ++ report)
+        × (length (run_verdict_line (No fault.now.line fault.now.refusal) ++ report) ≤ 3136)) }
     ensures err { OnErr result ((report : List ℕ)
         × IsRunLineReport (run_in machine.now) (bytes_of fault.now.text) fault.now.refusal report
         × (n : ℕ) × K.took sink.old sink.new (take n (run_verdict_line (No fault.now.line fault.now.refusal) ++ report))) }

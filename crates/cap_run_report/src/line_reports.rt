@@ -9,17 +9,19 @@ ghost use Rattle.cap_run_log.specs.RunLines.{IsRunLineInRange, IsRunPlace};
 ghost use Rattle.cap_run_report.specs.LineReports.{AreKnownLines, AreLineDetails, AreRunDetails, AreUsualDetails, IsRunLineReport, root_lines};
 
 use crate::bad_run_lines::{put_bad_run_header, put_bad_run_line};
-use crate::cap_parts::put_held;
+use crate::cap_parts::{put_held, put_taken_says};
+use crate::run_sentences::run_sentence;
 use crate::step_parts::{put_run_step, put_usual};
 use cap_bounds::length_of;
 use cap_machine::Refusal;
 use cap_report::fault_reports::put_counted_lines;
+use cap_report::root_says::put_unsound_says;
 use cap_run::{RunMachine, RunRefusal};
 use cap_run_log::{RunLine, RunPlace, read_run_line};
 use cap_streams::FaultLine;
 use cap_texts::shown_bytes::put_shown_line;
-use cap_texts::text_lines::{put_hex_line, put_line};
-use cap_texts::wrong_lines::{SHORT_LINE, put_header_lines};
+use cap_texts::text_lines::{put_hex_line, put_line, put_says};
+use cap_texts::wrong_lines::{SHORT_LINE, cut_hint, put_header_lines, put_hint_line};
 use cap_word::{Cap, Word};
 use tagmem::TaggedStore;
 
@@ -80,7 +82,10 @@ fn put_usual_details<M: TaggedStore>(
         Refusal::BadLine => put_bad_run_line(buffer, at, text),
         Refusal::BadMode => put_header_lines(buffer, at, text, b"mode strict or mode clear"),
         Refusal::Misplaced => put_counts(machine, Refusal::Misplaced, buffer, at),
-        Refusal::Truncated => put_counts(machine, Refusal::Truncated, buffer, at),
+        Refusal::Truncated => {
+            let at = put_counts(machine, Refusal::Truncated, buffer, at);
+            put_hint_line(buffer, at, cut_hint(text))
+        }
         Refusal::WrongCount => put_counts(machine, Refusal::WrongCount, buffer, at),
         Refusal::LimitPassed => put_counts(machine, Refusal::LimitPassed, buffer, at),
         _ => put_line_details(machine, text, RunRefusal::Usual(refusal), buffer, at),
@@ -136,7 +141,10 @@ fn put_known<M: TaggedStore>(
     match *line {
         RunLine::Root(place, word) => put_root(machine, buffer, at, place, word, refusal),
         RunLine::Step(step) => put_usual(machine, buffer, at, &step, refusal),
-        RunLine::Run(step) => put_run_step(machine, buffer, at, &step, refusal),
+        RunLine::Run(step) => {
+            let at = put_run_step(machine, buffer, at, &step, refusal);
+            put_says(buffer, at, run_sentence(refusal))
+        }
         RunLine::Version | RunLine::Plain(_) | RunLine::Mode(_) | RunLine::End(_) => at,
     }
 }
@@ -151,17 +159,19 @@ fn put_root<M: TaggedStore>(
     refusal: RunRefusal,
 ) -> usize
     requires place { IsRunPlace place }
-    requires room { at + 256 ≤ length buffer.old }
+    requires room { at + 384 ≤ length buffer.old }
     ensures written { Writes at (root_lines (run_in machine.now) place word refusal) buffer.old buffer.new result }
-    ensures fits { result ≤ at + 256 }
+    ensures fits { result ≤ at + 384 }
 {
     match refusal {
         RunRefusal::Usual(Refusal::PlaceTaken) => {
-            put_held(buffer, at, b"holds", place, machine.holds(place))
+            let at = put_held(buffer, at, b"holds", place, machine.holds(place));
+            put_taken_says(place, buffer, at)
         }
         _ => {
             let at = put_held(buffer, at, b"root", place, Cap { tag: true, word });
-            put_hex_line(buffer, at, b"length", 17, length_of(word))
+            let at = put_hex_line(buffer, at, b"length", 17, length_of(word));
+            put_unsound_says(word, buffer, at)
         }
     }
 }

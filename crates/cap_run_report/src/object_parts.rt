@@ -80,8 +80,8 @@ fn granule_holder<M: TaggedStore>(machine: &RunMachine<M>, number: u32) -> Optio
     None
 }
 
-// The first place that an object owns.
-fn holder<M: TaggedStore>(machine: &RunMachine<M>, number: u32) -> Option<RunPlace>
+/// The first place that an object owns: c1 to c31, scr0 to scr31, and the granules by address.
+pub fn holder<M: TaggedStore>(machine: &RunMachine<M>, number: u32) -> Option<RunPlace>
     ensures some { IfSome result (IsFirstHolder (run_in machine.now) number) }
     ensures place { IfSome result IsRunPlace }
     ensures none { IfNone result (HasNoHolder (run_in machine.now) number) }

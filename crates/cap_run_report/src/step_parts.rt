@@ -15,12 +15,14 @@ ghost use Rattle.cap_run_report.specs.StepParts.{invoked_lines, is_refused, open
 use crate::cap_parts::{place_of, put_held, put_register};
 use crate::object_parts::{put_met, put_owner};
 use crate::object_steps::{put_free_step, put_object_step};
+use crate::run_sentences::run_sentence;
 use cap_log::Step;
 use cap_machine::{Reached, Refusal};
 use cap_ops::{UNSEALED_TYPE, derive_fault};
 use cap_report::step_lines::{put_asked, put_step_lines};
 use cap_run::{RunMachine, RunRefusal};
 use cap_run_log::{RunPlace, RunRegister, RunStep};
+use cap_texts::text_lines::put_says;
 use cap_word::{Cap, Word};
 use tagmem::TaggedStore;
 
@@ -93,7 +95,8 @@ pub fn put_usual<M: TaggedStore>(
         _ => {
             let shown = main.shown(step);
             let at = put_asked(main, false, &shown, buffer, at);
-            put_access(machine, buffer, at, shown.access, refusal)
+            let at = put_access(machine, buffer, at, shown.access, refusal);
+            put_says(buffer, at, run_sentence(refusal))
         }
     }
 }

@@ -7,6 +7,10 @@ use Rattle.cap_bounds.specs.declared.rounding.Rounded.{Rounded}
 unfoldable pub text_line : List ℕ → List ℕ → List ℕ
 text_line name value = name ++ codes " " ++ value ++ codes "\n"
 
+-- a sentence, as the last line of a report (this profile's own)
+unfoldable pub says_line : List ℕ → List ℕ
+says_line sentence = codes "says " ++ sentence ++ codes "\n"
+
 -- an answer in words (this profile's own)
 abbrev pub yes_or_no : Bool → List ℕ
 yes_or_no answer = if answer then codes "yes" else codes "no"

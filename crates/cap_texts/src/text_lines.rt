@@ -3,7 +3,7 @@
 ghost use Rattle.std.specs.Prelude.{◌+◌, ◌<◌, ◌≤◌, length, decimal};
 ghost use Rattle.cap_word.specs.Digits.{hex_digits};
 ghost use Rattle.cap_streams.specs.Written.{Writes};
-ghost use Rattle.cap_texts.specs.TextLines.{text_line, yes_or_no};
+ghost use Rattle.cap_texts.specs.TextLines.{says_line, text_line, yes_or_no};
 
 use cap_log::buffers::{put, put_decimal, put_hex};
 
@@ -18,6 +18,18 @@ pub fn put_line(buffer: &mut [u8], at: usize, name: &[u8], value: &[u8]) -> usiz
     let at = put(buffer, at, name);
     let at = put(buffer, at, b" ");
     let at = put(buffer, at, value);
+    put(buffer, at, b"\n")
+}
+
+/// Writes a sentence as the last line of a report, as [`put_line`] does.
+#[tactic(auto, unfolding(crate::specs::TextLines::says_line))]
+pub fn put_says(buffer: &mut [u8], at: usize, sentence: &[u8]) -> usize
+    requires { at + length sentence.now + 6 ≤ length buffer.old }
+    ensures written { Writes at (says_line sentence.now) buffer.old buffer.new result }
+    ensures fits { result ≤ at + length sentence.now + 6 }
+{
+    let at = put(buffer, at, b"says ");
+    let at = put(buffer, at, sentence);
     put(buffer, at, b"\n")
 }
 

@@ -3,15 +3,18 @@
 ghost use Rattle.std.specs.Prelude.{◌≡◌, ◌+◌, ◌-◌, ◌≤◌, ◌++◌, codes, length};
 ghost use Rattle.cap_streams.specs.Written.{Writes};
 ghost use Rattle.cap_texts.specs.{TextLines.text_line, WrongLines.{end_text, found_line, header_lines, hint_line}};
-ghost use Rattle.cap_texts.specs.WrongLines.{hint_of, mark_hint, wrong_lines};
+ghost use Rattle.cap_texts.specs.WrongLines.{coding_hint, count_hint, cut_hint, ending_hint, has_space, hint_of, mark_hint, wrong_lines};
 
-use crate::fields::{Wrong, expected_text};
+use crate::fields::{Field, Wrong, expected_text};
 use crate::shown_bytes::put_shown_text;
 use crate::text_lines::{put_decimal_line, put_line};
 use cap_log::buffers::put;
 
 /// The hint for a line that ends with a carriage return.
 const CARRIAGE_RETURN: &[u8] = b"a carriage return ends the line: end lines with a line feed alone";
+
+/// The hint for a line that ends with a space.
+const LAST_SPACE: &[u8] = b"a space ends the line: end lines with a line feed alone";
 
 /// What is expected of a line that is too long.
 pub const SHORT_LINE: &[u8] = b"a line feed after at most 95 bytes";
@@ -34,7 +37,7 @@ pub fn put_wrong_lines(buffer: &mut [u8], at: usize, line_length: usize, wrong: 
     let at = put_decimal_line(buffer, at, b"column", column as u64 + 1);
     let at = put_found_line(buffer, at, wrong.rest);
     let at = put_expected_line(buffer, at, expected_text(wrong.field), end_text(wrong.end));
-    put_hint_line(buffer, at, hint_of(wrong.rest))
+    put_hint_line(buffer, at, hint_of(wrong))
 }
 
 /// Writes what a line of one form has to be, and a hint where it begins with a byte order mark or ends with a
@@ -106,17 +109,82 @@ fn end_text(end: u8) -> &'static [u8]
     }
 }
 
-// What often makes a word wrong.
-fn hint_of(rest: &[u8]) -> &'static [u8]
-    ensures text { result.now ≡ hint_of rest.now }
+// Whether a line has a space.
+#[tactic(auto, unfolding(crate::specs::WrongLines::has_space))]
+fn has_space(text: &[u8]) -> bool
+    ensures value { result ≡ has_space text.now }
+{
+    match text.split_first() {
+        Some((byte, bytes)) => *byte == b' ' || has_space(bytes),
+        None => false,
+    }
+}
+
+// Whether words are missing or too many.
+fn count_hint(wrong: Wrong<'_>) -> &'static [u8]
+    ensures text { result.now ≡ count_hint wrong.entry.field wrong.entry.end wrong.entry.rest.now }
     ensures short { length result.now ≤ 80 }
 {
+    match wrong.field {
+        Field::LogName | Field::HeapName => b"",
+        _ => {
+            if wrong.end == b'\n' {
+                if has_space(wrong.rest) {
+                    b"the line has more words than its form"
+                } else {
+                    b""
+                }
+            } else if has_space(wrong.rest) {
+                b""
+            } else {
+                b"the line ends too early"
+            }
+        }
+    }
+}
+
+// What often makes a word wrong.
+fn hint_of(wrong: Wrong<'_>) -> &'static [u8]
+    ensures text { result.now ≡ hint_of wrong.entry.field wrong.entry.end wrong.entry.rest.now }
+    ensures short { length result.now ≤ 80 }
+{
+    let rest = wrong.rest;
     if rest.len() <= 1 {
         b"the line ends too early"
     } else if rest[0] == b' ' {
         b"a space too many"
     } else if rest[rest.len() - 2] == b'\r' {
         CARRIAGE_RETURN
+    } else if rest[rest.len() - 2] == b' ' {
+        LAST_SPACE
+    } else {
+        count_hint(wrong)
+    }
+}
+
+// What two first bytes say of a log.
+fn coding_hint(first: u8, second: u8) -> &'static [u8]
+    ensures text { result.now ≡ coding_hint first second }
+    ensures short { length result.now ≤ 80 }
+{
+    if (first == 0xff && second == 0xfe) || (first == 0xfe && second == 0xff) {
+        b"the log is UTF-16, as a Windows shell writes it: write ASCII"
+    } else if first == 0x1f && second == 0x8b {
+        b"the log is packed by gzip: unpack it first"
+    } else {
+        b""
+    }
+}
+
+// What the last byte of a first line says of it.
+fn ending_hint(last: u8) -> &'static [u8]
+    ensures text { result.now ≡ ending_hint last }
+    ensures short { length result.now ≤ 80 }
+{
+    if last == b'\r' {
+        CARRIAGE_RETURN
+    } else if last == b' ' {
+        LAST_SPACE
     } else {
         b""
     }
@@ -128,12 +196,29 @@ fn mark_hint(text: &[u8]) -> &'static [u8]
     ensures short { length result.now ≤ 80 }
 {
     if text.len() < 3 {
-        b""
-    } else if text[0] == 0xef && text[1] == 0xbb && text[2] == 0xbf {
-        b"a byte order mark begins the log: write it without one"
-    } else if text[text.len() - 1] == b'\r' {
-        CARRIAGE_RETURN
+        return b"";
+    }
+    if text[0] == 0xef && text[1] == 0xbb && text[2] == 0xbf {
+        return b"a byte order mark begins the log: write it without one";
+    }
+    if text[0] == b'#' {
+        return b"a log has no comments";
+    }
+    let coding = coding_hint(text[0], text[1]);
+    if !coding.is_empty() {
+        return coding;
+    }
+    ending_hint(text[text.len() - 1])
+}
+
+/// What a log lacks that ends within a line, by the bytes of that line.
+pub fn cut_hint(text: &[u8]) -> &'static [u8]
+    ensures text { result.now ≡ cut_hint text.now }
+    ensures short { length result.now ≤ 80 }
+{
+    if text.is_empty() {
+        b"no line follows: the log was cut, or is still being written"
     } else {
-        b""
+        b"the last line has no line feed"
     }
 }

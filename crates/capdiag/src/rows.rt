@@ -176,7 +176,7 @@ pub const ROWS: &str = r#"
 = access 0000000000001000 00000000000001008 / needs 00000004
 = object 1 4 0000000000001000 00000000000001020 freed 1 / freed 5
 = holder c1 1 ffff1ffff80810000000000000001000 / holder perms 00078fff / holder otype 3ffff unsealed
-= holder bounds 0000000000001000 00000000000001020
+= holder bounds 0000000000001000 00000000000001020 / says the object that owns the authority was freed
 
 1 run log --why / why log / why --origins
 | run 1 / mode strict / root c1 ffff1ffff80810000000000000001000 / object c1 / object c1 / end 2
@@ -185,7 +185,7 @@ pub const ROWS: &str = r#"
 = register bounds 0000000000001000 00000000000001020
 = register owner 1 / object 1 4 0000000000001000 00000000000001020 live 1
 = holder c1 1 ffff1ffff80810000000000000001000 / holder perms 00078fff / holder otype 3ffff unsealed
-= holder bounds 0000000000001000 00000000000001020
+= holder bounds 0000000000001000 00000000000001020 / says an object owns what the register holds
 
 1 run log --why --owned
 | run 1 / mode clear / root scr3 ffff1ffff80810000000000000001000 / derive c2 scr3 = 1 ffff1ffff80810000000000000001000
@@ -193,7 +193,7 @@ pub const ROWS: &str = r#"
 = no 6 40 NoObject / line object c2 1
 = register c2 1 ffff1ffff80810000000000000001000 / register perms 00078fff / register otype 3ffff unsealed
 = register bounds 0000000000001000 00000000000001020
-= objects 0
+= objects 0 / says no object with this number was handed out
 
 2 run --whi log
 ! capdiag: unknown option '--whi'; did you mean --why? see capdiag --help
@@ -269,7 +269,7 @@ pub const ROWS: &str = r#"
 = no 5 11 BoundsEscape / line setbounds c4 c3 0000000000000021 = 1 ffff1ffff80850000000000000001000
 = source c3 1 ffff1ffff80810000000000000001000 / source perms 00078fff / source otype 3ffff unsealed
 = source bounds 0000000000001000 00000000000001020 / source origin c1 / request 0000000000001000 00000000000001021
-= rounded 0000000000001000 00000000000001021
+= rounded 0000000000001000 00000000000001021 / says the request ends one byte above c3's bounds
 
 # objects that lie apart
 0 heap / heap log / heap --why / heap --why log

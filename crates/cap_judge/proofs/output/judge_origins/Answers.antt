@@ -1,6 +1,7 @@
 use Rattle.std.specs.FinMap.{len, len-empty}
-use Rattle.std.proofs.{Common.{ap, subst, true, ◌∙◌, nat_cmp}, lemmas.Result.err_from_is_err_and}
-use Rattle.cap_streams.specs.FaultLines.{bytes_of}
+use Rattle.std.proofs.{Common.{ap, subst, true, ◌∙◌, nat_cmp, arith, refl, ℕ, Result, Err}, lemmas.Result.err_from_is_err_and}
+use Rattle.cap_streams.specs.{FaultLines.{bytes_of, told_fault}, Streams.CountsOnly}
+use Rattle.cap_streams.specs.declared.judge_faults.{JudgeFault.JudgeFault, JudgeToFault.JudgeToFault}
 use Rattle.tagmem.specs.Granules.{Entry}
 use Rattle.cap_judge.specs.{Judgings.JudgedBy, OriginLists.report_text, Reports.Tells}
 use Rattle.cap_judge.proofs.{EscapeLaws.named, ReportLemmas.{IsHeld, pushed_nothing, tells}}
@@ -69,3 +70,18 @@ returns-in_err-push_report-clause-reported g c =
 
 pub returns-clause-escape : goal.returns-clause-escape
 returns-clause-escape g c = named c.in_ok-verdict.verdict
+
+-- a fault of the judging is counted as the fault that is told of it
+counted_told : {A B : Type 0} (fault : JudgeFault) (before after : ℕ)
+    → CountsOnly {R = Result A JudgeFault} (Err JudgeFault.Pull) before after (Err fault)
+    → CountsOnly {R = Result B JudgeToFault} (Err JudgeToFault.Pull) before after (Err (told_fault fault))
+counted_told JudgeFault.Pull before after counted = (λ differs. absurd (differs refl), λ _. counted.1 refl)
+counted_told JudgeFault.NoMemory before after counted = (λ _. counted.0 (λ same. grind arith), λ same. grind arith)
+
+pub returns-in_err-verdict-clause-pulls_counted : goal.returns-in_err-verdict-clause-pulls_counted
+returns-in_err-verdict-clause-pulls_counted g c =
+    let failed = err_from_is_err_and c.from_residual.result c.from_residual.ensures.1 in
+    let before = g.S.Source.faults c.args.source.now in
+    let after = g.S.Source.faults c.judge_keeping-answer.new.source in
+    rw (failed.1, failed.2) (counted_told c.in_err-verdict.field-0.0 before after
+    (subst (CountsOnly (Err JudgeFault.Pull) before after) c.in_err-verdict.was c.judge_keeping-answer.ensures.counted))

@@ -1,4 +1,4 @@
-use Rattle.std.proofs.Common.{◌≡◌, inl, inr, refl, codes, rules}
+use Rattle.std.proofs.Common.{◌≡◌, inl, refl, codes, rules}
 use Rattle.cap_report.specs.BadLines.{other_log}
 use Rattle.cap_report.proofs.bad_lines.put_bad_header.Goals as goal
 
