@@ -3,6 +3,8 @@
   capcheck[/v][/N] EXPRESSION  print a capability, or N of them; see `help capcheck`
   capcheck-report JUDGE        print why a judge of the program refused a line
   capcheck-judge JUDGE ..      ask a judge of the program; see `help capcheck-judge`
+  capcheck-owner JUDGE PLACE   print the object that owns a place, by a judge of run logs
+  capcheck-objects JUDGE       print the objects that are live or held, each with the first place that holds it
   print EXPRESSION             prints the structs of the C headers with their bounds
   $cap_base(EXPRESSION) and so on, for conditions of breakpoints; see `help function`
 """
@@ -17,9 +19,10 @@ import gdb.printing
 
 _here = os.path.dirname(os.path.abspath(__file__))
 sys.path[:0] = [it for it in (_here, os.path.join(_here, "../python")) if os.path.isdir(f"{it}/capcheck")]
-from capcheck import Capability, Kind, Refusal  # noqa: E402
-from capcheck.judges import (State, _EXPECTS_CAPABILITY, _EXPECTS_NUMBER, _GRANULE, _REGISTER,  # noqa: E402
-                             _REPORT_SIZE)
+from capcheck import Capability, Kind, Object, Refusal, RunVerdict  # noqa: E402
+from capcheck._abi import Place  # noqa: E402
+from capcheck.judges import State, _EXPECTS_CAPABILITY, _EXPECTS_NUMBER, _REPORT_SIZE  # noqa: E402
+from capcheck.runs import _GRANULE, _LIVE, _NO_SUCH_OBJECT, _REGISTER, _SPECIAL, _name as _named  # noqa: E402
 
 _STRUCTS = (gdb.TYPE_CODE_STRUCT, gdb.TYPE_CODE_UNION)
 _REFERENCES = (gdb.TYPE_CODE_REF, gdb.TYPE_CODE_RVALUE_REF)
@@ -183,7 +186,8 @@ class Asked:
             value = value.referenced_value()
         elif kind.code == gdb.TYPE_CODE_PTR and kind.target().strip_typedefs().code in _STRUCTS:
             value = value.dereference()
-        if value.type.strip_typedefs().unqualified().name != "capcheck_judge" or value.address is None:
+        self.prefix = value.type.strip_typedefs().unqualified().name
+        if self.prefix not in ("capcheck_judge", "capcheck_run_judge") or value.address is None:
             raise gdb.GdbError(f"a value of type {kind} is no judge: name a capcheck_judge, or a pointer to one")
         if gdb.selected_thread() is None:
             raise gdb.GdbError("the program isn't running: its own library has to answer")
@@ -207,12 +211,34 @@ class Asked:
     def answer(self, name, size, *numbers):
         """The bytes of the struct that a question returns."""
         with self._asking() as room:
-            _call(f"capcheck_judge_{name}", room, self.at, *numbers)
+            _call(f"{self.prefix}_{name}", room, self.at, *numbers)
             return _memory(room, size)
 
     def verdict(self, name):
         """An answer, as `print` shows it."""
+        if self.prefix == "capcheck_run_judge":
+            return _run_answer_text(*struct.unpack("<QIIIBB", self.answer(name, 22)))
         return _answer_text(*struct.unpack("<QIIBB", self.answer(name, 18)))
+
+    def number(self, name, *numbers):
+        """The number that a question returns."""
+        with _alone():
+            return _call(f"{self.prefix}_{name}", self.at, *numbers) % 2**32
+
+    def owner(self, place):
+        """The number of the object that owns a place, which is passed in two registers; 0 if none does."""
+        return self.number("owner", place.number, place.kind)
+
+    def object(self, number):
+        """An object with its first holder; None if there is none."""
+        base, high, low, held, line, state = struct.unpack("<QQQQQB", self.answer("object", 41, number))
+        if state == _NO_SUCH_OBJECT:
+            return None
+        with self._asking():  # A place comes in two registers, as a judge would: that type is there.
+            called = "((capcheck_run_judge (*)(unsigned long, unsigned long))capcheck_run_judge_holder)"
+            there = gdb.parse_and_eval(f"{called}({self.at}, {number})")
+        holder = _named(Place(int(there["at"]), int(there["held"])))
+        return f"{Object(number, line, base, high << 64 | low, state == _LIVE, held)} {holder or 'no place'}"
 
     def capability(self, name, number):
         high, low, tag = struct.unpack("<QQB", self.answer(name, 17, number))
@@ -226,14 +252,14 @@ class Asked:
 
     def report(self):
         with self._asking() as room:
-            return _memory(room, _call("capcheck_judge_report", self.at, room, _REPORT_SIZE)).decode()
+            return _memory(room, _call(f"{self.prefix}_report", self.at, room, _REPORT_SIZE)).decode()
 
 
 class Report(gdb.Command):
     """Print why a judge refused a line: capcheck-report JUDGE
 
-JUDGE is a capcheck_judge of the program, or a pointer to one. The program's own library writes what `capdiag why`
-prints of the lines so far, so the program has to be linked with libcapcheck_judge and run. It calls no malloc."""
+JUDGE is a capcheck_judge or a capcheck_run_judge of the program, or a pointer to one. The program's own library writes what
+`capdiag why` or `capdiag run --why` prints of the lines so far, so the program has to be linked with libcapcheck_judge and run. It calls no malloc."""
 
     def __init__(self):
         super().__init__("capcheck-report", gdb.COMMAND_DATA, gdb.COMPLETE_EXPRESSION)
@@ -271,6 +297,53 @@ After a faulty line, the first two are as before that line."""
             print(_in_one_line(judge.capability(asked[2], number), True))
 
 
+def _run_judge(text):
+    judge = Asked(gdb.parse_and_eval(text))
+    if judge.prefix != "capcheck_run_judge":
+        raise gdb.GdbError("a judge of run logs is a capcheck_run_judge")
+    return judge
+
+
+class Owner(gdb.Command):
+    """Print the object that owns a place: capcheck-owner JUDGE PLACE
+
+JUDGE is a capcheck_run_judge of the program, or a pointer to one. PLACE is a register such as c3, a special register such as
+scr0, or @ and an address. It prints the object as `capdiag run --owners` does, with the first place that holds it. After a
+faulty line, all is as before that line."""
+
+    def __init__(self):
+        super().__init__("capcheck-owner", gdb.COMMAND_DATA, gdb.COMPLETE_EXPRESSION)
+
+    def invoke(self, text, from_tty):
+        asked = re.fullmatch(r"(.+?)\s+(?:(c|scr)([0-9]+)|@(.+))", text.strip())
+        if not asked:
+            raise gdb.GdbError("capcheck-owner JUDGE c3 | scr0 | @ADDRESS")
+        with _plain_errors():
+            judge = _run_judge(asked[1])
+            if asked[4]:
+                address = int(gdb.parse_and_eval(asked[4]).cast(gdb.lookup_type("unsigned long")))
+                place = Place(address, _GRANULE)
+            else:
+                place = Place(int(asked[3]), _REGISTER if asked[2] == "c" else _SPECIAL)
+            number = judge.owner(place)
+            print(judge.object(number) if number else "no object")
+
+
+class Objects(gdb.Command):
+    """Print the objects that are live or held: capcheck-objects JUDGE
+
+JUDGE is a capcheck_run_judge of the program, or a pointer to one. Each is printed as by capcheck-owner."""
+
+    def __init__(self):
+        super().__init__("capcheck-objects", gdb.COMMAND_DATA, gdb.COMPLETE_EXPRESSION)
+
+    def invoke(self, text, from_tty):
+        with _plain_errors():
+            judge, number = _run_judge(text), 0
+            while number < 2**32 - 1 and (number := judge.number("next_object", number + 1)):
+                print(judge.object(number))
+
+
 class Number(gdb.Function):
     def __init__(self, name, doc):
         self.__doc__ = f"$cap_{name}(EXPRESSION): {doc}"
@@ -298,6 +371,23 @@ def _answer_text(line, steps, roots, state, refusal):
     return f"no {line} {refusal} {Refusal(refusal).title}" if state == State.NO else State(state).title
 
 
+def _run_answer_text(line, steps, roots, objects, state, refusal):
+    if state == State.YES:
+        return str(RunVerdict(True, steps, roots, objects))
+    return str(RunVerdict(False, line=line, refusal=Refusal(refusal))) if state == State.NO else State(state).title
+
+
+def _run_answer(value):
+    return _run_answer_text(*(int(value[name]) for name in ("line", "steps", "roots", "objects", "state", "refusal")))
+
+
+def _object(value):
+    if int(value["state"]) == _NO_SUCH_OBJECT:
+        return "no object"
+    live = "live" if int(value["state"]) == _LIVE else "freed"
+    return f"{int(value['base']):#x}-{_whole(value['top']):#x} {live}, held by {int(value['held'])}, line {int(value['line'])}"
+
+
 def _answer(value):
     return _answer_text(*(int(value[name]) for name in ("line", "steps", "roots", "state", "refusal")))
 
@@ -319,8 +409,7 @@ def _expected(value):
 
 
 def _place_text(value):
-    number, kind = int(value["number"]), int(value["kind"])
-    return f"c{number}" if kind == _REGISTER else f"@{number:016x}" if kind == _GRANULE else "no place"
+    return _named(Place(int(value["number"]), int(value["kind"]))) or "no place"
 
 
 def _rounded(value):
@@ -357,6 +446,9 @@ _PRINTED = {
     "capcheck_access": lambda value: _refused(value, lambda access: f"{int(access['address']):#x}"),
     "capcheck_answer": _answer,
     "capcheck_judge": _judge,
+    "capcheck_run_answer": _run_answer,
+    "capcheck_run_judge": _judge,
+    "capcheck_object": _object,
     "capcheck_expected": _expected,
     "capcheck_place": _place_text,
     "capcheck_rounded": _rounded,
@@ -389,6 +481,8 @@ class Printers(gdb.printing.PrettyPrinter):
 Explain()
 Report()
 AskJudge()
+Owner()
+Objects()
 for _name, _doc in (("base", "its least address"), ("top", "the first address after its bounds"),
                     ("length", "the number of bytes in its bounds"), ("address", "where it points"),
                     ("permissions", "its permissions in the architectural view"), ("otype", "its object type"),

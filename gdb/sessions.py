@@ -52,12 +52,13 @@ def agrees(wanted, given):
 
 
 def values(prefix, work):
-    """The session over values.c, linked as docs/GDB.md says."""
+    """The session over values.c and the judged revoker, linked as docs/GDB.md says."""
     flags = f'$(PKG_CONFIG_PATH="{prefix}/lib/pkgconfig" pkg-config --cflags --libs capcheck_judge)'
     if not shutil.which("pkg-config"):
         flags = f"-I{prefix}/include -L{prefix}/lib -Wl,-rpath,{prefix}/lib -lcapcheck_judge -lcapcheck_c"
-    command = f'{os.environ.get("CC", "cc")} -g -O0 -pthread "{HERE}/values.c" {flags} -o "{work}/values"'
-    subprocess.run(command, shell=True, check=True)
+    for source, made in ((f"{HERE}/values.c", "values"), (f"{HERE}/../examples/revoker/revoker.c", "revoker")):
+        command = f'{os.environ.get("CC", "cc")} -g -O0 -pthread -DJUDGED "{source}" {flags} -o "{work}/{made}"'
+        subprocess.run(command, shell=True, check=True)
     with open(f"{HERE}/values.txt", encoding="utf-8") as file:
         wanted = [line for line in file.read().split("\n") if line]
     sourced = f"{PROMPT}source {prefix}/share/capcheck/capcheck_gdb.py"

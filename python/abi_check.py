@@ -17,7 +17,7 @@ from pathlib import Path
 PREFIX = Path(sys.argv[1])
 os.environ["CAPCHECK_LIB"] = str(PREFIX / "lib")
 sys.path.insert(0, str(Path(__file__).resolve().parent))
-from capcheck import _abi, judges, lines, words  # noqa: E402
+from capcheck import _abi, judges, lines, runs, words  # noqa: E402
 
 # The headers, and the libraries in which the package calls what they declare.
 HEADERS = {"capcheck": [_abi.words], "capcheck_answer": [], "capcheck_judge": [_abi.judges, _abi.whole_logs],
@@ -29,18 +29,13 @@ LEFT_OUT = {
     "capcheck_judge_memory": "the judge uses malloc", "capcheck_judge_bytes_in": "capcheck_judge_bytes",
     "capcheck_judge_report": "capcheck_judge_end_report", "capcheck_judge_text": "capcheck_judge_end_report",
     "CAPCHECK_VERSION": "capcheck_version", "CAPCHECK_NOT_REFUSED": "no Refusal", "CAPCHECK_KIND_NONE": "no Kind",
-    "CAPCHECK_EXPECTS_NOTHING": "None", "CAPCHECK_NO_PLACE": "None", "CAPCHECK_OTYPE_GREATEST": "capcheck_seal",
-    # The package declares the calls for run logs, and doesn't use them.
-    **{f"CAPCHECK_{it}": "run logs" for it in
-       ("SPECIAL", "NO_SUCH_OBJECT", "LIVE", "FREED", "OVERLAPS", "UNSOUND_RESULT", "BEYOND_SOURCE", "SEAL_CHANGED",
-        "NOT_INVOKABLE", "NO_CAPABILITY", "HAS_OWNER", "STILL_HELD", "NO_OWNER", "ALREADY_FREED", "OWNER_FREED", "NO_OBJECT",
-        "NOT_OWNED", "KIND_DERIVE", "KIND_EXCHANGE", "KIND_INVOKE", "KIND_DROP", "KIND_FILL", "KIND_OBJECT", "KIND_FREE",
-        "KIND_RUN_VERSION", "KIND_ROOT_SPECIAL")},
+    "CAPCHECK_EXPECTS_NOTHING": "None", "CAPCHECK_OTYPE_GREATEST": "capcheck_seal",
+    "capcheck_run_judge_report": "capcheck_run_judge_end_report",
 }
 NUMBERS = {"uint64_t": c.c_uint64, "int64_t": c.c_int64, "uint32_t": c.c_uint32, "uint16_t": c.c_uint16, "size_t": c.c_size_t,
            "int16_t": c.c_int16, "uint8_t": c.c_uint8, "bool": c.c_bool, "void": None}
 ENUMS = (words.Refusal, words.Permissions, judges.State)
-MODULES = (words, lines, judges)
+MODULES = (words, lines, judges, runs)
 
 
 class Header:

@@ -5,7 +5,7 @@
 #   sh python/check.sh [PREFIX]
 #
 # PREFIX is the folder that install.sh installed below; without it, the script installs into a folder of its own. The words of
-# the tests are WORDS, or 10000. The tests of words run in each Python of PYTHONS that is here, too.
+# the tests are WORDS, or 10000, and the run logs RUN_LOGS, or 200. The tests of words run in each Python of PYTHONS that is here, too.
 set -eu
 cd "$(dirname "$0")/.."
 work=$(mktemp -d)
@@ -34,6 +34,10 @@ for other in ${PYTHONS:-python3.10 python3.12 python3.13}; do
     "$other" -c '' 2> "$work/said" || { left_out "the tests of words in $other"; continue; }
     PYTHONPATH="$prefix/share/capcheck" "$other" -m unittest discover -q -p test_words.py python/tests
 done
+
+# Run logs drawn at random get the same verdict from the program, from C in each way, and from the package.
+${CC:-cc} -std=c99 -O2 "-I$prefix/include" examples/emulator/runs.c "$prefix/lib/libcapcheck_judge.a" "$prefix/lib/libcapcheck_c.a" -o "$work/runs"
+PYTHONPATH="$prefix/share/capcheck" python3 conformance/run_ways.py "$CAPDIAG" "$work/runs" "${RUN_LOGS:-200}"
 
 if python3 -m pip --version > "$work/said" 2>&1; then
     CAPCHECK_LIB="$prefix/lib" python3 -m pip install -q --no-index --no-deps --disable-pip-version-check --root-user-action=ignore --target "$work/site" ./python

@@ -25,7 +25,11 @@ LEFT_OUT = {
     **{f"capcheck_line_{it}": "run logs" for it in
        ("run_version", "root_special", "derive", "exchange", "invoke", "drop", "fill", "object", "free")},
     **{f"capcheck_run_judge{it}": "run logs" for it in
-       ("", "_bytes", "_open", "_lines", "_answer", "_end", "_held", "_owner", "_object", "_close")},
+       ("", "_bytes", "_open", "_line", "_lines", "_answer", "_end", "_held", "_owner", "_object", "_next_object", "_holder",
+        "_report", "_end_report", "_close")},
+    **{f"capcheck_run_step_{it}": "run logs" for it in
+       ("move", "cleartag", "setbounds", "setboundsexact", "setaddr", "andperm", "seal", "unseal", "lc", "sc", "load", "store",
+        "derive", "exchange", "invoke", "drop", "fill", "object", "free")},
     "capcheck_asks": "run logs", "capcheck_run_answer": "run logs", "capcheck_object": "run logs",
 }
 NUMBERS = {"uint64_t": "u64", "int64_t": "i64", "uint32_t": "u32", "uint16_t": "u16", "size_t": "usize", "int16_t": "i16",

@@ -146,11 +146,19 @@ LINES: dict[str, tuple] = {
     for name, numbers in _NUMBERS.items()}
 LINES["root"] += (Wide,)
 LINES["root_at"] += (Wide,)
-# Those of the lines that only run logs have.
-RUN_LINES: dict[str, tuple] = {
-    "run_version": (), "root_special": (u64, Wide), "derive": (Place, Place, Cap), "exchange": (u64, u64, u64, Cap, Cap),
-    "invoke": (u64, u64, Wide, Wide), "drop": (Place,), "fill": (u64, Wide), "object": (u64, u64), "free": (u64, u64),
+# The same of the lines that only run logs have, in which capabilities, words and places come after the numbers or are all.
+_SPECIAL, _OBJECT = ("special", u64, 0, 32), ("object", u64, 0, 2**32)
+_RUN_NUMBERS: dict[str, tuple] = {
+    "run_version": (), "root_special": (_SPECIAL,), "derive": (), "exchange": (_TARGET, _SOURCE, _SPECIAL),
+    "invoke": (("code", u64, 0, 32), ("datum", u64, 0, 32)), "drop": (), "fill": (("address", u64, 0, 2**64),),
+    "object": (_TARGET, _OBJECT), "free": (("target", u64, 0, 32), _OBJECT),
 }
+RANGES |= {name: [(it, least, limit) for it, _, least, limit in numbers] for name, numbers in _RUN_NUMBERS.items()}
+_REST = {"root_special": (Wide,), "derive": (Place, Place, Cap), "exchange": (Cap, Cap), "invoke": (Wide, Wide), "drop": (Place,),
+         "fill": (Wide,)}
+RUN_LINES: dict[str, tuple] = {name: (*(kind for _, kind, _, _ in numbers), *_REST.get(name, ()))
+                               for name, numbers in _RUN_NUMBERS.items()}
+RUN_STEPS = {name: types for name, types in RUN_LINES.items() if name not in ("run_version", "root_special")}
 STEPS = {name: types for name, types in LINES.items() if name not in ("version", "mode", "root", "root_at", "end")}
 # The result and the arguments of each call, by its name without `capcheck_`, `capcheck_line_` or `capcheck_judge_`.
 WORDS: dict[str, tuple] = {
@@ -181,9 +189,10 @@ JUDGE: dict[str, tuple] = {
 }
 _run_judge = c.POINTER(RunJudge)
 RUN_JUDGE: dict[str, tuple] = {
-    "open": (u8, _run_judge, Asks), "lines": (Taken, _run_judge, pointer, size), "answer": (RunAnswer, _run_judge),
-    "end": (RunAnswer, _run_judge), "held": (OptionalCap, _run_judge, Place), "owner": (u32, _run_judge, Place),
-    "object": (Object, _run_judge, u32), "close": (None, _run_judge),
+    "open": (u8, _run_judge, Asks), "line": (u8, _run_judge, text, size), "lines": (Taken, _run_judge, pointer, size),
+    "answer": (RunAnswer, _run_judge), "end": (RunAnswer, _run_judge), "held": (OptionalCap, _run_judge, Place),
+    "owner": (u32, _run_judge, Place), "object": (Object, _run_judge, u32), "next_object": (u32, _run_judge, u32),
+    "holder": (Place, _run_judge, u32), "end_report": (u64, _run_judge, text, size), "close": (None, _run_judge),
 }
 
 
@@ -230,8 +239,12 @@ def check(name: str, values: tuple) -> None:
 
 def refused(name: str, values: tuple) -> ValueError:
     """What is wrong with numbers that are in the ranges above, and that the call for a line or a step refuses."""
-    if name == "root_at":
-        return ValueError(f"root_at: address {values[0]:#x} isn't a multiple of 16")
+    if name in ("root_at", "fill"):
+        return ValueError(f"{name}: address {values[0]:#x} isn't a multiple of 16")
+    if name in ("derive", "drop"):
+        return ValueError(f"{name}: a place is out of range")
+    if name == "free":
+        return ValueError(f"free: it names a register, 1 to 31, or an object by its number with the register 0: {values}")
     if name in ("load", "store") and values[2] not in (1, 2, 4, 8):
         return ValueError(f"{name}: size {values[2]} isn't 1, 2, 4 or 8")
     if name in ("load", "store"):
@@ -244,6 +257,7 @@ _declare(words, "capcheck_line_", {name: (size, text, *numbers) for name, number
 _declare(judges, "capcheck_judge_", JUDGE)
 _declare(judges, "capcheck_judge_", {name: (u8, _judge, *numbers) for name, numbers in STEPS.items()})
 _declare(judges, "capcheck_run_judge_", RUN_JUDGE)
+_declare(judges, "capcheck_run_step_", {name: (u8, _run_judge, *numbers) for name, numbers in (STEPS | RUN_STEPS).items()})
 _declare(whole_logs, "capcheck_judge_", {"bytes": (Answer, pointer, size)})
 _declare(whole_logs, "capcheck_run_judge_", {"bytes": (RunAnswer, pointer, size, Asks)})
 _declare(freestanding, "capcheck_judge_", {"why": (Why, flag, text, size, c.POINTER(Slot), size, text, size)})

@@ -16,7 +16,7 @@ _MANY = 1024
 
 
 class Kind(IntEnum):
-    """The kinds of lines, named like the functions that write them."""
+    """The kinds of lines, named like the functions that write them; from DERIVE on, those of `runs`."""
     VERSION = 1
     MODE = 2
     ROOT = 3
@@ -34,6 +34,15 @@ class Kind(IntEnum):
     LOAD = 15
     STORE = 16
     END = 17
+    DERIVE = 18
+    EXCHANGE = 19
+    INVOKE = 20
+    DROP = 21
+    FILL = 22
+    OBJECT = 23
+    FREE = 24
+    RUN_VERSION = 25
+    ROOT_SPECIAL = 26
 
     @property
     def word(self) -> str:

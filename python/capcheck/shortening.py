@@ -7,7 +7,7 @@ from collections.abc import Callable, Iterator
 from contextlib import suppress
 from typing import Any
 
-from . import lines
+from . import lines, runs
 from .judges import Judge, _bytes, judge_bytes, why
 from .lines import Kind
 from .words import NULL, Capability
@@ -20,12 +20,15 @@ _ROWS = frozenset("line source authority holds root length gives recorded reques
 def shorten(log: Any, seconds: float = 5, replayable: bool = False) -> bytes:
     """A short log with the fault of a rejected log: the same refusal, the same refused line and the same diagnosis, except
     for origins and counts. No line of it can be left out, apart from the header, unless `seconds` didn't suffice. The log is
-    bytes, another buffer, or a binary file. ValueError if it is accepted.
+    bytes, another buffer, or a binary file. ValueError if it is accepted. A run log is judged as `capdiag run` judges it, and
+    its lines are the log's own.
 
-    Its lines are the log's own if no fewer lines do; otherwise others give the refused line its operands. With `replayable`
+    The lines of other logs are the log's own if no fewer lines do; otherwise others give the refused line its operands. With `replayable`
     they are the log's own in any case. Replayed on the machine that the log is from, a short log needn't show the same bug:
     the machine may need steps that the judge doesn't."""
     data, until = _bytes(log), time.monotonic() + seconds
+    if data.startswith(b"run 1\n"):
+        return _shorten_run(data, until)
     if verdict := judge_bytes(data):
         raise ValueError(f"the log is accepted: {verdict}")
     texts, number = io.BytesIO(data).readlines(), verdict.line or 1
@@ -41,6 +44,97 @@ def shorten(log: Any, seconds: float = 5, replayable: bool = False) -> bytes:
     if made or replayable:
         own = _fewest(next(filter(has_fault, ([], _needed(before, faulty), before))), has_fault, until)
     return b"".join([*header, *(own if replayable or len(own) <= len(made) else made), faulty])
+
+
+def _shorten_run(data: bytes, until: float) -> bytes:
+    """A short run log with the fault of a long one."""
+    if verdict := runs.judge_bytes(data):
+        raise ValueError(f"the log is accepted: {verdict}")
+    texts, number = io.BytesIO(data).readlines(), verdict.line or 1
+    header = texts[:2][:number - 1]
+    before, faulty = texts[len(header):number - 1], b"".join(texts[number - 1:number])
+    fault = _run_fault(b"".join(texts[:number]))
+
+    def has_fault(middle: list[bytes]) -> bool:
+        return _run_fault(b"".join([*header, *middle, faulty])) == fault
+
+    first = next(filter(has_fault, ([], _needed_of_run(header, before, faulty), before)))
+    return b"".join([*header, *_fewest(first, has_fault, until), faulty])
+
+
+def _needed_of_run(header: list[bytes], before: list[bytes], faulty: bytes) -> list[bytes]:
+    """The lines on which the faulty line depends: those that wrote its places last, those of the objects that its diagnosis
+    names, and what these depend on."""
+    writers: dict[str, int] = {}
+    reads: list[set[int]] = []
+    addresses: dict[str, int] = {}
+    with suppress(ValueError):
+        for number, line in enumerate(runs.read(b"".join([*before, faulty]))):
+            sources, targets = _places(line, addresses)
+            reads.append({writers[place] for place in sources if place in writers})
+            writers |= dict.fromkeys(targets, number)
+    if len(reads) <= len(before):  # The faulty line is none that can be read.
+        return []
+    found, left = set[int](), [len(before)]
+    for row in runs.why(b"".join([*header, *before, faulty])).splitlines():
+        name, *words = row.split()
+        if name in ("object", "freed"):
+            left.append(int(words[name == "object"]) - len(header) - 1)
+        elif name == "holder" and words[0] in writers:
+            left.append(writers[words[0]])
+    left, found = [it for it in left if it <= len(before)], set(left[1:])
+    while left:
+        left += (new := reads[left.pop()] - found)
+        found |= new
+    return [before[number] for number in sorted(found) if number < len(before)]
+
+
+def _places(line: runs.RunLine, addresses: dict[str, int]) -> tuple[list[str], list[str]]:
+    """The places that a line reads, and those that it writes. The addresses of what places hold are kept."""
+    kind, it = line.kind, line.operands
+    if kind in (Kind.ROOT, Kind.ROOT_AT, Kind.ROOT_SPECIAL):
+        sources, written = [], {it[0]: it[1]}
+    elif kind == Kind.DERIVE:
+        sources, written = [it[1]], {it[0]: it[2]}
+    elif kind == Kind.EXCHANGE:
+        sources, written = [f"c{it[1]}", f"scr{it[2]}"], {f"c{it[0]}": it[3], f"scr{it[2]}": it[4]}
+    elif kind == Kind.INVOKE:
+        sources, written = [f"c{it[0]}", f"c{it[1]}"], {"scr0": it[2], "c31": it[3]}
+    elif kind in (Kind.DROP, Kind.OBJECT, Kind.FREE):
+        place = it[0] if kind == Kind.DROP else f"c{it[0]}"
+        return [place], [place]
+    elif kind == Kind.FILL:
+        sources, written = [], {f"@{it[0]:016x}": it[1]}
+    elif kind in (Kind.LC, Kind.SC, Kind.LOAD, Kind.STORE):
+        authority, offset = (it[0], it[1]) if kind in (Kind.LOAD, Kind.STORE) else (it[1], it[2])
+        granule = f"@{(addresses.get(f'c{authority}', 0) + offset) % 2**64 & ~15:016x}"
+        if kind == Kind.LC:
+            addresses[f"c{it[0]}"] = it[3].address
+        sources = [f"c{authority}", f"c{it[0]}" if kind == Kind.SC else granule]
+        return sources, [f"c{it[0]}"] if kind == Kind.LC else [granule] if kind in (Kind.SC, Kind.STORE) else []
+    elif kind in (Kind.SEAL, Kind.UNSEAL):
+        sources, written = [f"c{it[1]}", f"c{it[2]}"], {f"c{it[0]}": it[3]}
+    elif Kind.MOVE <= kind <= Kind.ANDPERM:
+        sources, written = [f"c{it[1]}"], {f"c{it[0]}": it[-1]}
+    else:
+        return [], []
+    addresses |= {place: cap.address for place, cap in written.items()}
+    return sources, list(written)
+
+
+def _run_fault(log: bytes) -> list[str]:
+    """The refusal, the faulty line and its diagnosis, without counts, and the numbers of lines and objects."""
+    verdict, *rows = runs.why(log).splitlines()
+    told = [verdict.split()[-1]]
+    for row in rows:
+        name, *words = row.split(" ")
+        if name == "object":
+            told.append(" ".join([name, *words[2:5]]))
+        elif name in ("freed", "gone") or words[:1] == ["owner"]:
+            told.append(" ".join([name, *words[:1]]) if words[:1] == ["owner"] else name)
+        elif name not in ("roots", "steps", "granules", "objects"):
+            told.append(row)
+    return told
 
 
 def _needed(before: list[bytes], faulty: bytes) -> list[bytes]:

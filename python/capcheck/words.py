@@ -92,6 +92,19 @@ class Refusal(IntEnum):
     WRONG_RESULT = 23
     LIMIT_PASSED = 24
     BAD_MODE = 25
+    OVERLAPS = 28
+    UNSOUND_RESULT = 30
+    BEYOND_SOURCE = 31
+    SEAL_CHANGED = 32
+    NOT_INVOKABLE = 33
+    NO_CAPABILITY = 34
+    HAS_OWNER = 35
+    STILL_HELD = 36
+    NO_OWNER = 37
+    ALREADY_FREED = 38
+    OWNER_FREED = 39
+    NO_OBJECT = 40
+    NOT_OWNED = 41
     BAD_ARGUMENT = 255
 
     @property

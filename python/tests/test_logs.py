@@ -11,7 +11,7 @@ import unittest
 from pathlib import Path
 
 import capcheck
-from capcheck import NULL, Capability, Judge, Kind, Refusal, lines
+from capcheck import NULL, Capability, Judge, Kind, Refusal, RunJudge, lines, runs
 
 DIAGNOSIS = os.environ["CAPDIAG"]
 TOP = Path(__file__).resolve().parents[2]
@@ -20,6 +20,17 @@ ROOT = "root c1 ffff1ffffc0180040000000000000000\n"
 VERDICTS = {TOP / "conformance" / row[0]: row[1] for row in (line.rstrip("\n").split("\t") for line in open(
     TOP / "conformance/INDEX.tsv", encoding="utf-8")) if row[0].startswith(("accepted/", "rejected/"))}
 EXAMPLES = sorted((TOP / "examples").glob("*.log"))
+
+
+def run_row(row):
+    """A run log of the corpus: its path, what is asked, whether owners are printed, and what is."""
+    name, options, printed = row.rstrip("\n").split("\t")
+    words = options.split()
+    freed = words[words.index("--freed") + 1] if "--freed" in words else "held"
+    return TOP / "conformance/runs" / name, freed, "--owned" in words, "--owners" in words, printed.split(" / ")
+
+
+RUNS = [run_row(row) for row in list(open(TOP / "conformance/RUNS.tsv", encoding="utf-8"))[1:]]
 
 
 def operands(line):
@@ -245,6 +256,84 @@ class Shortening(unittest.TestCase):
         log = (TOP / "examples/escaped_bound.log").read_bytes()
         self.assertEqual(capcheck.shorten(log), b"capcheck 1\nroot c3 ffff1ffff80810000000000000001000\n"
                          b"setbounds c4 c3 0000000000000021 = 1 ffff1ffff80850000000000000001000\n")
+
+
+class RunLogs(unittest.TestCase):
+    def test_corpus(self):
+        self.assertGreater(len(RUNS), 100)
+        for path, freed, owned, owners, (verdict, *owned_places) in RUNS:
+            log = path.read_bytes()
+            self.assertEqual((str(runs.judge_bytes(log, freed, owned)), str(runs.judge(path, freed, owned))), (verdict, verdict), path)
+            with RunJudge(freed, owned) as judge:
+                judge.feed(log)
+                self.assertEqual(str(judge.end()), verdict, path)
+                if owners and judge.end():
+                    told = [str(it) for it in judge.objects()]
+                    places = [f"c{it}" for it in range(1, 32)] + [f"scr{it}" for it in range(32)]
+                    told += [f"owner {it} {judge.owner(it)}" for it in places if judge.owner(it)]
+                    self.assertEqual(told, [it for it in owned_places if " @" not in it], path)
+                    for it in owned_places:
+                        if it.startswith("owner "):
+                            self.assertEqual(str(judge.owner(it.split()[1])), it.split()[2], path)
+
+    def test_lines(self):
+        for path, freed, owned, _, (verdict, *_) in RUNS:
+            if verdict.startswith("yes"):
+                log, judge = path.read_bytes(), RunJudge(freed, owned)
+                read = list(runs.read(log))
+                self.assertEqual(b"".join(map(bytes, read)), log)
+                for line in read:
+                    header = line.kind in (Kind.RUN_VERSION, Kind.MODE, Kind.ROOT, Kind.ROOT_AT, Kind.ROOT_SPECIAL, Kind.END)
+                    self.assertTrue(judge.feed(bytes(line)) if header else judge.step(line), (path, line))
+                self.assertEqual(str(judge.end()), verdict, path)
+        self.assertRaises(ValueError, list, runs.read(b"run 2\n"))
+
+    def test_diagnoses(self):
+        for path, freed, owned, _, (verdict, *_) in RUNS:
+            log = path.read_bytes()
+            if log.endswith(b"\n"):
+                words = ["--freed", freed, *(["--owned"] if owned else []), "--why"]
+                told = subprocess.run([DIAGNOSIS, "run", *words, path], capture_output=True).stdout.decode()
+                self.assertEqual(runs.why(log, freed, owned), told, path)
+
+    def test_shortening(self):
+        for path, freed, owned, _, (verdict, *_) in RUNS:
+            log = path.read_bytes()
+            if freed == "held" and not owned and verdict.startswith("no") and log.startswith(b"run 1\n"):
+                short = capcheck.shorten(log)
+                rest = iter(log.splitlines(True))
+                self.assertTrue(all(line in rest for line in short.splitlines(True)), path)
+                self.assertEqual(str(runs.judge_bytes(short)).split()[2:], verdict.split()[2:], path)
+
+    def test_a_long_log(self):
+        made = subprocess.run(["python3", TOP / "bench/run_log.py", "objects", "300", "300"], capture_output=True, check=True).stdout
+        texts = made.splitlines(True)
+        object_line = next(line for line in texts if line.startswith(b"object "))
+        log = b"".join([*texts[:-1], object_line])
+        self.assertEqual(runs.judge_bytes(log).refusal, Refusal.HAS_OWNER)
+        self.assertLessEqual(len(capcheck.shorten(log).splitlines()), 7)
+
+    def test_owners(self):
+        root, part = Capability.root(), Capability.root(0x1000, 64)
+        with RunJudge(raises=True) as judge:
+            log = runs.version() + lines.mode("strict") + runs.root("c1", root) + runs.root("scr0", root)
+            log += runs.derive("c2", "c1", part) + runs.hand_out(2) + runs.derive("scr3", "c2", part) + runs.free(2)
+            self.assertTrue(judge.feed(log) and judge.step(capcheck.RunLine(Kind.DROP, ("c2",))))
+            self.assertEqual([str(it) for it in judge.objects()], ["object 1 6 0000000000001000 00000000000001040 freed 1"])
+            self.assertEqual((judge.owner("scr3"), judge.owner("c2"), judge.holder(1), judge.holder(2)), (1, None, "scr3", None))
+            self.assertEqual((judge.held("scr3"), judge.object(2), judge.held("c1")), (part, None, root))
+            judge.feed(runs.derive("c4", "c1", part))
+            with self.assertRaises(capcheck.Rejected) as raised:
+                judge.feed(runs.hand_out(4))
+            self.assertEqual(str(raised.exception.verdict), "no 11 36 StillHeld")
+            self.assertIn("holder scr3 1 ", judge.diagnosis())
+            for place in ("c32", "scr32", "@10", "d1"):
+                self.assertRaises(ValueError, judge.owner, place)
+        for call in (lambda: judge.end(), lambda: judge.owner("c1"), lambda: judge.object(1), lambda: list(judge.objects())):
+            self.assertRaisesRegex(ValueError, "the judge is closed", call)
+        for wrong in (lambda: runs.fill(8, root), lambda: runs.derive("c0", "c1", root), lambda: runs.drop("c0"), lambda: runs.free(1, 1),
+                      lambda: runs.hand_out(0), lambda: runs.exchange(0, 1, 0, root, root), lambda: RunJudge("never")):
+            self.assertRaises(ValueError, wrong)
 
 
 def fault(log):
