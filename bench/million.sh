@@ -1,6 +1,6 @@
 #!/bin/sh
 # Writes a log of version 1 with a million steps, or STEPS:
-# sh bench/million.sh moves|memory|mixed|varied|up|down|random|thirty|blocks|turns|shuffled|loads [STEPS [PLACES APART]]
+# sh bench/million.sh moves|memory|mixed|varied|up|down|random|thirty|blocks|turns|shuffled|loads|far [STEPS [PLACES APART]]
 # It can be judged from a pipe: sh bench/million.sh moves 10000000 | crates/capcheck/out/capcheck judge
 #
 # moves   copies c1 to each other register in turn
@@ -19,7 +19,8 @@
 #                    2 where there are more than 65,536
 # shuffled           the same, with the places in an order drawn at random
 # loads              the same as turns, but goes to places at random after the first round
-kind=${1:?moves, memory, mixed, varied, up, down, random, thirty, blocks, turns, shuffled or loads}
+# far                the same as turns, with the places spread over 2^46 bytes by a multiplicative hash
+kind=${1:?moves, memory, mixed, varied, up, down, random, thirty, blocks, turns, shuffled, loads or far}
 exec awk -v kind="$kind" -v steps="${2:-1000000}" -v places="${3:-1000}" -v apart="${4:-4096}" '
 function memory(i,   offset) {
     offset = (int(i / 4) * 16) % 4096 - 2048
@@ -66,7 +67,7 @@ function varied(i,   object, at, next_at, bounds, here, pointer, short) {
     if (i == 14) return "setaddr c30 " here " " next_at " = 1 " bounds next_at
     return "cleartag c29 c30 = 0 " bounds next_at
 }
-function far(i,   place, address) {
+function distant(i,   place, address) {
     place = int(i / 2) % 65536
     if (kind == "down") place = 65535 - place
     if (kind == "random") place = place * 40503 % 65536
@@ -78,11 +79,15 @@ function turns(i,   round, address) {
     round = int(i / 2 / places)
     if (i % 2 == 1) return round == 0 ? "sc c1 c2 0" : "lc c3 c2 0 = 1 " root
     if (kind == "shuffled") place = order[int(i / 2) % places]
-    else if (kind == "turns" || round == 0) place = i / 2 % places
+    else if (kind == "turns" || kind == "far" || round == 0) place = i / 2 % places
     else place = (place * 20077 + 12345) % places
-    address = apart * place
+    address = kind == "far" ? 16 * spread(place) : apart * place
     address = sprintf("%08x%08x", int(address / 4294967296), address % 4294967296)
     return "setaddr c2 c1 " address " = 1 ffff1ffffc018004" address
+}
+function spread(place,   half) {
+    half = 2097152
+    return (place * 1296109 % half * half + place * 1014085) % (half * half)
 }
 function shuffle(i,   seed, other, place) {
     for (i = 0; i < places; i++) order[i] = i
@@ -121,8 +126,8 @@ BEGIN {
         else if (kind == "varied") print varied(i)
         else if (kind == "thirty") print thirty(i)
         else if (kind == "blocks") print blocks(i)
-        else if (kind ~ /^(turns|shuffled|loads)$/) print turns(i)
-        else print far(i)
+        else if (kind ~ /^(turns|shuffled|loads|far)$/) print turns(i)
+        else print distant(i)
     }
     print "end " steps
 }'

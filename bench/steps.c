@@ -4,7 +4,7 @@
  *     steps KIND COUNT step|line
  *
  * bench/steps.sh counts by it how many instructions that takes. Each step is one that the rules allow; it complains where the
- * judge finds a fault.
+ * judge finds a fault. Compiled with -DRUN the judge is one of run logs.
  */
 #include <capcheck_judge.h>
 
@@ -17,7 +17,19 @@
 #define AT(address) CAP(1, ALL, address)
 #define CAP(tag, high, low) ((capcheck_cap){{(high), (low)}, (tag)})
 
+#ifdef RUN
+#define ASK(question) capcheck_run_judge_##question
+#define STEP(kind) capcheck_run_step_##kind
+#define OPEN() capcheck_run_judge_open(&judge, (capcheck_asks)CAPCHECK_ASKS_HELD)
+#define FIRST "run 1\nmode strict\n"
+static capcheck_run_judge judge = CAPCHECK_NO_RUN_JUDGE_YET;
+#else
+#define ASK(question) capcheck_judge_##question
+#define STEP(kind) capcheck_judge_##kind
+#define OPEN() capcheck_judge_open(&judge)
+#define FIRST "capcheck 1\n"
 static capcheck_judge judge = CAPCHECK_NO_JUDGE_YET;
+#endif
 
 static void stop(const char *why) {
     fprintf(stderr, "steps: %s\n", why);
@@ -31,25 +43,25 @@ static void must_go_on(uint8_t state) {
 
 /* The lines before the first step, and the steps that give each kind what it works on. */
 static void begin(void) {
-    static const char first[] = "capcheck 1\n", root[] = "root c1 ffff1ffffc0180040000000000000000\n";
-    must_go_on(capcheck_judge_open(&judge));
-    must_go_on(capcheck_judge_line(&judge, first, sizeof first - 1));
-    must_go_on(capcheck_judge_line(&judge, root, sizeof root - 1));
-    must_go_on(capcheck_judge_setaddr(&judge, 2, 1, 0x1000, AT(0x1000)));
-    must_go_on(capcheck_judge_setaddr(&judge, 3, 1, 5, AT(5)));
-    must_go_on(capcheck_judge_seal(&judge, 4, 2, 3, CAP(1, 0xffff00002c018004u, 0x1000)));
-    must_go_on(capcheck_judge_sc(&judge, 1, 2, 0));
-    must_go_on(capcheck_judge_store(&judge, 2, 16, 8, 0x0123456789abcdefu));
+    static const char first[] = FIRST "root c1 ffff1ffffc0180040000000000000000\n";
+    must_go_on(OPEN());
+    if (ASK(lines)(&judge, first, sizeof first - 1).bytes != sizeof first - 1)
+        stop("the first lines are refused");
+    must_go_on(STEP(setaddr)(&judge, 2, 1, 0x1000, AT(0x1000)));
+    must_go_on(STEP(setaddr)(&judge, 3, 1, 5, AT(5)));
+    must_go_on(STEP(seal)(&judge, 4, 2, 3, CAP(1, 0xffff00002c018004u, 0x1000)));
+    must_go_on(STEP(sc)(&judge, 1, 2, 0));
+    must_go_on(STEP(store)(&judge, 2, 16, 8, 0x0123456789abcdefu));
 }
 
 /* A kind of step with its operands, again and again. */
 #define AGAIN(kind, ...)                                                                                         \
     if (by_lines)                                                                                                \
         for (unsigned long i = 0; i < count; i++)                                                                \
-            must_go_on(capcheck_judge_line(&judge, line, capcheck_line_##kind(line, __VA_ARGS__)));               \
+            must_go_on(ASK(line)(&judge, line, capcheck_line_##kind(line, __VA_ARGS__)));                         \
     else                                                                                                         \
         for (unsigned long i = 0; i < count; i++)                                                                \
-            must_go_on(capcheck_judge_##kind(&judge, __VA_ARGS__));
+            must_go_on(STEP(kind)(&judge, __VA_ARGS__));
 
 int main(int argc, char **argv) {
     if (argc != 4)
@@ -92,6 +104,6 @@ int main(int argc, char **argv) {
     } else {
         stop("no such kind");
     }
-    capcheck_judge_close(&judge);
+    ASK(close)(&judge);
     return 0;
 }

@@ -8,7 +8,6 @@ const REFUSALS = {
     BadLine: "the line has none of the forms",
     Misplaced: "a line of its kind isn't allowed here",
     Truncated: "the bytes end before the end line does",
-    WrongResult: "the line records another result than the rules give",
     LimitPassed: "the line exceeds a limit on roots, steps or granules",
     BadMode: "the second line is neither “mode strict” nor “mode clear”",
 };
@@ -33,10 +32,10 @@ const COUNTS = { roots: "accepted before it", steps: "accepted before it", granu
 function reportOf(text) {
     const [verdict, ...rows] = text.replace(/\n$/, "").split("\n").map((row) => row.split(" "));
     const report = {
-        refusal: verdict[3], line: "", caps: {}, spans: {}, counts: {}, values: {}, differs: [], needs: null, cleared: null, more: [],
+        refusal: verdict[3], line: "", says: "", caps: {}, spans: {}, counts: {}, values: {}, differs: [], needs: null, cleared: null, more: [],
     };
     for (const [name, first, ...rest] of rows) {
-        if (name === "line") report.line = [first, ...rest].join(" ");
+        if (name === "line" || name === "says") report[name] = [first, ...rest].join(" ");
         else if (name in SPANS) report.spans[name] = { base: BigInt(`0x${first}`), top: BigInt(`0x${rest[0]}`) };
         else if (name in COUNTS) report.counts[name] = name === "length" ? ox(BigInt(`0x${first}`)) : decimal(first);
         else if (name === "differs") report.differs = [first, ...rest];

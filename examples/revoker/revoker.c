@@ -73,18 +73,20 @@ static void print_holder(const char *name, uint8_t kind, int number) {
         fprintf(stderr, "revoker: %s%d still holds object %" PRIu32 "\n", name, number, owner);
 }
 
-/* Passes a line to the judge. At the first faulty one, says which registers still hold a freed object, and stops. */
-static void judge_line(const char *line, size_t length) {
-    capcheck_run_answer no;
-    if (capcheck_run_judge_lines(&judge, line, length).state == CAPCHECK_GOES_ON)
-        return;
-    no = capcheck_run_judge_answer(&judge);
+/* Says which registers still hold a freed object, and stops. */
+static void stop_at(capcheck_run_answer no) {
     fprintf(stderr, "revoker: stopped at line %" PRIu64 ": %s\n", no.line, capcheck_refusal_text(no.refusal));
     for (int number = 1; number < 32; number++)
         print_holder("c", CAPCHECK_REGISTER, number);
     for (int number = 0; number < SPECIALS; number++)
         print_holder("scr", CAPCHECK_SPECIAL, number);
     exit(1);
+}
+
+/* Passes a line to the judge, and stops at the first faulty one. */
+static void judge_line(const char *line, size_t length) {
+    if (capcheck_run_judge_line(&judge, line, length) != CAPCHECK_GOES_ON)
+        stop_at(capcheck_run_judge_answer(&judge));
 }
 #else
 static void open_judge(void) {}

@@ -228,7 +228,7 @@ export async function memoryHasAuthors(page) {
     const log = `capcheck 1\n${ROOT}sc c1 c1 0\nstore c1 8 8 0123456789abcdef\nstore c1 0 4 0000cafe\n`;
     for (const [line, wanted] of [
              [`lc c2 c1 0 = 1 ${WHOLE}0000000000000000\n`,
-                 ["It records tag 1, permissions 0x00078fff and address 0x0"],
+                 ["It records tag 1; memory holds tag 0."],
              ],
              ["load c1 0 4 = 0000caff\n", ["It records 0x0000caff; memory holds 0x0000cafe."]]]) {
         await withLog(page, log + line);
@@ -287,7 +287,7 @@ export async function memoryHasAuthors(page) {
 // Logs with one refused line, the last, and what is said of it.
 const SENTENCES = [
     [text("examples/kept_tag.log"), "It records tag 1; the rules clear it: the request ends one byte above c3's bounds."],
-    [text("examples/wrong_result.log"), "It records Global, which the rules take away."],
+    [text("examples/wrong_result.log"), "It records permissions 0x00078fff; the rules give permissions 0x00078ffe."],
     [text("examples/escaped_bound.log"), "The request ends one byte above c3's bounds."],
     [text("examples/stale_tag.log"), "It records tag 1; memory holds tag 0."],
     [text("examples/cleared_used.log"), "c4 has no tag."],
@@ -307,10 +307,10 @@ const SENTENCES = [
     [`${ROOT}${ROOT}`, "c1 has a root already."],
     ["root c1 ffff1ffffc01a0030000000000000000\n", "Its word isn't sound: the top, 0x18000000000000000, lies above 2^64, where addresses end."],
     [`${ROOT}move c2 c1 = 1 0${WHOLE.slice(1)}0000000000000000\n`, "It records permissions 0x00000fff; the rules give permissions 0x00078fff."],
-    [`${ROOT}move c2 c1 = 1 ffff1ffff80810000000000000001000\n`, "It records bounds 0x1000 up to 0x1020 and address 0x1000; "
-        + "the rules give bounds 0x0 up to 0x10000000000000000 and address 0x0."],
+    [`${ROOT}move c2 c1 = 1 ffff1ffff80810000000000000001000\n`, "It records bounds 0x1000 up to 0x1020; "
+        + "the rules give bounds 0x0 up to 0x10000000000000000."],
     [`${ROOT}move c2 c1 = 0 0fff1ffff80810000000000000001000\n`,
-        "It records another word than the rules give: tag, permissions, bounds and address differ."],
+        "It records tag 0; the rules give tag 1."],
     ["sealed\n", "No line begins with “sealed”; “seal” does."],
 ].map(([log, says]) => [log.startsWith("capcheck") ? log : `capcheck 1\n${log}`, says]);
 

@@ -51,7 +51,7 @@ export async function logsAreOpened(page) {
         await done(() => document.querySelector("[data-log=wrong_result]").click());
         return says;
     }, log);
-    same(ways, Array(6).fill("No: line 6 is refused: 23 WrongResult. It records Glob"), "pasted, dropped, typed, as an example");
+    same(ways, Array(6).fill("No: line 6 is refused: 23 WrongResult. It records perm"), "pasted, dropped, typed, as an example");
     same(await page.run(() => view), "log", "a log that is pasted turns to its part");
     await new Promise((done) => setTimeout(done, 500));
     const link = await page.run(() => location.href);
