@@ -4,7 +4,7 @@ use Rattle.std.specs.Prelude.{Some, None, MatchOption, codes, decimal}
 use Rattle.cap_word.specs.Digits.{hex_digits}
 use Rattle.cap_bounds.specs.{declared.decoding.Interval.Interval, Rounding.{rounded_base, rounded_top, alignment_of}}
 use Rattle.cap_streams.specs.Front.{IsFrontText}
-use Rattle.cap_texts.specs.{CapLines.bounds_line, ShownBytes.shown_line, TextLines.text_line}
+use Rattle.cap_texts.specs.{CapLines.bounds_line, ShownBytes.shown_line, TextLines.text_line, WrongLines.{cut_hint, hint_line}}
 use Rattle.cap_heap.specs.declared.{events.Event.{Event, TheVariants.{Malloc, Free}}, lines.HeapLine.HeapLine}
 use Rattle.cap_heap.specs.declared.{lines.HeapLine.TheVariants.{Happens, End, Root}, refusal.HeapRefusal.HeapRefusal}
 use Rattle.cap_heap.specs.declared.refusal.HeapRefusal.TheVariants.{BadHeader, LineTooLong, BadLine, Misplaced}
@@ -106,7 +106,8 @@ AreHeapDetails root events before due text LineTooLong details =
     details ≡ text_line (codes "expected") (codes "a line feed after at most 95 bytes")
 AreHeapDetails root events before due text BadLine details = AreBadLines text details
 AreHeapDetails root events before due text Misplaced details = details ≡ counted_lines due Misplaced (count_in before)
-AreHeapDetails root events before due text Truncated details = details ≡ counted_lines due Truncated (count_in before)
+AreHeapDetails root events before due text Truncated details =
+    details ≡ counted_lines due Truncated (count_in before) ++ hint_line (cut_hint text)
 AreHeapDetails root events before due text WrongCount details = details ≡ counted_lines due WrongCount (count_in before)
 AreHeapDetails root events before due text LimitPassed details = details ≡ counted_lines due LimitPassed (count_in before)
 AreHeapDetails root events before (End count ∷ later) text refusal details =

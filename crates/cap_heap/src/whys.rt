@@ -19,7 +19,7 @@ use crate::report::alignment;
 use cap_bounds::{Interval, round, round_length};
 use cap_texts::cap_lines::put_bounds_line;
 use cap_texts::text_lines::{put_decimal_line, put_hex_line, put_line};
-use cap_texts::wrong_lines::{SHORT_LINE, WHOLE_LOG};
+use cap_texts::wrong_lines::{SHORT_LINE, WHOLE_LOG, cut_hint, put_hint_line};
 
 /// Writes what is told of a line that was refused at an index of the buffer, and returns the index after it. The
 /// progress is as it was before the line.
@@ -41,10 +41,13 @@ pub(crate) fn put_details(
         HeapRefusal::BadHeader => put_bad_header(buffer, at, text),
         HeapRefusal::LineTooLong => put_line(buffer, at, b"expected", SHORT_LINE),
         HeapRefusal::BadLine => put_bad_line(buffer, at, text),
-        HeapRefusal::Misplaced
-        | HeapRefusal::Truncated
-        | HeapRefusal::WrongCount
-        | HeapRefusal::LimitPassed => put_counted_lines(progress, refusal, buffer, at),
+        HeapRefusal::Truncated => {
+            let at = put_counted_lines(progress, HeapRefusal::Truncated, buffer, at);
+            put_hint_line(buffer, at, cut_hint(text))
+        }
+        HeapRefusal::Misplaced | HeapRefusal::WrongCount | HeapRefusal::LimitPassed => {
+            put_counted_lines(progress, refusal, buffer, at)
+        }
         _ => match progress.stage {
             LogPart::Within => put_event_lines(&progress.heap, text, refusal, buffer, at),
             _ => at,

@@ -8,7 +8,7 @@ use Rattle.cap_log.specs.{declared.lines.{Line.Line, Place.Place}, Lines.place_s
 use Rattle.cap_streams.specs.Front.{IsFrontText}
 use Rattle.cap_log.specs.declared.lines.Line.TheVariants as lines
 use Rattle.cap_texts.specs.{CapLines.{cap_lines, operand_lines}, ShownBytes.shown_line, TextLines.{says_line, text_line}}
-use Rattle.cap_texts.specs.WrongLines.{cut_hint, header_lines, hint_line}
+use Rattle.cap_texts.specs.WrongLines.{cut_hint, header_lines, hint_line, place_hint}
 use Rattle.cap_machine.specs.{Accounts.Account, States.{key_of, tagged}}
 use Rattle.cap_judge.specs.{Judgings.account_before, Logs.{SpellsBy, IsFirstFault}}
 use Rattle.cap_report.specs.{BadLines.{AreBadLines, AreFirstLines}, Says.{taken_text, unsound_text}, StepLines.step_lines}
@@ -51,7 +51,8 @@ AreDetails account text BadHeader details = AreFirstLines text details
 AreDetails account text LineTooLong details = details ≡ text_line (codes "expected") (codes "a line feed after at most 95 bytes")
 AreDetails account text BadLine details = AreBadLines text details
 AreDetails account text BadMode details = details ≡ header_lines text (codes "mode strict or mode clear")
-AreDetails account text Misplaced details = details ≡ count_lines account ++ due_line account Misplaced
+AreDetails account text Misplaced details =
+    details ≡ (count_lines account ++ due_line account Misplaced) ++ hint_line (place_hint text)
 AreDetails account text Truncated details =
     details ≡ (count_lines account ++ due_line account Truncated) ++ hint_line (cut_hint text)
 AreDetails account text WrongCount details = details ≡ count_lines account ++ due_line account WrongCount

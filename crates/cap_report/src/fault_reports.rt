@@ -16,7 +16,9 @@ use cap_machine::{Machine, Refusal};
 use cap_texts::cap_lines::{put_cap_lines, put_operand_lines};
 use cap_texts::shown_bytes::put_shown_line;
 use cap_texts::text_lines::{put_decimal_line, put_hex_line, put_line, put_says};
-use cap_texts::wrong_lines::{SHORT_LINE, WHOLE_LOG, cut_hint, put_header_lines, put_hint_line};
+use cap_texts::wrong_lines::{
+    SHORT_LINE, WHOLE_LOG, cut_hint, place_hint, put_header_lines, put_hint_line,
+};
 use cap_word::{Cap, Word};
 use tagmem::TaggedStore;
 
@@ -60,7 +62,11 @@ fn put_details<M: TaggedStore>(
         Refusal::LineTooLong => put_line(buffer, at, b"expected", SHORT_LINE),
         Refusal::BadLine => put_bad_line(buffer, at, text),
         Refusal::BadMode => put_header_lines(buffer, at, text, b"mode strict or mode clear"),
-        Refusal::Misplaced | Refusal::WrongCount | Refusal::LimitPassed => {
+        Refusal::Misplaced => {
+            let at = put_counted_lines(machine, Refusal::Misplaced, buffer, at);
+            put_hint_line(buffer, at, place_hint(text))
+        }
+        Refusal::WrongCount | Refusal::LimitPassed => {
             put_counted_lines(machine, refusal, buffer, at)
         }
         Refusal::Truncated => {

@@ -5,7 +5,7 @@ use Rattle.cap_bounds.specs.Bounds.{length_of}
 use Rattle.cap_ops.specs.declared.refusal.Refusal.{Refusal, TheVariants.{BadHeader, BadLine, BadMode, LimitPassed, LineTooLong, Misplaced}}
 use Rattle.cap_ops.specs.declared.refusal.Refusal.TheVariants.{PlaceTaken, Truncated, WrongCount}
 use Rattle.cap_machine.specs.States.{tagged}
-use Rattle.cap_texts.specs.{ShownBytes.shown_line, TextLines.{says_line, text_line}, WrongLines.{cut_hint, header_lines, hint_line}}
+use Rattle.cap_texts.specs.{ShownBytes.shown_line, TextLines.{says_line, text_line}, WrongLines.{cut_hint, header_lines, hint_line, place_hint}}
 use Rattle.cap_report.specs.{FaultReports.{count_lines, due_line}, Says.{taken_text, unsound_text}}
 use Rattle.cap_run_log.specs.declared.lines.{RunLine.RunLine, RunPlace.RunPlace}
 use Rattle.cap_run_log.specs.declared.lines.RunLine.TheVariants as lines
@@ -44,7 +44,8 @@ AreUsualDetails run text BadHeader told = AreFirstRunLines text told
 AreUsualDetails run text LineTooLong told = told ≡ text_line (codes "expected") (codes "a line feed after at most 95 bytes")
 AreUsualDetails run text BadLine told = AreBadRunLines text told
 AreUsualDetails run text BadMode told = told ≡ header_lines text (codes "mode strict or mode clear")
-AreUsualDetails run text Misplaced told = told ≡ count_lines (account_in run) ++ due_line (account_in run) Misplaced
+AreUsualDetails run text Misplaced told =
+    told ≡ (count_lines (account_in run) ++ due_line (account_in run) Misplaced) ++ hint_line (place_hint text)
 AreUsualDetails run text Truncated told =
     told ≡ (count_lines (account_in run) ++ due_line (account_in run) Truncated) ++ hint_line (cut_hint text)
 AreUsualDetails run text WrongCount told = told ≡ count_lines (account_in run) ++ due_line (account_in run) WrongCount

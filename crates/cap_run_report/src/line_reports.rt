@@ -21,7 +21,7 @@ use cap_run_log::{RunLine, RunPlace, read_run_line};
 use cap_streams::FaultLine;
 use cap_texts::shown_bytes::put_shown_line;
 use cap_texts::text_lines::{put_hex_line, put_line, put_says};
-use cap_texts::wrong_lines::{SHORT_LINE, cut_hint, put_header_lines, put_hint_line};
+use cap_texts::wrong_lines::{SHORT_LINE, cut_hint, place_hint, put_header_lines, put_hint_line};
 use cap_word::{Cap, Word};
 use tagmem::TaggedStore;
 
@@ -81,7 +81,10 @@ fn put_usual_details<M: TaggedStore>(
         Refusal::LineTooLong => put_line(buffer, at, b"expected", SHORT_LINE),
         Refusal::BadLine => put_bad_run_line(buffer, at, text),
         Refusal::BadMode => put_header_lines(buffer, at, text, b"mode strict or mode clear"),
-        Refusal::Misplaced => put_counts(machine, Refusal::Misplaced, buffer, at),
+        Refusal::Misplaced => {
+            let at = put_counts(machine, Refusal::Misplaced, buffer, at);
+            put_hint_line(buffer, at, place_hint(text))
+        }
         Refusal::Truncated => {
             let at = put_counts(machine, Refusal::Truncated, buffer, at);
             put_hint_line(buffer, at, cut_hint(text))

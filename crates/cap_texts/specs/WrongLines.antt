@@ -66,6 +66,26 @@ abbrev pub cut_hint : List ℕ → List ℕ
 cut_hint [] = codes "no line follows: the log was cut, or is still being written"
 cut_hint (byte ∷ bytes) = codes "the last line has no line feed"
 
+-- the hint for a line after the end line
+abbrev pub nothing_follows : List ℕ
+nothing_follows = codes "nothing may follow the end line"
+
+-- why a line that begins with three bytes may not stand where it does: a header, a mode line or a root line too late, or a
+-- line after the end line
+abbrev pub start_hint : ℕ → ℕ → ℕ → List ℕ
+start_hint first second third =
+    if (first == 99 && second == 97 && third == 112) || (first == 114 && second == 117 && third == 110)
+    then codes "the first line alone is a header: logs can't be joined"
+    else if first == 109 && second == 111 && third == 100 then codes "the second line alone is a mode line"
+    else if first == 114 && second == 111 && third == 111 then codes "root lines come before the steps"
+    else nothing_follows
+
+-- why a line may not stand where it does, by its bytes
+abbrev pub place_hint : List ℕ → List ℕ
+place_hint text =
+    if nat_lt (length text) 3 then nothing_follows
+    else start_hint (slice_index text 0) (slice_index text 1) (slice_index text 2)
+
 -- a hint, where there is one
 abbrev pub hint_line : List ℕ → List ℕ
 hint_line [] = []

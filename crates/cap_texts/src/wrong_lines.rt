@@ -3,7 +3,8 @@
 ghost use Rattle.std.specs.Prelude.{◌≡◌, ◌+◌, ◌-◌, ◌≤◌, ◌++◌, codes, length};
 ghost use Rattle.cap_streams.specs.Written.{Writes};
 ghost use Rattle.cap_texts.specs.{TextLines.text_line, WrongLines.{end_text, found_line, header_lines, hint_line}};
-ghost use Rattle.cap_texts.specs.WrongLines.{coding_hint, count_hint, cut_hint, ending_hint, has_space, hint_of, mark_hint, wrong_lines};
+ghost use Rattle.cap_texts.specs.WrongLines.{coding_hint, count_hint, cut_hint, ending_hint, has_space, hint_of, mark_hint};
+ghost use Rattle.cap_texts.specs.WrongLines.{place_hint, start_hint, wrong_lines};
 
 use crate::fields::{Field, Wrong, expected_text};
 use crate::shown_bytes::put_shown_text;
@@ -220,5 +221,33 @@ pub fn cut_hint(text: &[u8]) -> &'static [u8]
         b"no line follows: the log was cut, or is still being written"
     } else {
         b"the last line has no line feed"
+    }
+}
+
+// Why a line that begins with three bytes may not stand where it does.
+fn start_hint(first: u8, second: u8, third: u8) -> &'static [u8]
+    ensures text { result.now ≡ start_hint first second third }
+    ensures short { length result.now ≤ 80 }
+{
+    match (first, second, third) {
+        (b'c', b'a', b'p') | (b'r', b'u', b'n') => {
+            b"the first line alone is a header: logs can't be joined"
+        }
+        (b'm', b'o', b'd') => b"the second line alone is a mode line",
+        (b'r', b'o', b'o') => b"root lines come before the steps",
+        _ => b"nothing may follow the end line",
+    }
+}
+
+/// Why a line that has one of the forms may not stand where it does, by its bytes: a header, a mode line or a root line too
+/// late, or a line after the end line.
+pub fn place_hint(text: &[u8]) -> &'static [u8]
+    ensures text { result.now ≡ place_hint text.now }
+    ensures short { length result.now ≤ 80 }
+{
+    if text.len() < 3 {
+        b"nothing may follow the end line"
+    } else {
+        start_hint(text[0], text[1], text[2])
     }
 }
