@@ -3,12 +3,15 @@
 # first, unless earlier work of the kit is there; this takes some minutes.
 #
 #   sh web/build.sh           the modules and the page
-#   sh web/build.sh --module  the modules alone, web/out/capcheck.wasm and web/out/judge.wasm
+#   sh web/build.sh --module  the modules alone, web/out/capcheck.wasm, web/out/judge.wasm and web/out/runs.wasm
 #   sh web/build.sh --page    the page, with the modules that are in web/out
 #   sh web/build.sh --keep    the page, and web/capcheck.html, which the tree keeps
 #
 # The compiler gives modules with 64-bit memory. wasm-opt, of Debian's package binaryen, lowers them to 32-bit memory,
 # which every browser has; the page isn't built without it.
+#
+# The judge of run logs allocates, and the compiler gives no module that does. So what it gives to clang when it compiles
+# that library for x86-64, LLVM's code, is kept, and compiled for WebAssembly by the kit's clang, beside heap.c.
 #
 # RT_LIB may name another command in place of `rt lib`, and PAGES where the links of the page lead to in place of this
 # checkout.
@@ -56,9 +59,55 @@ module() {
     lowered "$2"
 }
 
+# kept_code CRATE: LLVM's code of a library for C, as web/out/kept.ll. A toolchain whose clang keeps what it compiles stands
+# in for the kit's.
+kept_code() {
+    rm -rf web/out/toolchain web/out/kept.*
+    mkdir -p web/out/toolchain/bin
+    ln -s "$kit"/toolchain/bin/* web/out/toolchain/bin
+    ln -s "$kit/toolchain/lib" web/out/toolchain/lib
+    rm web/out/toolchain/bin/clang
+    cat > web/out/toolchain/bin/clang <<-END
+	#!/bin/sh
+	for word; do case \$word in *.bc | *.ll) cp "\$word" "$PWD/web/out/kept.ir" ;; esac; done
+	exec "$kit/toolchain/bin/clang" "\$@"
+	END
+    chmod +x web/out/toolchain/bin/clang
+    # `rt lib` takes no other toolchain, but leaves the libraries that lib.sh builds over.
+    TOOLCHAIN=$PWD/web/out/toolchain
+    export TOOLCHAIN
+    (cd "crates/$1" && ${RT_LIB:-rt lib})
+    [ -e web/out/kept.ir ] || (cd "crates/$1" && sh ../../.ci/lib.sh)
+    unset TOOLCHAIN
+    "$kit/toolchain/bin/clang" -S -emit-llvm -Xclang -disable-llvm-passes -x ir web/out/kept.ir -o web/out/kept.ll
+}
+
+# What the page calls of the judge of run logs, without capcheck_run_judge_.
+calls='open lines end end_report held owner object next_object holder'
+
+# module_with_heap CRATE NAME: web/out/NAME.wasm of a library for C that allocates.
+module_with_heap() {
+    kept_code "$1"
+    # What x86-64 has for itself goes, and what the page calls is exported.
+    sed -e '/^target datalayout/d' -e "s/^target triple.*/target triple = \"$target\"/" \
+        -e 's/ "\(probe-stack\|stack-probe-size\|target-cpu\)"="[^"]*"//g' \
+        -e "s/^\(define .*@\(capcheck_run_judge_\($(echo "$calls" | sed 's/ /\\|/g')\)\)(.*)\) #/\1 \"wasm-export-name\"=\"\2\" #/" \
+        web/out/kept.ll > web/out/wasm.ll
+    compiled="$kit/toolchain/bin/clang --target=$target -mcpu=lime1 -mllvm -expand-div-rem-bits=64 -ffunction-sections -Werror -c"
+    $compiled -O3 -x ir web/out/wasm.ll -o web/out/wasm.o
+    $compiled -O2 -std=c99 -ffreestanding -nostdinc -Wall -Wextra -pedantic -x c web/heap.c -o web/out/heap.o
+    rm -f "web/out/$2.a"
+    "$kit/toolchain/bin/llvm-ar" rc "web/out/$2.a" web/out/wasm.o web/out/heap.o
+    "$kit/bin/rattle-link" --target "$target" --toolchain "$kit/toolchain" -o "web/out/$2.wasm" "web/out/$2.a"
+    lowered "$2"
+}
+
 if [ "${1:-}" != --page ]; then
     module capcheck_c capcheck
     module capcheck_freestanding judge
+    trap 'cat web/out/said >&2' EXIT
+    module_with_heap capcheck_judge runs > web/out/said 2>&1
+    trap - EXIT
 fi
 [ "${1:-}" != --module ] || exit 0
 
@@ -75,10 +124,10 @@ plain() {
 
 packed() { gzip -9 -n | base64 -w 120; }
 
-for module in capcheck judge; do packed < "web/out/$module.wasm" > "web/out/$module.base64"; done
+for module in capcheck judge runs; do packed < "web/out/$module.wasm" > "web/out/$module.base64"; done
 cd web
-plain words.js lines.js facts.js drawing.js pasting.js vectors.js reports.js formless.js faults.js links.js log.js stepping.js page.js | packed > out/page.base64
-plain words.js lines.js trace.js judging.js shortest.js working.js | packed > out/worker.base64
+plain words.js lines.js facts.js drawing.js pasting.js vectors.js reports.js formless.js faults.js links.js log.js objects.js stepping.js page.js | packed > out/page.base64
+plain words.js lines.js trace.js judging.js shortest.js runs.js working.js | packed > out/worker.base64
 plain style.css > out/style.css
 sh sources.sh > out/sources
 # A line `@NAME@` of page.html is the file NAME, `@pages@` where links lead to, and `@hash@` the hash of all sources.
@@ -95,5 +144,5 @@ page() {
     ' pages="$1" hash="$(sh sources.sh --hash)" page.html
 }
 page "${PAGES:-../..}" > out/capcheck.html
-echo "web/out/capcheck.html: $(wc -c < out/capcheck.html) bytes, of which the modules are $(cat out/capcheck.base64 out/judge.base64 | wc -c)"
+echo "web/out/capcheck.html: $(wc -c < out/capcheck.html) bytes, of which the modules are $(cat out/capcheck.base64 out/judge.base64 out/runs.base64 | wc -c)"
 [ "${1:-}" != --keep ] || page .. > capcheck.html
