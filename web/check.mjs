@@ -1,16 +1,17 @@
-// node check.mjs MODULE JUDGE FILES..: what the module answers to each line of vector files, by the page's calls, and
+// node check.mjs MODULE JUDGE RUNS FILES..: what the module answers to each line of vector files, by the page's calls, and
 // what the judge's module answers to each log: what examples/README.md says, and byte for byte what CAPDIAG prints, where
-// that program is there. Then what pasting.js reads in each row of the table of dumps.
+// that program is there. The same of the corpus of run logs and the module that judges them. Then what pasting.js reads in each row of the table of dumps.
 import { spawnSync } from "node:child_process";
 import fs from "node:fs";
 import vm from "node:vm";
 
 import { differs, dumpsOf, readDump } from "./tests/dumps.mjs";
 
-const [module, judging, ...files] = process.argv.slice(2);
+const [module, judging, running, ...files] = process.argv.slice(2);
 const here = new URL(".", import.meta.url);
 const script = (...names) => names.map((name) => fs.readFileSync(new URL(name, here), "utf8")).join("\n");
-const { library, Judge } = vm.runInThisContext(`${script("words.js", "lines.js", "judging.js")}; ({ library, Judge })`);
+const { library, Judge, RunJudge } = vm.runInThisContext(
+    `${script("words.js", "lines.js", "judging.js", "runs.js")}; ({ library, Judge, RunJudge })`);
 const c = library(fs.readFileSync(module));
 
 const number = (digits) => BigInt(`0x${digits}`);
@@ -55,6 +56,20 @@ for (const name of files.filter((it) => it.endsWith(".log"))) {
     agree(name, text.split("\n")[0], verdicts[name.split("/").at(-1)], 1);
     if (!fs.existsSync(diagnosis)) continue;
     agree(name, text, spawnSync(diagnosis, ["why", name]).stdout.toString(), 0);
+}
+
+const runs = new WebAssembly.Module(fs.readFileSync(running));
+const corpus = fs.readFileSync(new URL("../conformance/RUNS.tsv", here), "utf8").trimEnd().split("\n").slice(1);
+for (const [name, options, answer] of corpus.map((row) => row.split("\t")).filter(([, options]) => !options.includes("--owners"))) {
+    const bytes = fs.readFileSync(new URL(`../conformance/runs/${name}`, here));
+    const asks = { held: !/used/.test(options), used: /used|both/.test(options), owned: /--owned/.test(options) };
+    const judged = new RunJudge(runs, bytes.length, asks);
+    judged.bytes(judged.log, bytes.length).set(bytes);
+    const { text } = judged.why();
+    agree(`${name} ${options}`, text.split("\n")[0], answer, 1);
+    if (!fs.existsSync(diagnosis)) continue;
+    const words = options.split(" ").filter((it) => it !== "-");
+    agree(`${name} ${options}`, text, spawnSync(diagnosis, ["run", "--why", ...words], { input: bytes }).stdout.toString(), 0);
 }
 
 for (const file of files.filter((it) => it.endsWith(".vectors"))) {

@@ -1,5 +1,5 @@
 #!/bin/sh
-# The modules against the vectors, the example logs and the table of dumps, where an engine that takes them is here: node,
+# The modules against the vectors, the example logs, the corpus of run logs and the table of dumps, where an engine that takes them is here: node,
 # with its flag for 64-bit memory or without; where wasm-opt is here the modules have 32-bit memory, and any node takes
 # them. It prints `web: N calls agreed`, or that none were tried, and ends with status 0; where a call disagrees it names
 # the line, the log or the dump and ends with status 1.
@@ -11,7 +11,7 @@ for flag in '' --experimental-wasm-memory64; do
     # shellcheck disable=SC2086 # no flag is no word
     if command -v node > /dev/null && node $flag -e "$probe" 2> /dev/null; then
         sh web/build.sh --module
-        exec node $flag web/check.mjs web/out/capcheck.wasm web/out/judge.wasm examples/vectors/*.vectors examples/*.log
+        exec node $flag web/check.mjs web/out/capcheck.wasm web/out/judge.wasm web/out/runs.wasm examples/vectors/*.vectors examples/*.log
     fi
 done
 echo 'web: no calls were tried, since neither wasm-opt nor an engine with 64-bit memory is here'

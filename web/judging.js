@@ -89,6 +89,11 @@ class Lines {
         });
     }
 
+    /** The next line that uses a register. */
+    nextUse(line, place) {
+        return this.trace.nextUse(line, registerOf(place));
+    }
+
     /** What the judge says if another line is in the place of a line and of all after it. */
     instead(line, text) {
         const { judge } = this;

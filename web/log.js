@@ -7,7 +7,7 @@ const FEW = 500; // origins shown
 
 /** A worker with one log. What it tells goes to `told`; what it is asked is answered later. */
 class Beside {
-    constructor(blob, told) {
+    constructor(blob, told, asks) {
         this.asked = new Map();
         this.worker = new Worker(Beside.address);
         this.worker.onmessage = ({ data }) => {
@@ -17,7 +17,7 @@ class Beside {
             this.asked.delete(data.id);
         };
         this.worker.onerror = (event) => told({ problem: event.message });
-        this.worker.postMessage({ blob, module: Beside.module });
+        this.worker.postMessage({ blob, asks, modules: Beside.modules });
     }
 
     ask(question) {
@@ -35,7 +35,7 @@ class Beside {
 // of it.
 const closed = {
     beside: null, name: "", blob: null, text: null, size: 0, packed: "", judged: null, report: null, faulty: "", origins: null,
-    made: null, line: 0, at: null, granule: null, wrote: null, evened: null, shown: "",
+    made: null, line: 0, at: null, granule: null, wrote: null, evened: null, objects: null, asks: "", shown: "",
 };
 const log = { ...closed, wait: 0 };
 
@@ -57,8 +57,8 @@ async function openLog(blob, name) {
 function judgeLog(blob, name, text, packed = "") {
     log.beside?.end();
     byId("find-shortest").removeAttribute("aria-disabled");
-    Object.assign(log, closed, { name, blob, text, packed, size: blob.size });
-    log.beside = new Beside(blob, toldOfLog);
+    Object.assign(log, closed, { name, blob, text, packed, size: blob.size, asks: asksText() });
+    log.beside = new Beside(blob, toldOfLog, asksChosen());
     tellWork("Reading", 0);
     tellWay("");
     byId("log").querySelector(".results").hidden = true;
@@ -113,7 +113,9 @@ function showLog() {
     }
     if (chosen.packed !== "" && chosen.packed !== log.packed) return void openPacked(chosen.packed);
     byId("log").querySelector(".results").hidden = log.judged === null;
+    showAsks();
     if (log.judged === null) return;
+    if (log.judged.isRun && log.asks !== asksText()) return judgeLog(log.blob, log.name, log.text, log.packed);
     const typedLine = byId("line").value.trim();
     const asked = /^\d+$/.test(typedLine) ? Number(typedLine) : 0;
     if (typedLine !== "" && !asked) tellWay(`“${typedLine.slice(0, 20)}” is no line's number.`);
@@ -124,7 +126,7 @@ function showLog() {
 
 function showVerdict() {
     log.shown = `${log.size} ${widthOf("why")}`;
-    const { state, line, refusal, count, took, text } = log.judged;
+    const { state, line, refusal, count, took, text, isRun } = log.judged;
     log.report = state === 2 ? reportOf(text) : null;
     log.faulty = log.report?.line ?? "";
     const [first, second] = verdictSaid();
@@ -137,13 +139,13 @@ function showVerdict() {
         make("small", {}, facts.join(", ")));
     byId("allocator").hidden = !(state === 2 && line === 1 && /^(\\xef\\xbb\\xbf)?heap \d/i.test(log.faulty));
     byId("other").hidden = true;
-    if (state === 2 && line === 1) showOther();
+    if (state === 2 && line === 1 && !isRun) showOther();
     byId("why").replaceChildren(...(log.report ? reportShown(log.report) : []));
     byId("report-text").textContent = text;
-    byId("find-shortest").hidden = state !== 2;
+    byId("find-shortest").hidden = state !== 2 || isRun;
     byId("to-fault").hidden = state !== 2;
     byId("log").querySelector(".gloss").hidden = state !== 2 || FORMLESS.includes(refusal);
-    byId("origins").hidden = state !== 1;
+    byId("origins").hidden = state !== 1 || isRun;
     showEvened();
     showWrote();
     showOrigins();
@@ -153,7 +155,9 @@ function showVerdict() {
 /** The verdict, and a sentence. */
 function verdictSaid() {
     const { state, line, refusal, steps, roots } = log.judged;
-    if (state === 1) return ["Yes: a run of the machine.", `${counted(steps, "step")} from ${counted(roots, "root")}.`];
+    const { isRun, objects } = log.judged;
+    const handedOut = isRun ? `, with ${counted(objects, "object")} handed out` : "";
+    if (state === 1) return ["Yes: a run of the machine.", `${counted(steps, "step")} from ${counted(roots, "root")}${handedOut}.`];
     if (state !== 2) return ["No verdict.", "There wasn't memory enough."];
     return [`No: line ${decimal(line)} is refused: ${refusal} ${log.report.refusal}.`, faultSentence(log.report, log.faulty)];
 }
@@ -229,7 +233,7 @@ const isData = (cap, isLoad) => cap.tag === "0" && (cap.place.startsWith("@") ||
 const NAMES = { gives: "the rules give", recorded: "the line records", holds: "the place holds" };
 
 function reportShown(report) {
-    const { caps, spans, counts, values, needs, more } = report;
+    const { caps, spans, counts, values, needs, object, more } = report;
     const isLoad = log.faulty.startsWith("lc ");
     const shown = [];
     const card = ([name, cap]) => capabilityCard(name, cap, report, isData(cap, isLoad && (name === "gives" || name === "recorded")));
@@ -246,6 +250,7 @@ function reportShown(report) {
     if (others.length) shown.push(make("div", { class: "cards" }, ...others.map(card)));
     const rows = [
         ...Object.entries(spans).map(([name, it]) => [name, span(it), SPANS[name]]),
+        ...(object ? [[`object ${object.number}`, ...objectSaid(object)]] : []),
         ...(needs ? [["needs", permissionNames(Number(`0x${needs}`)).join(", "), "the permissions that the authority needs"]] : []),
         ...Object.entries(counts).map(([name, value]) => [name, value, COUNTS[name]]),
         ...more.map(([name, ...rest]) => [name, rest.join(" ")]),
@@ -255,14 +260,17 @@ function reportShown(report) {
 }
 
 /** The ranges of a report, in order, with what goes beyond the source's or the authority's bounds. */
-function barsOf({ caps, spans }, isLoad) {
+function barsOf({ caps, spans, object }, isLoad) {
     const bars = [
         ...Object.entries(caps).filter(([, cap]) => !isData(cap, isLoad)).map(([name, { bounds, tag }]) =>
             ({ name, base: bounds[0], top: bounds[1], kind: tag === "1" ? "bounds" : "untagged" })),
         ...Object.entries(spans).map(([name, it]) => ({ name, ...it, kind: name === "representable" ? "range" : "asked" })),
-    ].filter(({ base, top }) => base <= top).sort((one, other) => ORDER.indexOf(one.name) - ORDER.indexOf(other.name));
+        ...(object ? [{ name: `object ${object.number}, ${stateOf(object)}`, base: object.base, top: object.top, kind: "range" }] : []),
+    ].filter(({ base, top }) => base <= top).sort((one, other) => placeInOrder(one) - placeInOrder(other));
     return withExcess(bars);
 }
+
+const placeInOrder = ({ name }) => ORDER.indexOf(name.split(" ")[0]);
 
 /** A capability of the report, or data. What differs between what the rules give and what is recorded is marked. */
 function capabilityCard(name, cap, { differs, cleared, caps }, isPlain) {
@@ -282,6 +290,7 @@ function capabilityCard(name, cap, { differs, cleared, caps }, isPlain) {
         word,
         ...meaning,
         ...(cap.origin ? [`from the root at ${cap.origin[0]}`] : []),
+        ...(cap.owner ? [`owned by object ${cap.owner[0]}`] : []),
         ...(name === "gives" && cleared ? [make("span", { class: "differs" }, `tag cleared: ${cleared}`)] : []),
         ...(name === "recorded" && differs.length ? [make("span", { class: "differs" }, `differs: ${differs.join(", ")}`)] : []),
     ];
@@ -429,7 +438,7 @@ function listenToLog() {
     }
     // Text that is dropped into a field, or pasted there, is a log only where it begins as one, or nearly. It is judged as
     // it is.
-    const isLog = (text) => /^\ufeff?(capcheck|heap)\s+\d\s*\n/i.test(text);
+    const isLog = (text) => /^\ufeff?(capcheck|heap|run)\s+\d\s*\n/i.test(text);
     addEventListener("dragover", (event) => {
         if (event.target.matches?.("input, textarea") && !event.dataTransfer.types.includes("Files")) return;
         event.preventDefault();
@@ -462,5 +471,6 @@ function listenToLog() {
     byId("copy-shortest").addEventListener("click", () => copy(log.made.text, "Log"));
     byId("link-shortest").addEventListener("click", () =>
         copy(`${location.href.split("#")[0]}#${new URLSearchParams({ show: "log", text: log.made.text, line: "" })}`, "Link"));
+    listenToAsks();
     listenToSteps();
 }

@@ -222,10 +222,13 @@ function showGrid(facts) {
     byId("near").replaceChildren(figure("At the base", near(base, "base")), figure("At the top", near(top, "top")));
 }
 
-// What the link has beside the fields: the word that is chosen in a dump, a log that is packed, and marked lines.
-const chosen = { which: "0", packed: "", marks: "" };
-const CHOSEN = { which: /^\d{1,4}$/, packed: /^[\w-]*$/, marks: /^(\d{1,9}(,\d{1,9})*)?$/ };
-const OPTIONAL = ["packed", "marks"]; // not in a link where they are empty
+// What the link has beside the fields: the word that is chosen in a dump, a log that is packed, marked lines, and what is
+// asked of a run log.
+const chosen = { which: "0", packed: "", marks: "", freed: "", owned: "" };
+const CHOSEN = {
+    which: /^\d{1,4}$/, packed: /^[\w-]*$/, marks: /^(\d{1,9}(,\d{1,9})*)?$/, freed: /^(used|both)?$/, owned: /^1?$/,
+};
+const OPTIONAL = ["packed", "marks", "freed", "owned"]; // not in a link where they are empty
 
 /** The words of a dump, of which one is chosen. */
 function showChoice(all) {
@@ -438,7 +441,7 @@ const FIELDS = {
     capability: ["word", "which", "order", "tag", "to"],
     request: ["base", "length"],
     operation: ["do", "source", "sourcetag", "authority", "authoritytag", "value", "offset", "size"],
-    log: ["text", "packed", "line", "marks"],
+    log: ["text", "packed", "line", "marks", "freed", "owned"],
 };
 const defaults = {};
 let view = "capability";
@@ -679,7 +682,8 @@ async function start() {
     for (const name of Object.values(FIELDS).flat()) defaults[name] = valueOf(name);
     try {
         c = library(await unpacked("module"));
-        Beside.module = new WebAssembly.Module(await unpacked("judge"));
+        const compiled = async (id) => WebAssembly.compile(await unpacked(id));
+        Beside.modules = { judge: await compiled("judge"), runs: await compiled("runs") };
         Beside.address = URL.createObjectURL(new Blob([await textOf("worker-script")]));
     } catch (problem) {
         failed(problem);

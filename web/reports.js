@@ -18,21 +18,26 @@ const ABOUT = {
     BoundsEscape: "length", NotExact: "length", NotRepresentable: "address", AuthorityUntagged: "authority",
     AuthoritySealed: "authority", AuthorityPermission: "authority", AuthorityBounds: "offset authority", TypeOutOfRange: "authority",
     TypeMismatch: "source", Misaligned: "offset", StoreCapPermission: "authority", StoreLocalPermission: "source",
+    UnsoundResult: "word", BeyondSource: "word", SealChanged: "word", NotInvokable: "code", NoCapability: "source", HasOwner: "source",
+    Overlaps: "source", StillHeld: "source", NoOwner: "source", AlreadyFreed: "source", OwnerFreed: "authority", NotOwned: "authority",
 };
 
-const CAPABILITIES = ["source", "authority", "holds", "root", "gives", "recorded"];
+const CAPABILITIES = ["source", "authority", "code", "data", "register", "holds", "root", "gives", "recorded"];
 const SPANS = {
     request: "the requested bounds", rounded: "what they are rounded to", moved: "the bounds at the new address",
     representable: "the addresses that keep the source's bounds", access: "the bytes that the step reaches",
+    extent: "what the line asks for",
 };
-const ORDER = [...CAPABILITIES.slice(0, 4), ...Object.keys(SPANS), "gives", "recorded"];
-const COUNTS = { roots: "accepted before it", steps: "accepted before it", granules: "named before it", length: "of the root, in bytes" };
+const ORDER = [...CAPABILITIES.slice(0, -2), ...Object.keys(SPANS), "object", "gives", "recorded"];
+const COUNTS = {
+    objects: "handed out before it", roots: "accepted before it", steps: "accepted before it", granules: "named before it", length: "of the root, in bytes" };
 
 /** A report by the names of its lines. */
 function reportOf(text) {
     const [verdict, ...rows] = text.replace(/\n$/, "").split("\n").map((row) => row.split(" "));
     const report = {
-        refusal: verdict[3], line: "", says: "", caps: {}, spans: {}, counts: {}, values: {}, differs: [], needs: null, cleared: null, more: [],
+        refusal: verdict[3], line: "", says: "", caps: {}, spans: {}, counts: {}, values: {}, differs: [], needs: null, cleared: null,
+        object: null, more: [],
     };
     for (const [name, first, ...rest] of rows) {
         if (name === "line" || name === "says") report[name] = [first, ...rest].join(" ");
@@ -41,8 +46,13 @@ function reportOf(text) {
         else if (name === "differs") report.differs = [first, ...rest];
         else if (name === "needs") report.needs = first;
         else if (name === "cleared") report.cleared = `${first} ${rest[0]}`;
+        else if (name === "object") {
+            const [at, base, top, state, held] = rest;
+            report.object = { number: Number(first), line: Number(at), base: BigInt(`0x${base}`), top: BigInt(`0x${top}`), isLive: state === "live", held: Number(held) };
+        } else if (name === "freed" && report.object) report.object.freed = Number(first);
+        else if (name === "holder" && report.object) report.object.holder = first;
         else if (CAPABILITIES.includes(name) && rest.length === 0) report.values[name] = first;
-        else if (CAPABILITIES.includes(name) && /^c\d|^@/.test(first)) report.caps[name] = { place: first, tag: rest[0], word: rest[1] };
+        else if (CAPABILITIES.includes(name) && /^(c|scr)\d|^@/.test(first)) report.caps[name] = { place: first, tag: rest[0], word: rest[1] };
         else if (CAPABILITIES.includes(name)) report.caps[name][first] = first === "bounds" ? rest.map((it) => BigInt(`0x${it}`)) : rest;
         else report.more.push([name, first ?? "", ...rest]);
     }

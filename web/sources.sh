@@ -11,7 +11,7 @@ hash() { sha256sum | cut -c 1-16; }
 
 # A library for C and all that it is built from, by crates.txt.
 crates() {
-    for library in capcheck_c capcheck_freestanding; do
+    for library in capcheck_c capcheck_freestanding capcheck_judge; do
         echo "$library"
         sed -n "s/^$library staticlib: *//p" crates.txt | tr ' ' '\n'
     done | LC_ALL=C sort -u
@@ -21,8 +21,8 @@ sources() {
     for crate in $(crates); do
         printf '%s %s\n' "$crate" "$(find "crates/$crate/src" -type f | LC_ALL=C sort | xargs sha256sum | hash)"
     done
-    printf 'web %s\n' "$(sha256sum web/*.js web/page.html web/style.css web/build.sh \
-        examples/escaped_bound.log examples/wrong_result.log examples/memory.log | hash)"
+    printf 'web %s\n' "$(sha256sum web/*.js web/page.html web/style.css web/build.sh web/heap.c \
+        conformance/runs/36-of-the-second.log examples/escaped_bound.log examples/wrong_result.log examples/memory.log | hash)"
 }
 
 case ${1:-} in

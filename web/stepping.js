@@ -12,8 +12,9 @@ function stepTo(wanted, says = "") {
     tellWay(says);
     beside.ask({ ask: "at", line, from: Math.max(1, line - AROUND), to: line + AROUND }).then((at) => {
         if (passed()) return;
-        Object.assign(log, { at, granule: null });
+        Object.assign(log, { at, granule: null, objects: null });
         changed();
+        askObjects(line, passed);
         // Each granule costs a judging of all lines before: one that is passed by isn't asked for.
         clearTimeout(log.wait);
         log.wait = setTimeout(async () => {
@@ -21,7 +22,7 @@ function stepTo(wanted, says = "") {
             if (passed() || !granule) return;
             log.granule = granule;
             const isWrong = line === log.judged.line && log.report?.refusal === "WrongResult";
-            if (isWrong && /^(lc|load) /.test(log.faulty)) log.wrote = granule;
+            if (isWrong && !log.judged.isRun && /^(lc|load) /.test(log.faulty)) log.wrote = granule;
             showStep();
             showWrote();
         }, 60);
@@ -37,13 +38,15 @@ function showStep() {
     byId("code").replaceChildren(...texts.map((text, k) => codeLine(at.from + k, text)));
     byId("code").setAttribute("aria-activedescendant", `line-${at.line}`);
     const { registers, line } = at;
-    const parts = partsOf(at.texts[line - at.from] ?? "");
+    const parts = partsOf(at.texts[line - at.from] ?? "", RUN_FORMS);
     byId("before-says").textContent = registers === null
         ? `The judge stopped at line ${decimal(judged.line)}: nothing is known of the lines after it.`
-        : registers.length ? "What the step reads comes first. Each register is as the line beside it made it; the judge found that line right."
-            : "No register was written so far.";
+        : registers.length === 0 ? "No register was written so far."
+            : `What the step reads comes first. ${judged.isRun ? "An object's number is that of the owner."
+                : "Each register is as the line beside it made it; the judge found that line right."}`;
     byId("step-link").replaceChildren(...stepLink(parts, registers));
     const rows = (registers ?? []).map((it) => heldRow(it, parts));
+    showObjects();
     if (log.granule) rows.push(granuleRow(log.granule));
     const isRead = (it) => it.classList.contains("read");
     byId("held").tBodies[0].replaceChildren(...rows.filter(isRead), ...rows.filter((it) => !isRead(it)));
@@ -69,14 +72,14 @@ const escaped = (text) => text.replace(/[^ -[\]-~]/g, (it) => `\\x${hex(it.charC
 /** The faulty line, with what is wrong in it marked: the digits that differ, or the operand that the refusal is about. */
 function marked(text, shown = escaped) {
     const { refusal, caps, values } = log.report;
-    const parts = partsOf(text);
+    const parts = partsOf(text, RUN_FORMS);
     const wrong = new Set();
     const markPart = (name) => { for (let k = 0; k < parts[name].length; k++) wrong.add(placeOf(text, name) + k); };
     if (text === "") return [make("mark", {}, "the bytes end here")];
-    if (refusal === "WrongResult" && caps.gives && parts) {
+    if (refusal === "WrongResult" && caps.gives && parts?.word) {
         if (caps.gives.tag !== parts.tag) markPart("tag");
         [...parts.word].forEach((digit, k) => { if (digit !== caps.gives.word[k]) wrong.add(placeOf(text, "word") + k); });
-    } else if (refusal === "WrongResult" && parts) {
+    } else if (refusal === "WrongResult" && parts?.value) {
         [...parts.value].forEach((digit, k) => { if (digit !== values.gives[k]) wrong.add(placeOf(text, "value") + k); });
     } else {
         const about = parts && ABOUT[refusal]?.split(" ").find((name) => name in parts);
@@ -87,37 +90,37 @@ function marked(text, shown = escaped) {
         .map((it) => (it.is ? make("mark", {}, shown(it.text)) : shown(it.text)));
 }
 
-/** What a register holds, the line that made it, and a way to the next line that uses it. */
-function heldRow({ number, tag, word, by }, parts) {
-    const place = `c${number}`;
-    const role = ["source", "authority", "target"].filter((name) => parts?.[name] === place);
+/** What a register holds, the line that made it or the object that owns it, and a way to the next line that uses it. */
+function heldRow({ number, place = `c${number}`, tag, word, by, owner }, parts) {
+    const role = ["source", "authority", "special", "code", "data", "target"].filter((name) => parts?.[name] === place);
     const isRead = role.some((it) => it !== "target");
     const next = make("button", { type: "button", class: "small", "data-key": `next ${place}`, "aria-label": `next line that uses ${place}` }, "next use");
-    next.addEventListener("click", () => stepToUse(number));
-    const made = lineButton(by);
-    made.title = `the line that made ${place}`;
-    const bounds = `${tag ? "" : "no tag; "}${span(c.decode(read(word)))}`;
+    next.addEventListener("click", () => stepToUse(place));
+    const made = by ? [lineButton(by)] : [];
+    if (by) made[0].title = `the line that made ${place}`;
+    const bounds = `${tag ? "" : "no tag; "}${span(c.decode(read(word)))}${owner ? `; owned by object ${owner}` : ""}`;
     return make("tr", isRead ? { class: "read" } : {}, make("th", { scope: "row" }, place), make("td", {},
         make("a", { href: linkOf(word, tag), class: "mono" }, `${tag} ${word}`),
         make("small", {}, `${bounds}${role.length ? `; the step's ${role.join(" and ")}` : ""}`),
-        make("span", { class: "ways" }, made, next)));
+        make("span", { class: "ways" }, ...made, next)));
 }
 
 /** What the granule holds that the step reaches. Without a tag it is data. */
-function granuleRow({ place, tag, word, ...history }) {
-    const says = tag ? `${span(c.decode(read(word)))}; the memory that the step reaches`
+function granuleRow({ place, tag, word, owner, ...history }) {
+    const owned = owner ? `; owned by object ${owner}` : "";
+    const says = tag ? `${span(c.decode(read(word)))}${owned}; the memory that the step reaches`
         : `data, by address: ${dataOf(word)}; the memory that the step reaches`;
     return make("tr", { class: "read" }, make("th", { scope: "row" }, place), make("td", {},
         make("a", { href: linkOf(word, tag), class: "mono" }, `${tag} ${word}`), make("small", {}, says),
-        make("small", {}, ...historyOf({ place, tag, ...history }))));
+        ...(log.judged.isRun ? [] : [make("small", {}, ...historyOf({ place, tag, ...history }))])));
 }
 
-async function stepToUse(register) {
+async function stepToUse(place) {
     const { beside, line } = log;
-    const next = await beside.ask({ ask: "nextUse", line, register });
+    const next = await beside.ask({ ask: "nextUse", line, place });
     if (log.beside !== beside) return;
     if (next) stepTo(next);
-    else tellWay(`No line after ${decimal(line)} uses c${register}.`);
+    else tellWay(`No line after ${decimal(line)} uses ${place}.`);
 }
 
 async function find(backward) {

@@ -10,6 +10,7 @@ import { address, capability, count, file, hash, same, STATES, text, tools } fro
 import * as logs from "./tests/logs.mjs";
 import * as module from "./tests/module.mjs";
 import * as pasting from "./tests/pasting.mjs";
+import * as runs from "./tests/runs.mjs";
 import * as shown from "./tests/shown.mjs";
 import * as stepping from "./tests/stepping.mjs";
 import * as use from "./tests/use.mjs";
@@ -38,6 +39,10 @@ const GROUPS = {
     oddBytesAreSaid: faults.oddBytesAreSaid,
     allocatorsAreNamed: faults.allocatorsAreNamed,
     linesAreFound: faults.linesAreFound,
+    runsAreJudged: runs.runsAreJudged,
+    runsHaveOptions: runs.runsHaveOptions,
+    objectsAreDrawn: runs.objectsAreDrawn,
+    runsAreUsable: runs.runsAreUsable,
     formlessIsSaid: ease.formlessIsSaid,
     othersAreKnown: ease.othersAreKnown,
     focusIsKept: ease.focusIsKept,
@@ -81,6 +86,8 @@ const PICTURES = [
     ["log", 1280, "light", logOf("kept_tag")],
     ["log-dark", 1280, "dark", logOf("wrong_result")],
     ["log-narrow", 360, "light", logOf("local_stored")],
+    ["run", 1280, "light", hash({ show: "log", text: text("conformance/runs/36-of-the-second.log"), line: "" })],
+    ["run-dark-narrow", 390, "dark", hash({ show: "log", text: text("conformance/runs/36-of-the-second.log"), line: "" })],
     ["log-yes-narrow", 360, "dark", logOf("memory", "9")],
     [
         "dump", 1000, "dark",

@@ -27,6 +27,14 @@ const LAYOUT = {
     answer: { size: 24, fields: { line: [0, 8], steps: [8, 4], roots: [12, 4], state: [16, 1], refusal: [17, 1] } },
     slot: { size: 32 },
     why: { size: 32, fields: { answer: [0, "answer"], length: [24, 8] } },
+    place: { size: 16, fields: { number: [0, 8], kind: [8, 1] } },
+    optional_cap: { size: 32, fields: { cap: [0, "cap"], present: [24, 1] } },
+    taken: { size: 16, fields: { bytes: [0, 8], state: [8, 1] } },
+    run_answer: {
+        size: 24,
+        fields: { line: [0, 8], steps: [8, 4], roots: [12, 4], objects: [16, 4], state: [20, 1], refusal: [21, 1] },
+    },
+    object: { size: 48, fields: { base: [0, 8], top: [8, "wide"], held: [24, 8], line: [32, 8], state: [40, 1] } },
 };
 
 // Each call: its name in the header after `capcheck_`, what it answers, and what it takes.

@@ -4,8 +4,8 @@
 let held = null;
 
 /** Reads a log into the module's memory, judges it, and tells both as they go. */
-async function opened({ module, blob }) {
-    const judge = new Judge(module, blob.size);
+async function opened({ modules, blob, asks }) {
+    const judge = judgeOf(modules, latin.decode(await blob.slice(0, 16).arrayBuffer()), blob.size, asks);
     let at = 0;
     const reader = blob.stream().getReader();
     for (let piece = await reader.read(); !piece.done; piece = await reader.read()) {
@@ -16,11 +16,14 @@ async function opened({ module, blob }) {
     const began = performance.now();
     const said = judge.why();
     const took = performance.now() - began;
-    const lines = new Lines(judge, said);
-    held = { module, lines, said };
+    const lines = said.isRun ? new RunLines(judge, said) : new Lines(judge, said);
+    held = { modules, lines, said, asks };
     const before = said.line > 1 ? lines.text(said.line - 1) : "";
     postMessage({ judged: { ...said, count: lines.count, took, before } });
 }
+
+/** The judge of a log that begins so. */
+const judgeOf = (modules, start, size, asks) => (isRun(start) ? new RunJudge(modules.runs, size, asks) : new Judge(modules.judge, size));
 
 // What keeps a text from being a log, though it reads like one: what the text has, and the bytes without it.
 const ODD = {
@@ -64,7 +67,7 @@ function withFeed(bytes) {
 }
 
 /** What is odd about the bytes of a refused log, the log without it, and its verdict; nothing where nothing is odd. */
-function evened({ module, lines }) {
+function evened({ modules, lines, asks }) {
     const { judge } = lines;
     let bytes = judge.bytes(judge.log, judge.size).slice();
     const kinds = Object.keys(ODD).filter((kind) => {
@@ -74,7 +77,7 @@ function evened({ module, lines }) {
         return true;
     });
     if (kinds.length === 0) return null;
-    const other = new Judge(module, bytes.length);
+    const other = judgeOf(modules, ascii(bytes.subarray(0, 16)), bytes.length, asks);
     other.bytes(other.log, bytes.length).set(bytes);
     return { kinds, verdict: other.why().text.split("\n")[0], blob: new Blob([bytes]) };
 }
@@ -91,10 +94,11 @@ const ANSWERS = {
     },
     granule: ({ line }) => (isPast(held, line) ? null : held.lines.granule(line)),
     evened: () => evened(held),
-    nextUse: ({ line, register }) => held.lines.trace.nextUse(line, register),
+    nextUse: ({ line, place }) => held.lines.nextUse(line, place),
+    objects: ({ line, numbers }) => (isPast(held, line) ? null : held.lines.objects(line, numbers)),
     find: ({ text, line, backward }) => held.lines.find(text, line, backward),
     origins: () => held.lines.judge.origins().text,
-    shortest: () => shortest(held.module, held.lines),
+    shortest: () => shortest(held.modules.judge, held.lines),
 };
 
 onmessage = async ({ data }) => {

@@ -126,7 +126,7 @@ export function layoutOfHeader(layout) {
             lines.push(`printf("%d\\n", offsetof(${struct}, ${field}) == ${offset} && sizeof(((${struct} *)0)->${field}) == ${bytes});`);
         }
     }
-    const program = `#include <capcheck.h>\n#include <capcheck_freestanding.h>\n#include <stdio.h>\nint main(void) {\n${
+    const program = `#include <capcheck.h>\n#include <capcheck_freestanding.h>\n#include <capcheck_judge.h>\n#include <stdio.h>\nint main(void) {\n${
         lines.join("\n")}\nreturn 0;\n}\n`;
     const made = file("web/out/layout");
     execFileSync("cc", ["-Iinclude", "-x", "c", "-", "-o", made], { cwd: root, input: program });

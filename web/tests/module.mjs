@@ -169,7 +169,7 @@ export async function nothingIsFetched(page) {
 /** The modules have 32-bit memory, which every engine takes; where none is, or no script runs, the page says so. */
 export async function withoutAnEngine(first) {
     const html = fs.readFileSync(built, "utf8");
-    for (const id of ["module", "judge"]) {
+    for (const id of ["module", "judge", "runs"]) {
         const [, packed] = html.match(new RegExp(`<script id="${id}"[^>]*>([^<]*)`));
         const module = zlib.gunzipSync(Buffer.from(packed, "base64"));
         same(memoryOf(module) & 4, 0, `${id} has 32-bit memory`);

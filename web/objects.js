@@ -1,0 +1,115 @@
+"use strict";
+// The objects of a run log: what is asked of them, where they lie, and who holds them.
+
+const LISTED = 100; // objects in the list
+const DRAWN_GAP = 8n; // a gap of so many times what is drawn parts objects that are drawn from others
+
+const asksText = () => `${chosen.freed} ${chosen.owned}`;
+const asksChosen = () => ({ held: chosen.freed !== "used", used: chosen.freed !== "", owned: chosen.owned === "1" });
+
+function showAsks() {
+    byId("asks").hidden = !log.judged?.isRun;
+    byId("freed").value = chosen.freed;
+    byId("owned").checked = chosen.owned === "1";
+}
+
+function listenToAsks() {
+    byId("freed").addEventListener("input", () => { chosen.freed = byId("freed").value; changed(); });
+    byId("owned").addEventListener("input", () => { chosen.owned = byId("owned").checked ? "1" : ""; changed(); });
+}
+
+const stateOf = ({ isLive, held }) => (isLive ? "live" : held ? "freed, still held" : "freed");
+const atFault = () => log.line === log.judged.line;
+
+/** An object's extent, and who holds it and when it was handed out. */
+function objectSaid(it) {
+    const { base, top, line, freed, held, holder } = it;
+    const holders = held === 0 ? "no place holds it" : `${counted(held, "place")} ${held === 1 ? "holds" : "hold"} it${holder ? `, first ${holder}` : ""}`;
+    return [
+        `${span({ base, top })}, ${counted(top - base, "byte")}`,
+        make("span", {}, `${stateOf(it)}; ${holders}; handed out by `, lineButton(line, undefined, `object ${it.number}`),
+            ...(freed ? [", freed by ", lineButton(freed, undefined, `freed ${it.number}`)] : [])),
+    ];
+}
+
+/** The objects cost a judging of the lines before: those of a line that is passed by aren't asked for. */
+async function askObjects(line, passed) {
+    if (!log.judged.isRun) return;
+    const { beside } = log;
+    const numbers = log.judged.state === 2 && reportOf(log.judged.text).object ? [reportOf(log.judged.text).object.number] : [];
+    const objects = await beside.ask({ ask: "objects", line, numbers });
+    if (passed()) return;
+    log.objects = objects;
+    showStep();
+}
+
+function showObjects() {
+    byId("objects").hidden = !log.objects;
+    if (!log.objects) return;
+    const { objects, isAll } = log.objects;
+    const asked = atFault() ? log.report?.spans.extent : null;
+    const about = objects.find(({ number }) => atFault() && number === log.report?.object?.number) ?? null;
+    const count = (wanted) => counted(objects.filter(wanted).length, "object");
+    byId("objects-say").textContent = objects.length === 0 ? "No object is live, and none that was freed is held."
+        : `${isAll ? "" : `Of the first ${decimal(objects.length)}: `}${count(({ isLive }) => isLive)} live; `
+            + `${count(({ isLive }) => !isLive)} freed that some place still holds.`;
+    const near = nearObjects(objects, about ?? asked ?? objects.at(-1));
+    byId("extents").hidden = objects.length === 0;
+    if (objects.length) {
+        byId("extents").replaceChildren(extentsDrawing(near, about, asked, widthOf("objects")));
+        const away = objects.length - near.length;
+        if (away) byId("objects-say").append(` ${counted(away, "object")} ${away === 1 ? "lies" : "lie"} far from those that are drawn.`);
+    }
+    byId("extents").setAttribute("aria-label", near.slice(0, LISTED).map((it) => `object ${it.number} ${span(it)}, ${stateOf(it)}`).join("; "));
+    const first = [...objects].sort((one, other) => (other === about) - (one === about)).slice(0, LISTED);
+    byId("object-rows").tBodies[0].replaceChildren(...first.map((it) => {
+        const made = row([`object ${it.number}`, ...objectSaid(it)]);
+        if (it === about) made.className = "read";
+        return made;
+    }));
+    if (objects.length > LISTED) byId("objects-say").append(` The list has the first ${LISTED}.`);
+}
+
+/** The objects that lie near one: no gap between them is far greater than what they take. */
+function nearObjects(objects, middle) {
+    const all = [...objects].sort((one, other) => (one.base < other.base ? -1 : one.base > other.base ? 1 : 0));
+    let [from, to] = [all.findIndex(({ top }) => middle && top > middle.base), 0];
+    if (from < 0) from = Math.max(0, all.length - 1);
+    to = from + 1;
+    const taken = () => all[to - 1].top - all[from].base + 64n;
+    for (let grown = true; grown && all.length;) {
+        grown = false;
+        if (from > 0 && all[from].base - all[from - 1].top <= DRAWN_GAP * taken()) [from, grown] = [from - 1, true];
+        if (to < all.length && all[to].base - all[to - 1].top <= DRAWN_GAP * taken()) [to, grown] = [to + 1, true];
+    }
+    return all.slice(from, to);
+}
+
+/** Extents on one axis, a row for each state, and one for what the refused line asks for. */
+function extentsDrawing(objects, about, asked, width) {
+    const all = [...objects, ...(asked ? [asked] : [])];
+    const from = all.reduce((least, { base }) => (base < least ? base : least), all[0].base);
+    const end = all.reduce((greatest, { top }) => (top > greatest ? top : greatest), all[0].top);
+    const room = (end - from) / 16n + 1n;
+    const axis = scaled(from - room, end - from + 2n * room, 12, width - 12);
+    const rows = [
+        ["live", "bounds", objects.filter(({ isLive }) => isLive)],
+        ["freed, still held", "outside", objects.filter(({ isLive }) => !isLive)],
+        ["what the refused line asks for", "asked", asked ? [asked] : []],
+    ].filter(([, , extents]) => extents.length);
+    const nodes = rows.flatMap(([title, kind, extents], row) => [
+        words(0, row * 44 + 13, title, "note", "start"),
+        ...extents.flatMap(({ base, top }) => {
+            const [left, right] = [axis.cut(base), axis.cut(top)];
+            return [bar(left, right, row * 44 + 18, 18, kind), ...(kind === "outside" ? [hatched(left, right, row * 44 + 18, 18)] : [])];
+        }),
+    ]);
+    const y = rows.length * 44;
+    const named = about ? [about] : objects.length <= 6 ? objects : [];
+    const points = [
+        ...named.map(({ number, base, top }) => ({ x: (axis.cut(base) + axis.cut(top)) / 2, number: `object ${number}`, note: `from ${hex(base)}` })),
+        ...(named.length < 2 ? [from, end].map((at) => ({ x: axis.x(at), number: hex(at), note: at === from ? "least base" : "greatest top" })) : []),
+    ];
+    const below = labels(points, width, y + 8);
+    return canvas(width, y + 12 + below.height, ...nodes, line(axis.left, y, axis.right, y, "axis"), ...below.nodes);
+}

@@ -1,0 +1,186 @@
+// A run log on the page, beside what `capdiag run --why` prints of it: verdict, diagnosis, options, objects.
+import { execFileSync } from "node:child_process";
+
+import { address, check, file, hash, root, same, text, tools } from "./given.mjs";
+import { CAPDIAG, examples, printed, settled } from "./logs.mjs";
+import { contrasts, overlaps } from "./use.mjs";
+
+const chosenOf = (options) => ({ freed: (options.match(/--freed (used|both)/) ?? ["", ""])[1], owned: options.includes("--owned") ? "1" : "" });
+const wordsOf = ({ freed, owned }) => [...(freed ? ["--freed", freed] : []), ...(owned ? ["--owned"] : [])];
+
+/** The corpus of run logs, with the options of each row. */
+const corpus = () => text("conformance/RUNS.tsv").trimEnd().split("\n").slice(1).map((row) => row.split("\t"))
+    .filter(([, options]) => !options.includes("--owners"))
+    .map(([name, options, answer]) => ({ name: `${name} ${options}`, log: text(`conformance/runs/${name}`), answer, ...chosenOf(options) }));
+
+/** The example logs of version 2 as run logs, and what is cut or odd. */
+function others() {
+    const one = text("conformance/runs/36-of-the-second.log");
+    const yes = text("conformance/runs/39-not-live.log");
+    const logs = {
+        "cut in a line": one.slice(0, -30), "cut at a line feed": one.slice(0, one.lastIndexOf("\n") + 1), "without an end": one.replace(/end.*\n/, ""),
+        "after the end": `${yes}more`, "no last line feed": yes.trimEnd(), "a blank": yes.replace("mode", "mode "), "the first line alone": "run 1\n",
+        "a version that isn't": "run 2\nmode strict\n", "a word that isn't": yes.replace("object", "objekt"), "no lines after": "run 1",
+        "a long line": yes.replace("object c2", `object ${"c".repeat(200)}`), "long after the end": `${yes}${"m".repeat(200)}`,
+        ...Object.fromEntries(examples.filter((name) => text(`examples/${name}`).startsWith("capcheck 2"))
+            .map((name) => [name, text(`examples/${name}`).replace("capcheck 2", "run 1")])),
+    };
+    return Object.entries(logs).map(([name, log]) => ({ name, log, freed: "", owned: "" }));
+}
+
+/** What the page says of run logs. */
+const said = async (given) => {
+    const found = [];
+    for (const { log: text, freed, owned } of given) {
+        Object.assign(chosen, { freed, owned });
+        await dropped(bytesOf8(text), "given.log");
+        found.push({
+            text: log.judged.text, verdict: seen("verdict"), shown: seen("report-text"), fine: byId("fault").hidden, says: log.report?.says,
+            asks: visible(byId("asks")), faulty: document.querySelector("#code .at-fault")?.dataset.line ?? "",
+            marks: document.querySelectorAll("#code mark").length,
+        });
+    }
+    Object.assign(chosen, { freed: "", owned: "" });
+    return found;
+};
+
+export async function runsAreJudged(page) {
+    await page.run(settled);
+    const given = [...corpus(), ...others()];
+    const shown = await page.run(said, given);
+    const kinds = new Set();
+    given.forEach(({ name, log, answer, ...asks }, k) => {
+        const wanted = printed(CAPDIAG, ["run", "--why", ...wordsOf(asks)], log);
+        const [verdict, first, number, refusal] = wanted.split("\n")[0].split(" ");
+        const it = shown[k];
+        // The module gets whole lines: of a log that ends within a line it has no diagnosis of that line.
+        const isCut = /^hint the last line has no line feed$/m.test(wanted);
+        same(isCut ? it.text.split("\n")[0] : it.text, isCut ? wanted.split("\n")[0] : wanted, name);
+        same(it.shown, it.text, `${name}: the report`);
+        if (answer) same(it.text.split("\n")[0], answer, `${name}: the corpus`);
+        const decimal = (digits) => digits.replace(/\B(?=(\d{3})+$)/g, ",");
+        const sentence = verdict === "yes" ? "Yes: a run of the machine." : `No: line ${decimal(first)} is refused: ${number} ${refusal}.`;
+        check(it.verdict.startsWith(sentence), `${name}: ${it.verdict}`);
+        const says = wanted.match(/^says (.*)$/m)?.[1];
+        if (says) check(it.verdict.toLowerCase().includes(says.toLowerCase()), `${name}: ${says}: ${it.verdict}`);
+        check(it.fine && it.asks, `${name}: it is seen, with what is asked`);
+        if (verdict === "no") check(it.faulty === first && it.marks > 0, `${name}: line ${it.faulty}, ${it.marks} marks`);
+        kinds.add(refusal ?? "yes");
+    });
+    check(kinds.size >= 15, `verdicts of the run logs: ${[...kinds]}`);
+    return `${given.length} logs, ${kinds.size} verdicts`;
+}
+
+const HELD = text("conformance/runs/36-of-the-second.log");
+
+/** The options change the verdict, and are in the link. */
+export async function runsHaveOptions(page) {
+    const link = hash({ show: "log", text: text("conformance/runs/39-load.log"), line: "" });
+    await page.go(address + link);
+    await page.run(tools);
+    await page.run(settled);
+    const found = await page.run(async () => {
+        const verdicts = [];
+        const choose = async (id, value) => {
+            if (id === "owned") byId(id).click();
+            else type(id, value);
+            await new Promise((done) => setTimeout(done, 20));
+            await globalThis.settled();
+            verdicts.push(log.judged.text.split("\n")[0]);
+        };
+        await globalThis.settled();
+        verdicts.push(log.judged.text.split("\n")[0]);
+        for (const value of ["used", "both", ""]) await choose("freed", value);
+        await choose("owned");
+        type("freed", "both");
+        await new Promise((done) => setTimeout(done, 500));
+        await globalThis.settled();
+        return [verdicts, location.hash];
+    });
+    const log = text("conformance/runs/39-load.log");
+    const words = [[], ["--freed", "used"], ["--freed", "both"], [], ["--owned"]];
+    same(found[0], words.map((it) => printed(CAPDIAG, ["run", ...it], log).trim()), "each option");
+    check(new Set(found[0]).size > 1, `options differ: ${found[0]}`);
+    const parts = new URLSearchParams(found[1].slice(1));
+    same([parts.get("freed"), parts.get("owned"), parts.get("text")], ["both", "1", log], "the link has the options");
+    await page.go(address + found[1]);
+    await page.run(tools);
+    await page.run(settled);
+    same(await page.run(async () => {
+        await globalThis.settled();
+        return [byId("freed").value, byId("owned").checked, log.judged.text.split("\n")[0]];
+    }), ["both", true, printed(CAPDIAG, ["run", "--freed", "both", "--owned"], log).trim()], "the link restores them");
+}
+
+/** Waits until the objects of the line are shown. */
+const drawn = async (line) => {
+    await globalThis.settled();
+    if (line) stepTo(line);
+    for (let k = 0; k < 500 && log.objects?.line !== (line || log.line); k++) await new Promise((done) => setTimeout(done, 10));
+    return {
+        says: seen("objects-say"), rows: [...document.querySelectorAll("#object-rows tr")].map((it) => it.innerText.replace(/\s+/g, " ").trim()),
+        bars: [".bounds", ".outside", ".asked"].map((kind) => document.querySelectorAll(`#extents ${kind}`).length),
+        hatches: document.querySelectorAll("#extents .hatch").length, label: byId("extents").getAttribute("aria-label"),
+        held: [...document.querySelectorAll("#held tr")].map((it) => it.innerText.replace(/\s+/g, " ").trim()),
+    };
+};
+
+/** Objects are drawn and listed before each line, as `--owners` prints them of the lines before it. */
+export async function objectsAreDrawn(page) {
+    await page.run(settled);
+    await page.run((text) => dropped(bytesOf8(text), "held.log"), HELD);
+    const at = await page.run(drawn, 0);
+    const refused = Number(printed(CAPDIAG, ["run"], HELD).split(" ")[1]);
+    check(at.says.includes("1 object freed that some place still holds") && at.bars[1] === 1 && at.bars[2] === 1 && at.hatches === 1, JSON.stringify(at));
+    check(at.rows.some((it) => /^object 2 0x1010 up to 0x1020, 16 bytes freed, still held; 1 place holds it, first c3; handed out by line 9/.test(it)),
+        JSON.stringify(at.rows));
+    check(at.held.some((it) => it.startsWith("c3") && it.includes("owned by object 2")), `c3's owner: ${at.held}`);
+    const lines = HELD.split("\n");
+    for (let line = 4; line <= refused; line++) {
+        const shown = await page.run(drawn, line);
+        const before = [...lines.slice(0, line - 1), `end ${line - 4}`, ""].join("\n");
+        const owners = printed(CAPDIAG, ["run", "--owners"], before).split("\n").filter((it) => it.startsWith("object "));
+        const wanted = owners.map((it) => it.split(" ")).map(([, number, made, , , state, held]) => [number, made, state, held]);
+        const got = shown.rows.map((it) => [
+            it.match(/^object (\d+)/)[1], it.match(/handed out by line (\d+)/)[1], it.includes("bytes live") ? "live" : "freed",
+            it.match(/; (no|\d+) places? holds? it/)[1].replace("no", "0"),
+        ]);
+        same(got.sort(), wanted.sort(), `objects before line ${line}`);
+        same(shown.bars[0] + shown.bars[1], wanted.length, `extents before line ${line}`);
+    }
+    await revokerIsDrawn(page);
+}
+
+/** The log of the example revoker that misses a place. */
+async function revokerIsDrawn(page) {
+    const made = file("web/out/revoker");
+    const library = process.env.LIBRARY ?? "crates/capcheck_c/out/libcapcheck_c.a";
+    execFileSync("cc", ["-Iinclude", "examples/revoker/revoker.c", library, "-o", made], { cwd: root });
+    const log = execFileSync(made, ["skips"]).toString();
+    await page.run((it) => dropped(bytesOf8(it), "skips.log"), log);
+    const at = await page.run(drawn, 0);
+    check(at.rows[0].startsWith("object 17 0x100180 up to 0x1001c0, 64 bytes freed, still held; 1 place holds it, first scr3; handed out by line 115"),
+        at.rows[0]);
+    check(at.bars[2] === 1 && at.bars[1] >= 1, `extents: ${at.bars}`);
+    check(at.held.some((it) => it.startsWith("scr3") && it.includes("owned by object 17")), "scr3's owner");
+    same(await page.run(() => log.judged.text), printed(CAPDIAG, ["run", "--why"], log), "the revoker that misses a place");
+}
+
+/** A run log fits narrow screens, and its texts have contrast. */
+export async function runsAreUsable(page) {
+    const link = hash({ show: "log", text: HELD, line: "" });
+    for (const [width, scheme] of [[390, "light"], [1280, "dark"]]) {
+        await page.size(width, 900, width === 390);
+        await page.scheme(scheme);
+        await page.go(address + link);
+        await page.run(tools);
+        await page.run(settled);
+        await page.run(drawn, 0);
+        same(await page.run(overlaps), [true, [], []], `${width} pixels`);
+        for (const [kind, name, ratio, wanted] of await page.run(contrasts))
+            check(ratio >= wanted, `${width} ${scheme}: ${kind} ${name}: contrast ${ratio.toFixed(2)} below ${wanted}`);
+    }
+    await page.scheme("light");
+    const names = await page.run(() => [...document.querySelectorAll("#asks select, #asks input")].map((it) => it.labels.length));
+    check(names.every((it) => it === 1), `labels: ${names}`);
+}
