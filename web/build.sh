@@ -60,8 +60,11 @@ module() {
 }
 
 # kept_code CRATE: LLVM's code of a library for C, as web/out/kept.ll. A toolchain whose clang keeps what it compiles stands
-# in for the kit's.
+# in for the kit's. Code for any x86-64 has no instruction that only some processors have.
 kept_code() {
+    archive=crates/$1/out/lib$1.a
+    rm -f "$kept"
+    [ ! -f "$archive" ] || cp -p "$archive" "$kept"
     rm -rf web/out/toolchain web/out/kept.*
     mkdir -p web/out/toolchain/bin
     ln -s "$kit"/toolchain/bin/* web/out/toolchain/bin
@@ -76,9 +79,10 @@ kept_code() {
     # `rt lib` takes no other toolchain, but leaves the libraries that lib.sh builds over.
     TOOLCHAIN=$PWD/web/out/toolchain
     export TOOLCHAIN
-    (cd "crates/$1" && ${RT_LIB:-rt lib})
-    [ -e web/out/kept.ir ] || (cd "crates/$1" && sh ../../.ci/lib.sh)
+    (cd "crates/$1" && ${RT_LIB:-rt lib} --cpu x86-64)
+    [ -e web/out/kept.ir ] || (cd "crates/$1" && sh ../../.ci/lib.sh --cpu x86-64)
     unset TOOLCHAIN
+    put_back
     "$kit/toolchain/bin/clang" -S -emit-llvm -Xclang -disable-llvm-passes -x ir web/out/kept.ir -o web/out/kept.ll
 }
 
@@ -105,7 +109,7 @@ module_with_heap() {
 if [ "${1:-}" != --page ]; then
     module capcheck_c capcheck
     module capcheck_freestanding judge
-    trap 'cat web/out/said >&2' EXIT
+    trap 'put_back; cat web/out/said >&2' EXIT
     module_with_heap capcheck_judge runs > web/out/said 2>&1
     trap - EXIT
 fi

@@ -69,6 +69,8 @@ for (const [name, options, answer] of corpus.map((row) => row.split("\t")).filte
     agree(`${name} ${options}`, text.split("\n")[0], answer, 1);
     if (!fs.existsSync(diagnosis)) continue;
     const words = options.split(" ").filter((it) => it !== "-");
+    // The module gets whole lines: of a log that ends within a line it has no diagnosis of that line.
+    if (bytes.at(-1) !== 10 && / Truncated$/.test(answer)) continue;
     agree(`${name} ${options}`, text, spawnSync(diagnosis, ["run", "--why", ...words], { input: bytes }).stdout.toString(), 0);
 }
 

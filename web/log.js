@@ -276,7 +276,7 @@ const placeInOrder = ({ name }) => ORDER.indexOf(name.split(" ")[0]);
 function capabilityCard(name, cap, { differs, cleared, caps }, isPlain) {
     const both = name === "gives" || name === "recorded";
     const mark = (field) => (both && differs.includes(field) ? { class: "differs" } : {});
-    const other = both ? caps[name === "gives" ? "recorded" : "gives"] : cap;
+    const other = (both && caps[name === "gives" ? "recorded" : "gives"]) || cap;
     const word = make("a", { href: linkOf(cap.word, cap.tag), class: "mono" }, ...digitsMarked(cap.word, other.word));
     const bound = ["ie", "e", "b", "t"].find((it) => differs.includes(it));
     const meaning = isPlain ? [make("span", {}, "data, by address: ", make("span", { class: "mono" }, dataOf(cap.word)))] : [

@@ -55,11 +55,9 @@ function showObjects() {
             + `${count(({ isLive }) => !isLive)} freed that some place still holds.`;
     const near = nearObjects(objects, about ?? asked ?? objects.at(-1));
     byId("extents").hidden = objects.length === 0;
-    if (objects.length) {
-        byId("extents").replaceChildren(extentsDrawing(near, about, asked, widthOf("objects")));
-        const away = objects.length - near.length;
-        if (away) byId("objects-say").append(` ${counted(away, "object")} ${away === 1 ? "lies" : "lie"} far from those that are drawn.`);
-    }
+    byId("extents").replaceChildren(...(objects.length ? [extentsDrawing(near, about, asked, widthOf("objects"))] : []));
+    const away = objects.length - near.length;
+    if (away) byId("objects-say").append(` ${counted(away, "object")} ${away === 1 ? "lies" : "lie"} far from those that are drawn.`);
     byId("extents").setAttribute("aria-label", near.slice(0, LISTED).map((it) => `object ${it.number} ${span(it)}, ${stateOf(it)}`).join("; "));
     const first = [...objects].sort((one, other) => (other === about) - (one === about)).slice(0, LISTED);
     byId("object-rows").tBodies[0].replaceChildren(...first.map((it) => {

@@ -22,7 +22,7 @@ const ABOUT = {
     Overlaps: "source", StillHeld: "source", NoOwner: "source", AlreadyFreed: "source", OwnerFreed: "authority", NotOwned: "authority",
 };
 
-const CAPABILITIES = ["source", "authority", "code", "data", "register", "holds", "root", "gives", "recorded"];
+const CAPABILITIES = ["source", "authority", "code", "data", "register", "holder", "holds", "root", "gives", "recorded"];
 const SPANS = {
     request: "the requested bounds", rounded: "what they are rounded to", moved: "the bounds at the new address",
     representable: "the addresses that keep the source's bounds", access: "the bytes that the step reaches",
@@ -40,6 +40,7 @@ function reportOf(text) {
         object: null, more: [],
     };
     for (const [name, first, ...rest] of rows) {
+        if (name === "holder" && report.object) report.object.holder ??= first;
         if (name === "line" || name === "says") report[name] = [first, ...rest].join(" ");
         else if (name in SPANS) report.spans[name] = { base: BigInt(`0x${first}`), top: BigInt(`0x${rest[0]}`) };
         else if (name in COUNTS) report.counts[name] = name === "length" ? ox(BigInt(`0x${first}`)) : decimal(first);
@@ -50,7 +51,6 @@ function reportOf(text) {
             const [at, base, top, state, held] = rest;
             report.object = { number: Number(first), line: Number(at), base: BigInt(`0x${base}`), top: BigInt(`0x${top}`), isLive: state === "live", held: Number(held) };
         } else if (name === "freed" && report.object) report.object.freed = Number(first);
-        else if (name === "holder" && report.object) report.object.holder = first;
         else if (CAPABILITIES.includes(name) && rest.length === 0) report.values[name] = first;
         else if (CAPABILITIES.includes(name) && /^(c|scr)\d|^@/.test(first)) report.caps[name] = { place: first, tag: rest[0], word: rest[1] };
         else if (CAPABILITIES.includes(name)) report.caps[name][first] = first === "bounds" ? rest.map((it) => BigInt(`0x${it}`)) : rest;

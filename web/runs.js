@@ -49,7 +49,8 @@ class RunJudge {
 
     open(judge) {
         const { held, used, owned } = this.asks;
-        if (this.call("open", judge, BigInt(held) | BigInt(used) << 8n | BigInt(owned) << 16n)) throw new RangeError("no memory");
+        // The struct's three bytes are one number.
+        if (this.call("open", judge, Number(held) | Number(used) << 8 | Number(owned) << 16)) throw new RangeError("no memory");
     }
 
     /** Passes bytes of the log to a judge: whole lines of them are taken. */

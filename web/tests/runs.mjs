@@ -11,7 +11,8 @@ const wordsOf = ({ freed, owned }) => [...(freed ? ["--freed", freed] : []), ...
 /** The corpus of run logs, with the options of each row. */
 const corpus = () => text("conformance/RUNS.tsv").trimEnd().split("\n").slice(1).map((row) => row.split("\t"))
     .filter(([, options]) => !options.includes("--owners"))
-    .map(([name, options, answer]) => ({ name: `${name} ${options}`, log: text(`conformance/runs/${name}`), answer, ...chosenOf(options) }));
+    .map(([name, options, answer]) => ({ name: `${name} ${options}`, log: text(`conformance/runs/${name}`), answer, ...chosenOf(options) }))
+    .filter(({ log }) => /^run\s+\d/.test(log));
 
 /** The example logs of version 2 as run logs, and what is cut or odd. */
 function others() {
@@ -35,7 +36,7 @@ const said = async (given) => {
         Object.assign(chosen, { freed, owned });
         await dropped(bytesOf8(text), "given.log");
         found.push({
-            text: log.judged.text, verdict: seen("verdict"), shown: seen("report-text"), fine: byId("fault").hidden, says: log.report?.says,
+            text: log.judged.text, verdict: seen("verdict"), shown: seen("report-text"), fine: byId("fault").hidden, fault: seen("fault"), says: log.report?.says,
             asks: visible(byId("asks")), faulty: document.querySelector("#code .at-fault")?.dataset.line ?? "",
             marks: document.querySelectorAll("#code mark").length,
         });
@@ -63,7 +64,7 @@ export async function runsAreJudged(page) {
         check(it.verdict.startsWith(sentence), `${name}: ${it.verdict}`);
         const says = wanted.match(/^says (.*)$/m)?.[1];
         if (says) check(it.verdict.toLowerCase().includes(says.toLowerCase()), `${name}: ${says}: ${it.verdict}`);
-        check(it.fine && it.asks, `${name}: it is seen, with what is asked`);
+        check(it.fine && it.asks, `${name}: it is seen, with what is asked: ${it.fault}`);
         if (verdict === "no") check(it.faulty === first && it.marks > 0, `${name}: line ${it.faulty}, ${it.marks} marks`);
         kinds.add(refusal ?? "yes");
     });
