@@ -1,0 +1,222 @@
+//! The lines of reports, by their names, and the members that they are.
+
+ghost use Rattle.std.specs.Prelude.{◌≡◌, map, option_map};
+ghost use Rattle.cap_json.specs.Rows.{lone_rows, part_rows, verdict_rows};
+ghost use Rattle.cap_json.specs.Members.{described, form_by_words, member_in, member_of, verdict_of};
+ghost use Rattle.cap_json.specs.Readings.{member_parts, row_parts};
+
+use crate::words::{begins, cut};
+
+/// The log that a report is of.
+#[derive(Debug, Clone, Copy, PartialEq, Eq)]
+pub enum LogKind {
+    /// A log of version 1 or 2.
+    Machine,
+    /// The log of an allocator.
+    Heap,
+    /// A run log.
+    Run,
+}
+
+/// Where the member of a line stands.
+#[derive(Debug, Clone, Copy, PartialEq, Eq)]
+pub(crate) enum Place {
+    /// In the object itself.
+    Alone,
+    /// In the object that the line's first word names.
+    Part,
+    /// In the array that the line's first word names.
+    Element,
+}
+
+/// How a line that begins so is shown: where it stands, and the form that its values fill.
+#[derive(Clone, Copy)]
+pub(crate) struct Row(&'static str, Place, &'static str);
+
+/// The member that a line is.
+#[derive(Clone, Copy)]
+pub(crate) struct Member<'a> {
+    /// Where it stands.
+    pub(crate) place: Place,
+    /// Its form.
+    pub(crate) form: &'static str,
+    /// The values that fill the form.
+    pub(crate) values: &'a [u8],
+}
+
+// The lines of verdicts.
+#[tactic(auto, unfolding(crate::specs::Rows::verdict_rows))]
+fn verdict_rows(kind: LogKind) -> &'static [Row]
+    ensures value { map row_parts result.now ≡ verdict_rows kind }
+{
+    match kind {
+        LogKind::Machine => &[
+            Row("yes ", Place::Alone, "'verdict':'yes','steps':$,'roots':$"),
+            Row(
+                "no ",
+                Place::Alone,
+                "'verdict':'no','line':$,'number':$,'name':'$'",
+            ),
+        ],
+        LogKind::Heap => &[
+            Row("yes ", Place::Alone, "'verdict':'yes','events':$,'live':$"),
+            Row(
+                "no ",
+                Place::Alone,
+                "'verdict':'no','line':$,'number':$,'name':'$'",
+            ),
+        ],
+        LogKind::Run => &[
+            Row(
+                "yes ",
+                Place::Alone,
+                "'verdict':'yes','steps':$,'roots':$,'objects':$",
+            ),
+            Row(
+                "no ",
+                Place::Alone,
+                "'verdict':'no','line':$,'number':$,'name':'$'",
+            ),
+        ],
+    }
+}
+
+// The lines that describe no capability.
+#[tactic(auto, unfolding(crate::specs::Rows::lone_rows))]
+fn lone_rows() -> &'static [Row]
+    ensures value { map row_parts result.now ≡ lone_rows }
+{
+    &[
+        Row("line ", Place::Alone, "'text':'*'"),
+        Row("found ", Place::Alone, "'found':'*'"),
+        Row("expected ", Place::Alone, "'expected':'*'"),
+        Row("hint ", Place::Alone, "'hint':'*'"),
+        Row("says ", Place::Alone, "'says':'*'"),
+        Row("differs ", Place::Alone, "'differs':'*'"),
+        Row("column ", Place::Alone, "'column':$"),
+        Row("roots ", Place::Alone, "'roots':$"),
+        Row("steps ", Place::Alone, "'steps':$"),
+        Row("granules ", Place::Alone, "'granules':$"),
+        Row("events ", Place::Alone, "'events':$"),
+        Row("objects ", Place::Alone, "'objects':$"),
+        Row("most ", Place::Alone, "'most':$"),
+        Row("inexact ", Place::Alone, "'inexact':$"),
+        Row("excess ", Place::Alone, "'excess':$"),
+        Row("padding ", Place::Alone, "'padding':$"),
+        Row("gaps ", Place::Alone, "'gaps':$"),
+        Row("freed ", Place::Alone, "'freed':$"),
+        Row("gone ", Place::Alone, "'gone':$"),
+        Row("needs ", Place::Alone, "'needs':'$'"),
+        Row("length ", Place::Alone, "'length':'$'"),
+        Row("alignment ", Place::Alone, "'alignment':'$'"),
+        Row("live length ", Place::Alone, "'live_length':'$'"),
+        Row("live alignment ", Place::Alone, "'live_alignment':'$'"),
+        Row("request ", Place::Alone, "'request':['$','$']"),
+        Row("rounded ", Place::Alone, "'rounded':['$','$']"),
+        Row("live request ", Place::Alone, "'live_request':['$','$']"),
+        Row("live rounded ", Place::Alone, "'live_rounded':['$','$']"),
+        Row("moved ", Place::Alone, "'moved':['$','$']"),
+        Row("representable ", Place::Alone, "'representable':['$','$']"),
+        Row("access ", Place::Alone, "'access':['$','$']"),
+        Row("extent ", Place::Alone, "'extent':['$','$']"),
+        Row(
+            "cleared ",
+            Place::Alone,
+            "'cleared':{'number':$,'name':'$'}",
+        ),
+        Row("origin ", Place::Element, "{'place':'$','root':'$'}"),
+        Row("owner ", Place::Element, "{'place':'$','object':$}"),
+        Row(
+            "object ",
+            Place::Element,
+            "{'number':$,'line':$,'extent':['$','$'],'state':'$','held':$}",
+        ),
+    ]
+}
+
+// The lines that describe a capability, by what follows its name.
+#[tactic(auto, unfolding(crate::specs::Rows::part_rows))]
+fn part_rows() -> &'static [Row]
+    ensures value { map row_parts result.now ≡ part_rows }
+{
+    &[
+        Row("perms ", Place::Part, "'perms':'$'"),
+        Row("otype ", Place::Part, "'otype':'$','kind':'$'"),
+        Row("bounds ", Place::Part, "'bounds':['$','$']"),
+        Row("origin ", Place::Part, "'origin':'$'"),
+        Row("owner ", Place::Part, "'owner':$"),
+    ]
+}
+
+// The member that a line is by the first row whose name it begins with.
+#[tactic(auto, unfolding(crate::specs::Members::member_in))]
+fn member_in<'a>(rows: &[Row], line: &'a [u8]) -> Option<Member<'a>>
+    ensures value { option_map member_parts result ≡ member_in (map row_parts rows.now) line.now }
+{
+    let Some((row, rows)) = rows.split_first() else {
+        return None;
+    };
+    let Row(name, place, form) = *row;
+    let name = name.as_bytes();
+    if begins(name, line) {
+        return Some(Member {
+            place,
+            form,
+            values: &line[name.len()..],
+        });
+    }
+    member_in(rows, line)
+}
+
+// The form of a capability's first line by how many words follow its name.
+#[tactic(auto, unfolding(crate::specs::Members::form_by_words))]
+fn form_by_words(values: &[u8]) -> &'static str
+    ensures value { result.now ≡ form_by_words values.now }
+{
+    let (_, second) = cut(b' ', values);
+    let (_, third) = cut(b' ', second);
+    if second.is_empty() {
+        "'value':'$'"
+    } else if third.is_empty() {
+        "'bounds':['$','$']"
+    } else {
+        "'place':'$','tag':$,'word':'$'"
+    }
+}
+
+// The member that a line is by what follows its first word.
+#[tactic(auto, unfolding(crate::specs::Members::described))]
+fn described(values: &[u8]) -> Member<'_>
+    ensures value { member_parts result ≡ described values.now }
+{
+    match member_in(part_rows(), values) {
+        Some(member) => member,
+        None => Member {
+            place: Place::Part,
+            form: form_by_words(values),
+            values,
+        },
+    }
+}
+
+/// The member that a line is.
+#[tactic(auto, unfolding(crate::specs::Members::member_of))]
+pub(crate) fn member_of(line: &[u8]) -> Member<'_>
+    ensures value { member_parts result ≡ member_of line.now }
+{
+    match member_in(lone_rows(), line) {
+        Some(member) => member,
+        None => described(cut(b' ', line).1),
+    }
+}
+
+/// The members that the line of a verdict is.
+#[tactic(auto, unfolding(crate::specs::Members::verdict_of))]
+pub(crate) fn verdict_of(kind: LogKind, line: &[u8]) -> Member<'_>
+    ensures value { member_parts result ≡ verdict_of kind line.now }
+{
+    match member_in(verdict_rows(kind), line) {
+        Some(member) => member,
+        None => described(line),
+    }
+}
