@@ -4,9 +4,10 @@
 _capcheck_options() {
     case $1 in
         'capcheck explain') echo '--memory --tag' ;;
-        'capcheck judge' | 'capdiag why') echo '--origins' ;;
-        'capdiag heap') echo '--report --why' ;;
-        'capdiag run') echo '--freed --owned --owners --why' ;;
+        'capcheck judge') echo '--origins' ;;
+        'capdiag why') echo '--origins --json' ;;
+        'capdiag heap') echo '--report --why --json' ;;
+        'capdiag run') echo '--freed --owned --owners --why --json' ;;
     esac
 }
 

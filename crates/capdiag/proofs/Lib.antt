@@ -1,4 +1,5 @@
 mod ComplaintLemmas
 mod HeapLemmas
+mod ObjectLemmas
 mod RunLogLemmas
 mod RunLemmas

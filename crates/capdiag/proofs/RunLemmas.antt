@@ -12,11 +12,14 @@ use Rattle.cap_report.specs.{FaultReports.IsReport, Whys.Explains}
 use Rattle.cap_program.specs.declared.faults.Fault.{Fault, TheVariants.{BadWords}}
 use Rattle.cap_program.specs.{Commands.IsMeant, Doings.IsDone}
 use Rattle.cap_program.specs.{Faults.status_of, Judging.{ShowsVerdict, StopsJudging, judged}}
-use Rattle.cap_program.proofs.Judgements.{known_of, stopped_unfaulty}
+use Rattle.cap_program.proofs.Judgements.{known_of}
 use Rattle.capdiag.specs.declared.words.Order.{Order, TheVariants.{Help, Version, Why, Heap, Run}}
 use Rattle.cap_run_judge.specs.Judgings.{IsAnswerOf as IsRunAnswerOf}
-use Rattle.capdiag.specs.Answers.{Fails, IsFaulty, Prints, Shows, asks_of, order_meaning}
-use Rattle.capdiag.proofs.{HeapLemmas.{heap_few, heap_known}, RunLogLemmas.{run_few, run_known}}
+use Rattle.capdiag.specs.Answers.{Fails, IsFaulty, Prints, PrintsWhy, Shows, ShowsHeap, ShowsRun, ShowsWhy, asks_of, order_meaning}
+use Rattle.capdiag.proofs.{HeapLemmas.{heap_few, heap_known}, ObjectLemmas.{lacking_unfaulty, renders_few, renders_more}}
+use Rattle.capdiag.proofs.RunLogLemmas.{run_few, run_known}
+use Rattle.cap_json.specs.declared.rows.LogKind.{LogKind}
+use Rattle.cap_run.specs.declared.asks.Asks.{Asks}
 
 -- what was pushed for an answer is what was done for the order
 pub judged_done : (tells : Verdict → List ℕ → Type 0) (given : List ℕ) (ended : Bool) (took : List ℕ → Type 0)
@@ -50,6 +53,25 @@ verdict_known origins known given rest ended verdict text are end answer tells =
   explains_known origins known given rest ended verdict text are end answer.verdict tells,
 )
 
+-- what is shown of the bytes given is printed for all bytes
+why_known : (origins : Bool) (known given rest : List ℕ) (ended : Bool) (text : List ℕ) (status : ℕ) → known ≡ given ++ rest
+    → (ended ≡ true → rest ≡ []) → ShowsWhy origins given ended text status → PrintsWhy origins known text status
+why_known origins known given rest ended text status are end shows =
+    let both = verdict_known origins known given rest ended shows.0 text are end shows.1 shows.2 in
+    (shows.0, both.0, both.1, shows.3)
+
+-- the statuses of what is shown
+why_few : (origins : Bool) (given : List ℕ) (ended : Bool) (text : List ℕ) (status : ℕ) → ShowsWhy origins given ended text status → status ≤ 1
+why_few origins given ended text status shows = let is = shows.3 in let at = verdict_few shows.0 in omega arith
+
+shown_heap_few : (report why : Bool) (given : List ℕ) (ended : Bool) (text : List ℕ) (status : ℕ)
+    → ShowsHeap report why given ended text status → status ≤ 1
+shown_heap_few report why given ended text status shows = let is = shows.3 in let at = heap_few shows.0 in omega arith
+
+shown_run_few : (asks : Asks) (owners why : Bool) (given : List ℕ) (ended : Bool) (text : List ℕ) (status : ℕ)
+    → ShowsRun asks owners why given ended text status → status ≤ 1
+shown_run_few asks owners why given ended text status shows = let is = shows.3 in let at = run_few shows.0 in omega arith
+
 -- the text that belongs to the bytes given is printed for an input that gave them
 shows_known : (order : Option Order) (left rest : Option (List ℕ)) (given : List ℕ) (ended : Bool) (text : List ℕ) (status : ℕ)
     → Consumes left rest given → (ended ≡ true → (xs : List ℕ) → rest ≡ Some xs → xs ≡ [])
@@ -57,16 +79,28 @@ shows_known : (order : Option Order) (left rest : Option (List ℕ)) (given : Li
 shows_known None left rest given ended text status gives all shows = absurd shows
 shows_known (Some Help) left rest given ended text status gives all shows = shows
 shows_known (Some Version) left rest given ended text status gives all shows = shows
-shows_known (Some (Why origins file)) left rest given ended text status gives all shows =
+shows_known (Some (Why origins json file)) left rest given ended text status gives all shows =
+    let k = known_of left rest given ended gives all in (
+      k.bytes,
+      k.are,
+      renders_more json LogKind.Machine (ShowsWhy origins given ended) (PrintsWhy origins k.bytes) text status
+      (λ report is. why_known origins k.bytes given k.more ended report status k.bytes_are k.none_more is) shows,
+    )
+shows_known (Some (Heap report why json file)) left rest given ended text status gives all shows =
+    let k = known_of left rest given ended gives all in (
+      k.bytes,
+      k.are,
+      renders_more json LogKind.Heap (ShowsHeap report why given ended) (ShowsHeap report why k.bytes true) text status
+      (λ told is. heap_known report why k.bytes given k.more ended told status k.bytes_are k.none_more is) shows,
+    )
+shows_known (Some (Run freed owned owners why json file)) left rest given ended text status gives all shows =
     let k = known_of left rest given ended gives all in
-    let both = verdict_known origins k.bytes given k.more ended shows.0 text k.bytes_are k.none_more shows.1 shows.2 in
-    (k.bytes, k.are, shows.0, both.0, both.1, shows.3)
-shows_known (Some (Heap report why file)) left rest given ended text status gives all shows =
-    let k = known_of left rest given ended gives all in
-    (k.bytes, k.are, heap_known report why k.bytes given k.more ended text status k.bytes_are k.none_more shows)
-shows_known (Some (Run freed owned owners why file)) left rest given ended text status gives all shows =
-    let k = known_of left rest given ended gives all in
-    (k.bytes, k.are, run_known (asks_of freed owned) owners why k.bytes given k.more ended text status k.bytes_are k.none_more shows)
+    let asks = asks_of freed owned in (
+      k.bytes,
+      k.are,
+      renders_more json LogKind.Run (ShowsRun asks owners why given ended) (ShowsRun asks owners why k.bytes true) text status
+      (λ report is. run_known asks owners why k.bytes given k.more ended report status k.bytes_are k.none_more is) shows,
+    )
 
 -- the status of a text
 few : (order : Option Order) (given : List ℕ) (ended : Bool) (text : List ℕ) (status : ℕ) → Shows order given ended text status
@@ -74,9 +108,14 @@ few : (order : Option Order) (given : List ℕ) (ended : Bool) (text : List ℕ)
 few None given ended text status shows = absurd shows
 few (Some Help) given ended text status shows = let is = shows.1 in omega arith
 few (Some Version) given ended text status shows = let is = shows.1 in omega arith
-few (Some (Why origins file)) given ended text status shows = let is = shows.3 in let at = verdict_few shows.0 in omega arith
-few (Some (Heap report why file)) given ended text status shows = let is = shows.3 in let at = heap_few shows.0 in omega arith
-few (Some (Run freed owned owners why file)) given ended text status shows = let is = shows.3 in let at = run_few shows.0 in omega arith
+few (Some (Why origins json file)) given ended text status shows =
+    renders_few json LogKind.Machine (ShowsWhy origins given ended) text status (λ report is. why_few origins given ended report status is) shows
+few (Some (Heap report why json file)) given ended text status shows =
+    renders_few json LogKind.Heap (ShowsHeap report why given ended) text status
+    (λ told is. shown_heap_few report why given ended told status is) shows
+few (Some (Run freed owned owners why json file)) given ended text status shows =
+    renders_few json LogKind.Run (ShowsRun (asks_of freed owned) owners why given ended) text status
+    (λ report is. shown_run_few (asks_of freed owned) owners why given ended report status is) shows
 
 -- an order with a text can be followed
 unfaulty : (order : Option Order) (given : List ℕ) (ended : Bool) (text : List ℕ) (status : ℕ) → Shows order given ended text status
@@ -91,9 +130,12 @@ asked_fault None given BadWords fails = (λ two. tt, λ faulty. refl)
 asked_fault None given fault fails = absurd fails
 asked_fault (Some Help) given fault fails = absurd fails
 asked_fault (Some Version) given fault fails = absurd fails
-asked_fault (Some (Why origins file)) given fault fails = stopped_unfaulty (IsAnswerOf given true) fault fails
-asked_fault (Some (Heap report why file)) given fault fails = stopped_unfaulty (IsHeapAnswerOf given true) fault fails
-asked_fault (Some (Run freed owned owners why file)) given fault fails = stopped_unfaulty (IsRunAnswerOf (asks_of freed owned) given true) fault fails
+asked_fault (Some (Why origins json file)) given fault fails =
+    lacking_unfaulty json (ShowsWhy origins given) (IsAnswerOf given true) fault fails
+asked_fault (Some (Heap report why json file)) given fault fails =
+    lacking_unfaulty json (ShowsHeap report why given) (IsHeapAnswerOf given true) fault fails
+asked_fault (Some (Run freed owned owners why json file)) given fault fails =
+    lacking_unfaulty json (ShowsRun (asks_of freed owned) owners why given) (IsRunAnswerOf (asks_of freed owned) given true) fault fails
 
 -- the meaning of an order, its faults and its status agree
 pub orders_meant : IsMeant order_meaning

@@ -9,11 +9,23 @@ use Rattle.cap_run_report.specs.Answers.{ExplainsRun}
 use Rattle.cap_judge.specs.{declared.verdict.Verdict.Verdict, Judgings.IsAnswerOf, VerdictLines.verdict_status}
 use Rattle.cap_judge.specs.Verdicts.{IsVerdict}
 use Rattle.cap_report.specs.Whys.{Explains}
+use Rattle.cap_json.specs.declared.rows.LogKind.TheVariants.{Machine, Heap as OfHeap, Run as OfRun}
 use Rattle.cap_program.specs.{declared.faults.Fault.{Fault, TheVariants.BadWords}, Commands.Meaning}
 use Rattle.cap_program.specs.Judging.{ShowsVerdict, StopsJudging}
 use Rattle.capdiag.specs.declared.words.Order.{Order, TheVariants.{Help, Version, Why, Heap, Run}}
 use Rattle.capdiag.specs.declared.words.Freed.{Freed, TheVariants.{Held, Used, Both}}
-use Rattle.capdiag.specs.Showings.{help_text, version_line}
+use Rattle.capdiag.specs.{Renderings.{Lacks, Renders}, Showings.{help_text, version_line}}
+
+-- the text of the verdict on the bytes given as the log of a machine, with the origins where they are asked for, and its
+-- status
+abbrev pub ShowsWhy : Bool → List ℕ → Bool → List ℕ → ℕ → Type 0
+ShowsWhy origins given ended text status =
+    ShowsVerdict verdict_status (IsAnswerOf given ended) (Explains origins given ended) text status
+
+-- that of the verdict on all bytes
+abbrev pub PrintsWhy : Bool → List ℕ → List ℕ → ℕ → Type 0
+PrintsWhy origins bytes text status =
+    (verdict : Verdict) × IsVerdict bytes verdict × Explains origins bytes true verdict text × (status ≡ verdict_status verdict)
 
 -- the text of the verdict on the bytes given as an allocator's log, with the reports of a yes and of a no where they are
 -- asked for, and its status
@@ -40,18 +52,18 @@ ShowsRun asks owners why given ended text status =
 
 -- the text that an order prints, and its status: that of the verdict on its bytes, with the report of a no and the
 -- origins that are asked for; or that of the verdict on them as an allocator's log or as a run log, with the reports that are
--- asked for
+-- asked for; each as an object of JSON where that is asked for
 abbrev pub Prints : Option Order → Option (List ℕ) → List ℕ → ℕ → Type 0
 Prints None input text status = ⊥
 Prints (Some Help) input text status = (text ≡ help_text) × (status ≡ 0)
 Prints (Some Version) input text status = (text ≡ version_line) × (status ≡ 0)
-Prints (Some (Why origins file)) input text status =
+Prints (Some (Why origins json file)) input text status =
+    (bytes : List ℕ) × IfSome input (λ known. known ≡ bytes) × Renders json Machine (PrintsWhy origins bytes) text status
+Prints (Some (Heap report why json file)) input text status =
+    (bytes : List ℕ) × IfSome input (λ known. known ≡ bytes) × Renders json OfHeap (ShowsHeap report why bytes true) text status
+Prints (Some (Run freed owned owners why json file)) input text status =
     (bytes : List ℕ) × IfSome input (λ known. known ≡ bytes)
-    × (verdict : Verdict) × IsVerdict bytes verdict × Explains origins bytes true verdict text × (status ≡ verdict_status verdict)
-Prints (Some (Heap report why file)) input text status =
-    (bytes : List ℕ) × IfSome input (λ known. known ≡ bytes) × ShowsHeap report why bytes true text status
-Prints (Some (Run freed owned owners why file)) input text status =
-    (bytes : List ℕ) × IfSome input (λ known. known ≡ bytes) × ShowsRun (asks_of freed owned) owners why bytes true text status
+    × Renders json OfRun (ShowsRun (asks_of freed owned) owners why bytes true) text status
 
 -- an order that cannot be followed: there is none
 abbrev pub IsFaulty : Option Order → Type 0
@@ -60,9 +72,9 @@ IsFaulty (Some order) = ⊥
 
 -- an order that reads an input: each that judges
 abbrev pub ReadsInput : Option Order → Type 0
-ReadsInput (Some (Why origins file)) = Unit {0}
-ReadsInput (Some (Heap report why file)) = Unit {0}
-ReadsInput (Some (Run freed owned owners why file)) = Unit {0}
+ReadsInput (Some (Why origins json file)) = Unit {0}
+ReadsInput (Some (Heap report why json file)) = Unit {0}
+ReadsInput (Some (Run freed owned owners why json file)) = Unit {0}
 ReadsInput order = ⊥
 
 -- the text that belongs to an order and the bytes given for it, and its status
@@ -70,17 +82,20 @@ abbrev pub Shows : Option Order → List ℕ → Bool → List ℕ → ℕ → T
 Shows None given ended text status = ⊥
 Shows (Some Help) given ended text status = (text ≡ help_text) × (status ≡ 0)
 Shows (Some Version) given ended text status = (text ≡ version_line) × (status ≡ 0)
-Shows (Some (Why origins file)) given ended text status =
-    ShowsVerdict verdict_status (IsAnswerOf given ended) (Explains origins given ended) text status
-Shows (Some (Heap report why file)) given ended text status = ShowsHeap report why given ended text status
-Shows (Some (Run freed owned owners why file)) given ended text status = ShowsRun (asks_of freed owned) owners why given ended text status
+Shows (Some (Why origins json file)) given ended text status =
+    Renders json Machine (ShowsWhy origins given ended) text status
+Shows (Some (Heap report why json file)) given ended text status = Renders json OfHeap (ShowsHeap report why given ended) text status
+Shows (Some (Run freed owned owners why json file)) given ended text status =
+    Renders json OfRun (ShowsRun (asks_of freed owned) owners why given ended) text status
 
 -- the fault that belongs to an order and the bytes given for it, but for one of the output
 abbrev pub Fails : Option Order → List ℕ → Fault → Type 0
 Fails None given BadWords = Unit {0}
-Fails (Some (Why origins file)) given fault = StopsJudging (IsAnswerOf given true) fault
-Fails (Some (Heap report why file)) given fault = StopsJudging (IsHeapAnswerOf given true) fault
-Fails (Some (Run freed owned owners why file)) given fault = StopsJudging (IsRunAnswerOf (asks_of freed owned) given true) fault
+Fails (Some (Why origins json file)) given fault = Lacks json (ShowsWhy origins given) (StopsJudging (IsAnswerOf given true)) fault
+Fails (Some (Heap report why json file)) given fault =
+    Lacks json (ShowsHeap report why given) (StopsJudging (IsHeapAnswerOf given true)) fault
+Fails (Some (Run freed owned owners why json file)) given fault =
+    Lacks json (ShowsRun (asks_of freed owned) owners why given) (StopsJudging (IsRunAnswerOf (asks_of freed owned) given true)) fault
 Fails order given fault = ⊥
 
 -- what the orders of the program mean

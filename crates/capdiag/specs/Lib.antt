@@ -3,4 +3,5 @@ pub mod Guesses
 pub mod Showings
 pub mod Orders
 pub mod Readings
+pub mod Renderings
 pub mod Answers

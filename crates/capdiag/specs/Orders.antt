@@ -24,33 +24,38 @@ once true order = Err Twice
 
 -- an order with one option more
 abbrev pub with_option : Order → List ℕ → Result Order Complaint
-with_option (Why origins file) word = if bytes_eq word (codes "--origins") then once origins (Why true file) else Err UnknownOption
-with_option (Heap report why file) word =
-    if bytes_eq word (codes "--report") then once report (Heap true why file)
-    else if bytes_eq word (codes "--why") then once why (Heap report true file)
+with_option (Why origins json file) word =
+    if bytes_eq word (codes "--origins") then once origins (Why true json file)
+    else if bytes_eq word (codes "--json") then once json (Why origins true file)
     else Err UnknownOption
-with_option (Run freed owned owners why file) word =
-    if bytes_eq word (codes "--owned") then once owned (Run freed true owners why file)
-    else if bytes_eq word (codes "--owners") then once owners (Run freed owned true why file)
-    else if bytes_eq word (codes "--why") then once why (Run freed owned owners true file)
+with_option (Heap report why json file) word =
+    if bytes_eq word (codes "--report") then once report (Heap true why json file)
+    else if bytes_eq word (codes "--why") then once why (Heap report true json file)
+    else if bytes_eq word (codes "--json") then once json (Heap report why true file)
+    else Err UnknownOption
+with_option (Run freed owned owners why json file) word =
+    if bytes_eq word (codes "--owned") then once owned (Run freed true owners why json file)
+    else if bytes_eq word (codes "--owners") then once owners (Run freed owned true why json file)
+    else if bytes_eq word (codes "--why") then once why (Run freed owned owners true json file)
+    else if bytes_eq word (codes "--json") then once json (Run freed owned owners why true file)
     else Err UnknownOption
 with_option order word = Err UnknownOption
 
 -- whether a word is an option of the order that takes a value, and whether the order has that value
 abbrev pub takes_value : Order → List ℕ → Bool
-takes_value (Run freed owned owners why file) word = bytes_eq word (codes "--freed")
+takes_value (Run freed owned owners why json file) word = bytes_eq word (codes "--freed")
 takes_value order word = false
 
 abbrev pub has_value : Order → Bool
-has_value (Run freed owned owners why file) = is_some freed
+has_value (Run freed owned owners why json file) = is_some freed
 has_value order = false
 
 -- an order with the value of its option
 abbrev pub with_value : Order → List ℕ → Result Order Complaint
-with_value (Run freed owned owners why file) word =
-    if bytes_eq word (codes "held") then Ok (Run (Some Held) owned owners why file)
-    else if bytes_eq word (codes "used") then Ok (Run (Some Used) owned owners why file)
-    else if bytes_eq word (codes "both") then Ok (Run (Some Both) owned owners why file)
+with_value (Run freed owned owners why json file) word =
+    if bytes_eq word (codes "held") then Ok (Run (Some Held) owned owners why json file)
+    else if bytes_eq word (codes "used") then Ok (Run (Some Used) owned owners why json file)
+    else if bytes_eq word (codes "both") then Ok (Run (Some Both) owned owners why json file)
     else Err UnknownValue
 with_value order word = Err UnknownValue
 
@@ -109,9 +114,9 @@ alone order option (word ∷ words) = Err (Alone, option)
 abbrev pub read_words : List (List ℕ) → Read
 read_words [] = Err (NoCommand, [])
 read_words (command ∷ words) =
-    if bytes_eq command (codes "why") then after_command (Why false None) words
-    else if bytes_eq command (codes "heap") then after_command (Heap false false None) words
-    else if bytes_eq command (codes "run") then after_command (Run None false false false None) words
+    if bytes_eq command (codes "why") then after_command (Why false false None) words
+    else if bytes_eq command (codes "heap") then after_command (Heap false false false None) words
+    else if bytes_eq command (codes "run") then after_command (Run None false false false false None) words
     else if bytes_eq command (codes "--help") then alone Help command words
     else if bytes_eq command (codes "--version") then alone Version command words
     else if is_operand command then Err (UnknownCommand, command)
@@ -119,9 +124,9 @@ read_words (command ∷ words) =
 
 -- an order without its file
 abbrev pub without_file : Order → Order
-without_file (Why origins file) = Why origins None
-without_file (Heap report why file) = Heap report why None
-without_file (Run freed owned owners why file) = Run freed owned owners why None
+without_file (Why origins json file) = Why origins json None
+without_file (Heap report why json file) = Heap report why json None
+without_file (Run freed owned owners why json file) = Run freed owned owners why json None
 without_file order = order
 
 -- the file that an operand names: a minus sign alone names standard input, as no operand does
@@ -131,9 +136,9 @@ file_of (Some word) = if bytes_eq word (codes "-") then None else Some word
 
 -- an order that judges has the file that the operand names
 abbrev pub HasFile : Order → Option (List ℕ) → Type 0
-HasFile (Why origins file) operand = file_of operand ≡ option_map (λ word. word.now) file
-HasFile (Heap report why file) operand = file_of operand ≡ option_map (λ word. word.now) file
-HasFile (Run freed owned owners why file) operand = file_of operand ≡ option_map (λ word. word.now) file
+HasFile (Why origins json file) operand = file_of operand ≡ option_map (λ word. word.now) file
+HasFile (Heap report why json file) operand = file_of operand ≡ option_map (λ word. word.now) file
+HasFile (Run freed owned owners why json file) operand = file_of operand ≡ option_map (λ word. word.now) file
 HasFile order operand = Unit {0}
 
 -- the words ask for this order
@@ -148,7 +153,7 @@ IsComplaint words complaint wrong = read_words words ≡ Err (complaint, wrong)
 -- what an order means of an input that begins with these bytes: `why` judges a run log as `run --why` does, with the owners
 -- where the origins are asked for
 abbrev pub order_on : Order → List ℕ → Order
-order_on (Why origins file) front = if bytes_eq front (codes "run 1\n") then Run None false origins true file else Why origins file
+order_on (Why origins json file) front = if bytes_eq front (codes "run 1\n") then Run None false origins true json file else Why origins json file
 order_on order front = order
 
 -- the line on standard error that names the command for a log of another kind, by the first bytes of the input; none if the
@@ -157,11 +162,11 @@ abbrev pub machine_hint : List ℕ
 machine_hint = codes "capdiag: this is a log of version 1 or 2; capdiag why judges it\n"
 
 abbrev pub hint_for : Order → List ℕ → Option (List ℕ)
-hint_for (Run freed owned owners false file) front =
+hint_for (Run freed owned owners false json file) front =
     if bytes_eq front (codes "capche") then Some machine_hint
     else if bytes_eq front (codes "heap 1") then Some (codes "capdiag: this is the log of an allocator; capdiag heap judges it\n")
     else None
-hint_for (Heap report false file) front =
+hint_for (Heap report false json file) front =
     if bytes_eq front (codes "capche") then Some machine_hint
     else if bytes_eq front (codes "run 1\n") then Some (codes "capdiag: this is a run log; capdiag run judges it\n")
     else None

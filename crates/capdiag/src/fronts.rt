@@ -18,11 +18,16 @@ pub fn order_on<'a>(order: Order<'a>, front: &[u8]) -> Order<'a>
     ensures value { result ≡ order_on order.entry front.now }
 {
     match order {
-        Order::Why { origins, file } if front == RUN_HEADER.as_slice() => Order::Run {
+        Order::Why {
+            origins,
+            json,
+            file,
+        } if front == RUN_HEADER.as_slice() => Order::Run {
             freed: None,
             owned: false,
             owners: origins,
             why: true,
+            json,
             file,
         },
         _ => order,

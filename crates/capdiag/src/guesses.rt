@@ -49,9 +49,11 @@ fn options_of(command: &str) -> &'static [&'static str]
     ensures value { map (λ it. it.now) result.now ≡ options_of command.now }
 {
     match command {
-        "why" => &["--origins", "--help"],
-        "heap" => &["--report", "--why", "--help"],
-        "run" => &["--freed", "--owners", "--owned", "--why", "--help"],
+        "why" => &["--origins", "--json", "--help"],
+        "heap" => &["--report", "--why", "--json", "--help"],
+        "run" => &[
+            "--freed", "--owners", "--owned", "--why", "--json", "--help",
+        ],
         _ => &["--help", "--version"],
     }
 }

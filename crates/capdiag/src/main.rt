@@ -7,6 +7,7 @@ mod fronts;
 mod guesses;
 mod help;
 mod judges;
+mod objects;
 #[cfg(test)]
 mod rows;
 mod runs;

@@ -85,6 +85,12 @@ pub const ROWS: &str = r#"
 2 heap --report --report / heap --report --why log --report --why
 ! capdiag: given twice: '--report'; see capdiag --help
 
+2 heap --jsn / heap log --jsn
+! capdiag: unknown option '--jsn'; did you mean --json? see capdiag --help
+
+2 why --json --json / run --json --why log --json / heap --why --json --report --json
+! capdiag: given twice: '--json'; see capdiag --help
+
 2 --help why / why --help log / why log --help / heap --report --help / heap --help --help
 ! capdiag: other words beside '--help'; see capdiag --help
 
@@ -100,9 +106,9 @@ pub const ROWS: &str = r#"
 
 # how it is used
 0 --help / why --help / heap --help / run --help
-= usage: capdiag why [--origins] [FILE]
-=        capdiag heap [--report] [--why] [FILE]
-=        capdiag run [--freed held|used|both] [--owned] [--owners] [--why] [FILE]
+= usage: capdiag why [--origins] [--json] [FILE]
+=        capdiag heap [--report] [--why] [--json] [FILE]
+=        capdiag run [--freed held|used|both] [--owned] [--owners] [--why] [--json] [FILE]
 =        capdiag --help | --version
 =
 = Judge a log, from FILE or standard input. See capdiag(1), docs/FORMAT.md.
@@ -307,4 +313,54 @@ pub const ROWS: &str = r#"
 # no bytes of an allocator's log
 1 heap
 = no 1 5 Truncated
+
+# as objects of JSON
+0 why --json / why --json log / why log --json / why - --json --origins
+| capcheck 1 / end 0
+= {"verdict":"yes","steps":0,"roots":0}
+
+1 why --json / why --json --origins log
+| capcheck 1 / root c1 ffff1ffffc0180040000000000000000
+| setaddr c2 c1 0000000000001000 = 1 ffff1ffffc0180040000000000001000
+| setbounds c3 c2 0000000000000020 = 1 ffff1ffff80810000000000000001000
+| setbounds c4 c3 0000000000000021 = 1 ffff1ffff80850000000000000001000 / end 3
+= {"verdict":"no","line":5,"number":11,"name":"BoundsEscape","text":"setbounds c4 c3 0000000000000021 = 1 ffff1ffff80850000000000000001000","source":{"place":"c3","tag":1,"word":"ffff1ffff80810000000000000001000","perms":"00078fff","otype":"3ffff","kind":"unsealed","bounds":["0000000000001000","00000000000001020"],"origin":"c1"},"request":["0000000000001000","00000000000001021"],"rounded":["0000000000001000","00000000000001021"],"says":"the request ends one byte above c3's bounds"}
+
+1 why --json
+| capcheck 1 / move "\
+= {"verdict":"no","line":2,"number":3,"name":"BadLine","text":"move \"\\x5c","column":6,"found":"\"\\x5c","expected":"a register that is written, c1 to c31, then a space","hint":"the line ends too early"}
+
+0 why --json --origins
+| capcheck 1 / root c1 ffff1ffffc0180040000000000000000 / move c2 c1 = 1 ffff1ffffc0180040000000000000000
+| sc c2 c1 16 / cleartag c1 c1 = 0 ffff1ffffc0180040000000000000000 / end 3
+= {"verdict":"yes","steps":3,"roots":1,"origin":[{"place":"c2","root":"c1"},{"place":"@0000000000000010","root":"c1"}]}
+
+1 heap --json log
+| heap 1 / end 0
+= {"verdict":"no","line":2,"number":4,"name":"Misplaced"}
+
+1 heap --why --json / heap --json --report --why log
+| heap 1 / root 0000000000000000 10000000000000000 / malloc 0000000000010000 0000000000001001
+| malloc 0000000000011001 0000000000000001 / end 2
+= {"verdict":"no","line":4,"number":28,"name":"Overlaps","text":"malloc 0000000000011001 0000000000000001","request":["0000000000011001","00000000000011002"],"rounded":["0000000000011001","00000000000011002"],"live_request":["0000000000010000","00000000000011001"],"live_rounded":["0000000000010000","00000000000011008"],"length":"00000000000000001","alignment":"00000000000000001","live_length":"00000000000001008","live_alignment":"00000000000000008"}
+
+0 heap --report --json / heap --json --why log --report
+| heap 1 / root 0000000000000000 10000000000000000 / malloc 0000000000010000 0000000000001001 / end 1
+= {"verdict":"yes","events":1,"live":1,"objects":1,"most":1,"inexact":1,"excess":7,"padding":7,"gaps":0}
+
+0 run --json --freed used --owners log / run --owned --owners --freed used --json -
+| run 1 / mode strict / root c1 ffff1ffffc0180040000000000000000
+| setaddr c2 c1 0000000000001000 = 1 ffff1ffffc0180040000000000001000
+| setbounds c2 c2 0000000000000020 = 1 ffff1ffff80810000000000000001000
+| object c2 / free c2 / setaddr c3 c1 0000000000001000 = 1 ffff1ffffc0180040000000000001000
+| setbounds c3 c3 0000000000000020 = 1 ffff1ffff80810000000000000001000 / object c3 / end 7
+= {"verdict":"yes","steps":7,"roots":1,"objects":2,"object":[{"number":1,"line":6,"extent":["0000000000001000","00000000000001020"],"state":"freed","held":1},{"number":2,"line":10,"extent":["0000000000001000","00000000000001020"],"state":"live","held":1}],"owner":[{"place":"c2","object":1},{"place":"c3","object":2}]}
+
+1 run log --why --json / why --json
+| run 1 / mode strict / root c1 ffff1ffff80810000000000000001000 / object c1 / object c1 / end 2
+= {"verdict":"no","line":5,"number":35,"name":"HasOwner","text":"object c1","register":{"place":"c1","tag":1,"word":"ffff1ffff80810000000000000001000","perms":"00078fff","otype":"3ffff","kind":"unsealed","bounds":["0000000000001000","00000000000001020"],"owner":1},"object":[{"number":1,"line":4,"extent":["0000000000001000","00000000000001020"],"state":"live","held":1}],"holder":{"place":"c1","tag":1,"word":"ffff1ffff80810000000000000001000","perms":"00078fff","otype":"3ffff","kind":"unsealed","bounds":["0000000000001000","00000000000001020"]},"says":"an object owns what the register holds"}
+
+3 why --json gone
+| capcheck 1 / end 0
+! capdiag: cannot open 'gone': no such file
 "#;

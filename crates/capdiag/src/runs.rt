@@ -5,7 +5,8 @@ ghost use Rattle.cap_program.specs.{Doings.known_bytes, Runs.IsRan};
 ghost use Rattle.capdiag.specs.Answers.{order_meaning};
 
 use crate::help::{show_help, show_version};
-use crate::judges::{asks_of, explain_source, judge_heap_source, judge_run_source};
+use crate::judges::asks_of;
+use crate::objects::{explain_as, judge_heap_as, judge_run_as};
 use crate::words::Order;
 use cap_log::{Sink, Source};
 use cap_program::{Command, Fault};
@@ -35,12 +36,17 @@ impl Command for Order<'_> {
         match self {
             Order::Help => show_help(out),
             Order::Version => show_version(out),
-            Order::Why { origins, .. } => match input {
-                Some(source) => explain_source(alloc, origins, source, out),
+            Order::Why { origins, json, .. } => match input {
+                Some(source) => explain_as(alloc, origins, json, source, out),
                 None => Err(Fault::Read),
             },
-            Order::Heap { report, why, .. } => match input {
-                Some(source) => judge_heap_source(alloc, report, why, source, out),
+            Order::Heap {
+                report,
+                why,
+                json,
+                ..
+            } => match input {
+                Some(source) => judge_heap_as(alloc, report, why, json, source, out),
                 None => Err(Fault::Read),
             },
             Order::Run {
@@ -48,13 +54,15 @@ impl Command for Order<'_> {
                 owned,
                 owners,
                 why,
+                json,
                 ..
             } => match input {
-                Some(source) => judge_run_source(
+                Some(source) => judge_run_as(
                     alloc,
                     asks_of(freed, owned),
                     owners,
                     why,
+                    json,
                     source,
                     out,
                 ),

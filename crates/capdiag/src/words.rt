@@ -16,25 +16,29 @@ pub enum Order<'a> {
     Help,
     /// `--version`: tell its version.
     Version,
-    /// `why [--origins] [FILE]`: judge the file, or standard input where no file is named, and report a `no`.
+    /// `why [--origins] [--json] [FILE]`: judge the file, or standard input where no file is named, and report a `no`.
     Why {
         /// Whether the root of each capability in the last state is asked for.
         origins: bool,
+        /// Whether what is printed is an object of JSON.
+        json: bool,
         /// The file's name, which is not `-`.
         file: Option<&'a str>,
     },
-    /// `heap [--report] [--why] [FILE]`: judge the file, or standard input where no file is named, as an allocator's
+    /// `heap [--report] [--why] [--json] [FILE]`: judge the file, or standard input where no file is named, as an allocator's
     /// log.
     Heap {
         /// Whether after a `yes` the report is asked for.
         report: bool,
         /// Whether after a `no` the report is asked for.
         why: bool,
+        /// Whether what is printed is an object of JSON.
+        json: bool,
         /// The file's name, which is not `-`.
         file: Option<&'a str>,
     },
-    /// `run [--freed held|used|both] [--owned] [--owners] [--why] [FILE]`: judge the file, or standard input where no file
-    /// is named, as a run log.
+    /// `run [--freed held|used|both] [--owned] [--owners] [--why] [--json] [FILE]`: judge the file, or standard input where
+    /// no file is named, as a run log.
     Run {
         /// What is asked of freed objects, where `--freed` says it.
         freed: Option<Freed>,
@@ -44,6 +48,8 @@ pub enum Order<'a> {
         owners: bool,
         /// Whether after a `no` the report is asked for.
         why: bool,
+        /// Whether what is printed is an object of JSON.
+        json: bool,
         /// The file's name, which is not `-`.
         file: Option<&'a str>,
     },
@@ -70,79 +76,163 @@ fn once<'a>(is_given: bool, order: Order<'a>) -> Result<Order<'a>, Complaint>
     Ok(order)
 }
 
+// An order of `why` with one option more.
+fn with_why_option<'a>(
+    origins: bool,
+    json: bool,
+    file: Option<&'a str>,
+    word: &str,
+) -> Result<Order<'a>, Complaint>
+    ensures value { result ≡ with_option (Order.Why origins json file.entry) word.now }
+{
+    match word {
+        "--origins" => once(
+            origins,
+            Order::Why {
+                origins: true,
+                json,
+                file,
+            },
+        ),
+        "--json" => once(
+            json,
+            Order::Why {
+                origins,
+                json: true,
+                file,
+            },
+        ),
+        _ => Err(Complaint::UnknownOption),
+    }
+}
+
+// An order of `heap` with one option more.
+fn with_heap_option<'a>(
+    report: bool,
+    why: bool,
+    json: bool,
+    file: Option<&'a str>,
+    word: &str,
+) -> Result<Order<'a>, Complaint>
+    ensures value { result ≡ with_option (Order.Heap report why json file.entry) word.now }
+{
+    match word {
+        "--report" => once(
+            report,
+            Order::Heap {
+                report: true,
+                why,
+                json,
+                file,
+            },
+        ),
+        "--why" => once(
+            why,
+            Order::Heap {
+                report,
+                why: true,
+                json,
+                file,
+            },
+        ),
+        "--json" => once(
+            json,
+            Order::Heap {
+                report,
+                why,
+                json: true,
+                file,
+            },
+        ),
+        _ => Err(Complaint::UnknownOption),
+    }
+}
+
+// An order of `run` with one option more.
+fn with_run_option<'a>(
+    freed: Option<Freed>,
+    owned: bool,
+    owners: bool,
+    why: bool,
+    json: bool,
+    file: Option<&'a str>,
+    word: &str,
+) -> Result<Order<'a>, Complaint>
+    ensures value { result ≡ with_option (Order.Run freed owned owners why json file.entry) word.now }
+{
+    match word {
+        "--owned" => once(
+            owned,
+            Order::Run {
+                freed,
+                owned: true,
+                owners,
+                why,
+                json,
+                file,
+            },
+        ),
+        "--owners" => once(
+            owners,
+            Order::Run {
+                freed,
+                owned,
+                owners: true,
+                why,
+                json,
+                file,
+            },
+        ),
+        "--why" => once(
+            why,
+            Order::Run {
+                freed,
+                owned,
+                owners,
+                why: true,
+                json,
+                file,
+            },
+        ),
+        "--json" => once(
+            json,
+            Order::Run {
+                freed,
+                owned,
+                owners,
+                why,
+                json: true,
+                file,
+            },
+        ),
+        _ => Err(Complaint::UnknownOption),
+    }
+}
+
 // An order with one option more.
 fn with_option<'a>(order: Order<'a>, word: &str) -> Result<Order<'a>, Complaint>
     ensures value { result ≡ with_option order.entry word.now }
 {
     match order {
-        Order::Why { origins, file } => match word {
-            "--origins" => once(
-                origins,
-                Order::Why {
-                    origins: true,
-                    file,
-                },
-            ),
-            _ => Err(Complaint::UnknownOption),
-        },
-        Order::Heap { report, why, file } => match word {
-            "--report" => once(
-                report,
-                Order::Heap {
-                    report: true,
-                    why,
-                    file,
-                },
-            ),
-            "--why" => once(
-                why,
-                Order::Heap {
-                    report,
-                    why: true,
-                    file,
-                },
-            ),
-            _ => Err(Complaint::UnknownOption),
-        },
+        Order::Why {
+            origins,
+            json,
+            file,
+        } => with_why_option(origins, json, file, word),
+        Order::Heap {
+            report,
+            why,
+            json,
+            file,
+        } => with_heap_option(report, why, json, file, word),
         Order::Run {
             freed,
             owned,
             owners,
             why,
+            json,
             file,
-        } => match word {
-            "--owned" => once(
-                owned,
-                Order::Run {
-                    freed,
-                    owned: true,
-                    owners,
-                    why,
-                    file,
-                },
-            ),
-            "--owners" => once(
-                owners,
-                Order::Run {
-                    freed,
-                    owned,
-                    owners: true,
-                    why,
-                    file,
-                },
-            ),
-            "--why" => once(
-                why,
-                Order::Run {
-                    freed,
-                    owned,
-                    owners,
-                    why: true,
-                    file,
-                },
-            ),
-            _ => Err(Complaint::UnknownOption),
-        },
+        } => with_run_option(freed, owned, owners, why, json, file, word),
         Order::Help | Order::Version => Err(Complaint::UnknownOption),
     }
 }
@@ -175,6 +265,7 @@ fn with_value<'a>(order: Order<'a>, word: &str) -> Result<Order<'a>, Complaint>
         owned,
         owners,
         why,
+        json,
         file,
         ..
     } = order
@@ -192,6 +283,7 @@ fn with_value<'a>(order: Order<'a>, word: &str) -> Result<Order<'a>, Complaint>
         owned,
         owners,
         why,
+        json,
         file,
     })
 }
@@ -376,6 +468,7 @@ fn read_all<'a>(words: &[&'a str]) -> Result<Asked<'a>, Wrong<'a>>
         "why" => after_command(
             Order::Why {
                 origins: false,
+                json: false,
                 file: None,
             },
             words,
@@ -384,6 +477,7 @@ fn read_all<'a>(words: &[&'a str]) -> Result<Asked<'a>, Wrong<'a>>
             Order::Heap {
                 report: false,
                 why: false,
+                json: false,
                 file: None,
             },
             words,
@@ -394,6 +488,7 @@ fn read_all<'a>(words: &[&'a str]) -> Result<Asked<'a>, Wrong<'a>>
                 owned: false,
                 owners: false,
                 why: false,
+                json: false,
                 file: None,
             },
             words,
@@ -421,19 +516,35 @@ fn order_of<'a>(asked: Asked<'a>) -> Order<'a>
         Some(name) => Some(name),
     };
     match asked.order {
-        Order::Why { origins, .. } => Order::Why { origins, file },
-        Order::Heap { report, why, .. } => Order::Heap { report, why, file },
+        Order::Why { origins, json, .. } => Order::Why {
+            origins,
+            json,
+            file,
+        },
+        Order::Heap {
+            report,
+            why,
+            json,
+            ..
+        } => Order::Heap {
+            report,
+            why,
+            json,
+            file,
+        },
         Order::Run {
             freed,
             owned,
             owners,
             why,
+            json,
             ..
         } => Order::Run {
             freed,
             owned,
             owners,
             why,
+            json,
             file,
         },
         order => order,

@@ -1,0 +1,165 @@
+#!/usr/bin/env python3
+"""Checks what `capdiag --json` prints, on logs drawn at random, against its schema and against the report without --json.
+
+    python3 conformance/json_logs.py CAPDIAG [LOGS [SEED]]
+
+The logs are those of machines, of allocators and of programs, half of them with a line changed, cut, doubled or left out. Each is
+read from a file and from standard input. What is printed has to be valid by docs/report.schema.json, and exactly the object that
+this script makes of the report by the schema. The status is 1 if anything differs."""
+import json
+import os
+import random
+import subprocess
+import sys
+import tempfile
+from collections import Counter
+
+from heap_logs import made
+from run_logs import Drawn, changed
+
+HERE = os.path.dirname(os.path.abspath(__file__))
+with open(os.path.join(HERE, "..", "docs", "report.schema.json"), encoding="ascii") as it:
+    SCHEMA = json.load(it)
+MEMBERS, CAPABILITY = SCHEMA["properties"], SCHEMA["$defs"]["capability"]["properties"]
+# The counts of a yes, and the options, by the subcommand.
+COUNTS = {"why": ("steps", "roots"), "heap": ("events", "live"), "run": ("steps", "roots", "objects")}
+OPTIONS = {"why": ([], ["--origins"]), "heap": (["--why"], ["--report", "--why"]), "run": (["--why"], ["--owners", "--why"], ["--owned", "--freed", "both", "--why"])}
+
+
+def value_of(schema, words):
+    """The value of these words, by its schema, and the words that are left."""
+    if schema.get("type") == "integer" or schema.get("enum") == [0, 1]:
+        return int(words[0]), words[1:]
+    if "prefixItems" in schema:
+        return words[:2], words[2:]
+    if schema.get("type") == "object":
+        fields = {}
+        for name, field in schema["properties"].items():
+            fields[name], words = value_of(field, words)
+        return fields, words
+    return words[0], words[1:]
+
+
+def describe(known, words):
+    """Adds the words of a line that describes a capability to what is known of it."""
+    names = {"otype": ["otype", "kind"]}.get(words[0], [words[0]]) if words[0] in CAPABILITY else None
+    if names is None:
+        names = {1: ["value"], 2: ["bounds"], 3: ["place", "tag", "word"]}[len(words)]
+    else:
+        words = words[1:]
+    for name in names:
+        assert name not in known, name
+        known[name], words = value_of(CAPABILITY[name], words)
+    assert not words, words
+
+
+def object_of(report, command):
+    """The object of a report, by the schema."""
+    verdict, *lines = report.split("\n")[:-1]
+    words = verdict.split(" ")
+    names = COUNTS[command] if words[0] == "yes" else ("line", "number", "name")
+    it = {"verdict": words[0]}
+    for name, word in zip(names, words[1:], strict=True):
+        it[name] = word if name == "name" else int(word)
+    for line in lines:
+        name, rest = line.split(" ", 1)
+        if name == "live":
+            second, rest = rest.split(" ", 1)
+            name = "live_" + second
+        name = "text" if name == "line" else name
+        schema = MEMBERS[name]
+        if "$ref" in schema:
+            describe(it.setdefault(name, {}), rest.split(" "))
+        elif schema.get("type") == "array" and "prefixItems" not in schema:
+            it.setdefault(name, []).append(value_of(schema["items"], rest.split(" "))[0])
+        else:
+            assert name not in it, name
+            it[name], left = (rest, []) if schema == {"type": "string", "description": schema["description"]} else value_of(schema, rest.split(" "))
+            assert not left, line
+    return it
+
+
+class Valid:
+    """Whether an object is valid: by the package jsonschema, or else by the keywords that the schema uses."""
+
+    def __init__(self):
+        try:
+            import jsonschema
+            self.known = jsonschema.Draft202012Validator(SCHEMA)
+            self.known.check_schema(SCHEMA)
+        except ImportError:
+            self.known = None
+
+    def __call__(self, it):
+        if self.known:
+            return self.known.is_valid(it)
+        wanted = SCHEMA["required"] + (SCHEMA["then"]["required"] if it.get("verdict") == "no" else [])
+        return all(name in it for name in wanted) and self.holds(SCHEMA, it)
+
+    def holds(self, schema, it):
+        import re
+        schema = SCHEMA["$defs"]["capability"] if "$ref" in schema else schema
+        if "enum" in schema:
+            return it in schema["enum"]
+        if schema["type"] == "integer":
+            return type(it) is int and it >= 0
+        if schema["type"] == "string":
+            return isinstance(it, str) and re.search(schema.get("pattern", ""), it) is not None
+        if schema["type"] == "array":
+            forms = schema.get("prefixItems") or [schema["items"]] * len(it)
+            return isinstance(it, list) and len(it) == len(forms) and all(map(self.holds, forms, it))
+        return isinstance(it, dict) and all(name in schema["properties"] and self.holds(schema["properties"][name], one) for name, one in it.items()) \
+            and all(name in it for name in schema.get("required", []))
+
+
+def corpus():
+    """The logs of the corpus by their subcommand."""
+    logs = {"why": [], "heap": [], "run": []}
+    for folder, command in (("accepted", "why"), ("rejected", "why"), ("heaps", "heap"), ("runs", "run")):
+        for name in sorted(os.listdir(os.path.join(HERE, folder))):
+            with open(os.path.join(HERE, folder, name), "rb") as it:
+                logs[command].append(it.read())
+    return logs
+
+
+def drawn(rng, known):
+    """The subcommand, its options and a log: one of the corpus, or one drawn at random, half of them changed."""
+    command = rng.choice(["why", "why", "heap", "run"])
+    if command == "why" or rng.random() < 0.5:
+        log = rng.choice(known[command])
+    elif command == "heap":
+        log = made(rng)
+    else:
+        log = Drawn(rng).draw(rng.choice([5, 20, 60]))
+    return command, rng.choice(OPTIONS[command]), changed(rng, log)
+
+
+def main():
+    program, count = sys.argv[1], int(sys.argv[2]) if len(sys.argv) > 2 else 100
+    seed = int(sys.argv[3]) if len(sys.argv) > 3 else 1
+    known, valid, wrong, names = corpus(), Valid(), 0, Counter()
+    with tempfile.TemporaryDirectory() as folder:
+        path = os.path.join(folder, "log")
+        for number in range(count):
+            command, options, log = drawn(random.Random(seed * 1000003 + number), known)
+            with open(path, "wb") as it:
+                it.write(log)
+            plain = subprocess.run([program, command, *options, path], capture_output=True, check=False)
+            read = subprocess.run([program, command, *options, "--json", path], capture_output=True, check=False)
+            piped = subprocess.run([program, command, "--json", *options], input=log, capture_output=True, check=False)
+            report = plain.stdout.decode("ascii")
+            command = "run" if command == "why" and log.startswith(b"run 1\n") else command
+            wanted = object_of(report, command)
+            names[command + " " + wanted.get("name", "yes")] += 1
+            printed = (json.dumps(wanted, separators=(",", ":")) + "\n").encode()
+            same = all((it.stdout, it.stderr, it.returncode) == (printed, plain.stderr, plain.returncode) for it in (read, piped))
+            if not (same and valid(wanted)):
+                wrong += 1
+                print(f"log {number}, {command} {' '.join(options)}: {read.stdout!r}, and not {printed!r}")
+    print(f"{count} logs with --json, by the schema and by the reports: {wrong} otherwise")
+    print(", ".join(f"{name} {many}" for name, many in sorted(names.items())))
+    return 1 if wrong else 0
+
+
+if __name__ == "__main__":
+    sys.exit(main())

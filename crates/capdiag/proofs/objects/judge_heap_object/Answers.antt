@@ -1,0 +1,29 @@
+use Rattle.std.proofs.Common.{◌≡◌, [], ◌++◌, ◌∙◌, List, ap, rules, true, ℕ}
+use Rattle.cap_json.specs.declared.rows.LogKind.{LogKind}
+use Rattle.cap_heap.specs.HeapVerdicts.{IsHeapAnswerOf}
+use Rattle.cap_program.specs.Judging.{StopsJudging}
+use Rattle.capdiag.specs.Answers.{ShowsHeap}
+use Rattle.capdiag.proofs.ObjectLemmas.{object_done, object_read}
+use Rattle.capdiag.proofs.objects.judge_heap_object.Goals as goal
+
+pub returns : goal.returns
+returns g c =
+    let e = c.judge_heap_source-done.ensures in
+    let o = c.push_object.ensures in
+    let shows = ShowsHeap c.args.report c.args.why e.done.0 in
+    let stops = StopsJudging (IsHeapAnswerOf e.done.0 true) in
+    let ended = g.S.Source.ended c.judge_heap_source-done.new.source in
+    let before : c.new.result.writer.now.items ≡ [] = search rules in
+    let after : c.judge_heap_source-done.new.sink.writer.ghost_name ≡ c.new.result.writer.ghost_name
+        → c.as_slice.result.now ≡ c.judge_heap_source-done.new.sink.writer.now.items = λ same. search (rules, c.text-2-1.given.1) in
+    record {
+      done = (
+        e.done.0,
+        e.done.1,
+        object_done LogKind.Heap shows stops ended c.as_slice.result.now _
+        (λ text kept. after kept.0 ∙ kept.1 ∙ ap (λ (held : List ℕ). held ++ text) before) _ _ _ e.done.2 o.object,
+      );
+      read = object_read LogKind.Heap c.as_slice.result.now (g.K.Sink.took c.args.sink.now c.push_object.new.sink) _ _
+          c.judge_heap_source-done.result c.push_object.result o.object e.read;
+      written = o.written;
+    }
