@@ -327,8 +327,8 @@ pub const ROWS: &str = r#"
 = {"verdict":"no","line":5,"number":11,"name":"BoundsEscape","text":"setbounds c4 c3 0000000000000021 = 1 ffff1ffff80850000000000000001000","source":{"place":"c3","tag":1,"word":"ffff1ffff80810000000000000001000","perms":"00078fff","otype":"3ffff","kind":"unsealed","bounds":["0000000000001000","00000000000001020"],"origin":"c1"},"request":["0000000000001000","00000000000001021"],"rounded":["0000000000001000","00000000000001021"],"says":"the request ends one byte above c3's bounds"}
 
 1 why --json
-| capcheck 1 / move "\
-= {"verdict":"no","line":2,"number":3,"name":"BadLine","text":"move \"\\x5c","column":6,"found":"\"\\x5c","expected":"a register that is written, c1 to c31, then a space","hint":"the line ends too early"}
+| capcheck 1 / move "
+= {"verdict":"no","line":2,"number":3,"name":"BadLine","text":"move \"","column":6,"found":"\"","expected":"a register that is written, c1 to c31, then a space","hint":"the line ends too early"}
 
 0 why --json --origins
 | capcheck 1 / root c1 ffff1ffffc0180040000000000000000 / move c2 c1 = 1 ffff1ffffc0180040000000000000000
