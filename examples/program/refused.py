@@ -69,7 +69,8 @@ def each_request(room):
         room.each(words, wanted, program)
     for words in (["round", "0000000000000001", "0000000000001fff"], ["explain", ROOT], ["vectors", "log"], ["judges"], []):
         room.each(words, room.run(words)[0])
-    room.each(["judge"], room.run(["judge"], program="capdiag")[0], "capdiag")
+    for words in (["judge"], ["why", "--origins", "--json"]):
+        room.each(words, room.run(words, program="capdiag")[0], "capdiag")
 
 
 def each_object(room):

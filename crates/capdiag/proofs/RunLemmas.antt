@@ -84,14 +84,14 @@ shows_known (Some (Why origins json file)) left rest given ended text status giv
       k.bytes,
       k.are,
       renders_more json LogKind.Machine (ShowsWhy origins given ended) (PrintsWhy origins k.bytes) text status
-      (λ report is. why_known origins k.bytes given k.more ended report status k.bytes_are k.none_more is) shows,
+          (λ report is. why_known origins k.bytes given k.more ended report status k.bytes_are k.none_more is) shows,
     )
 shows_known (Some (Heap report why json file)) left rest given ended text status gives all shows =
     let k = known_of left rest given ended gives all in (
       k.bytes,
       k.are,
       renders_more json LogKind.Heap (ShowsHeap report why given ended) (ShowsHeap report why k.bytes true) text status
-      (λ told is. heap_known report why k.bytes given k.more ended told status k.bytes_are k.none_more is) shows,
+          (λ told is. heap_known report why k.bytes given k.more ended told status k.bytes_are k.none_more is) shows,
     )
 shows_known (Some (Run freed owned owners why json file)) left rest given ended text status gives all shows =
     let k = known_of left rest given ended gives all in
@@ -99,7 +99,7 @@ shows_known (Some (Run freed owned owners why json file)) left rest given ended 
       k.bytes,
       k.are,
       renders_more json LogKind.Run (ShowsRun asks owners why given ended) (ShowsRun asks owners why k.bytes true) text status
-      (λ report is. run_known asks owners why k.bytes given k.more ended report status k.bytes_are k.none_more is) shows,
+          (λ report is. run_known asks owners why k.bytes given k.more ended report status k.bytes_are k.none_more is) shows,
     )
 
 -- the status of a text

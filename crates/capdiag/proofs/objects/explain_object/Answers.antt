@@ -15,13 +15,13 @@ returns g c =
     let ended = g.S.Source.ended c.explain_source-done.new.source in
     let before : c.new.result.writer.now.items ≡ [] = search rules in
     let after : c.explain_source-done.new.sink.writer.ghost_name ≡ c.new.result.writer.ghost_name
-        → c.as_slice.result.now ≡ c.explain_source-done.new.sink.writer.now.items = λ same. search (rules, c.report-2-1.given.1) in
+    → c.as_slice.result.now ≡ c.explain_source-done.new.sink.writer.now.items = λ same. search (rules, c.report-2-1.given.1) in
     record {
       done = (
         e.done.0,
         e.done.1,
         object_done LogKind.Machine shows stops ended c.as_slice.result.now _
-        (λ text kept. after kept.0 ∙ kept.1 ∙ ap (λ (held : List ℕ). held ++ text) before) _ _ _ e.done.2 o.object,
+            (λ text kept. after kept.0 ∙ kept.1 ∙ ap (λ (held : List ℕ). held ++ text) before) _ _ _ e.done.2 o.object,
       );
       read = object_read LogKind.Machine c.as_slice.result.now (g.K.Sink.took c.args.sink.now c.push_object.new.sink) _ _
           c.explain_source-done.result c.push_object.result o.object e.read;
