@@ -6,7 +6,7 @@ function stepTo(wanted, says = "") {
     const { count, line: fault } = log.judged;
     const line = Math.max(1, Math.min(Math.max(count, fault), Math.trunc(wanted) || 1));
     const { beside } = log;
-    const passed = () => log.beside !== beside || log.line !== line;
+    const passed = () => log.beside !== beside || log.line !== line || !log.judged;
     log.line = line;
     byId("line").value = String(line);
     tellWay(says);
