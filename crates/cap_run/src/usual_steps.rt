@@ -148,6 +148,18 @@ impl<M: TaggedStore> RunMachine<M> {
         if self.objects.count() == 0 {
             return self.make_alone(kind);
         }
+        self.make_among(kind)
+    }
+
+    // Makes it where objects were handed out. The call gets a value of its own: so a step needn't stand in memory where
+    // none was.
+    #[inline(always)]
+    fn make_among<I: Instruction>(&mut self, kind: I) -> Result<(), RunEnd>
+        ensures outcome { let old = numbered_run self.old.machine self.old.specials self.old.objects in
+            Answers (usual_end self.old.asks old (I.step kind)) (usual_after old (I.step kind)) (usual_wants old (I.step kind)) old result
+            (numbered_run self.new.machine self.new.specials self.new.objects) }
+        ensures asks { self.new.asks ≡ self.old.asks }
+    {
         self.make_kind(kind)
     }
 
