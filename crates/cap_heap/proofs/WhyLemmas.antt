@@ -3,7 +3,7 @@ use Rattle.std.proofs.Common.{◌≡◌, ◌⊎◌, ℕ, inl, inr, List, Option,
 use Rattle.cap_bounds.specs.declared.decoding.Interval.{Interval}
 use Rattle.cap_heap.specs.declared.{events.Event.{Event, TheVariants.{Malloc, Free}}, lines.HeapLine.HeapLine}
 use Rattle.cap_heap.specs.declared.{lines.HeapLine.TheVariants.Happens, refusal.HeapRefusal.HeapRefusal}
-use Rattle.cap_heap.specs.declared.refusal.HeapRefusal.TheVariants.{Misplaced, Truncated, WrongCount, LimitPassed}
+use Rattle.cap_heap.specs.declared.refusal.HeapRefusal.TheVariants.{Misplaced, WrongCount, LimitPassed}
 use Rattle.cap_heap.specs.{declared.refusal.HeapRefusal.TheVariants.OutsideHeap, HeapLines.SpellsHeapLine}
 use Rattle.cap_heap.specs.{HeapWhys.{AreHeapDetails, AreEventDetails, count_in, counted_lines}, Objects.Objects}
 
@@ -29,7 +29,7 @@ other_details heap objects at size refusal other details differs is told =
 
 -- the details of a line whose refusal is decided by how many events there were
 pub count_details : (root : Interval) (events : List Event) (before due : List HeapLine) (text : List ℕ) (refusal : HeapRefusal) (details : List ℕ)
-    → (refusal ≡ Misplaced) ⊎ ((refusal ≡ Truncated) ⊎ ((refusal ≡ WrongCount) ⊎ (refusal ≡ LimitPassed)))
+    → (refusal ≡ Misplaced) ⊎ ((refusal ≡ WrongCount) ⊎ (refusal ≡ LimitPassed))
     → details ≡ counted_lines due refusal (count_in before) → AreHeapDetails root events before due text refusal details
 count_details root events before due text refusal details (inl e) is =
     subst (λ (r : HeapRefusal). details ≡ counted_lines due r (count_in before) → AreHeapDetails root events before due text r details) (sym e)
@@ -37,9 +37,6 @@ count_details root events before due text refusal details (inl e) is =
 count_details root events before due text refusal details (inr (inl e)) is =
     subst (λ (r : HeapRefusal). details ≡ counted_lines due r (count_in before) → AreHeapDetails root events before due text r details) (sym e)
     (λ same. same) is
-count_details root events before due text refusal details (inr (inr (inl e))) is =
-    subst (λ (r : HeapRefusal). details ≡ counted_lines due r (count_in before) → AreHeapDetails root events before due text r details) (sym e)
-    (λ same. same) is
-count_details root events before due text refusal details (inr (inr (inr e))) is =
+count_details root events before due text refusal details (inr (inr e)) is =
     subst (λ (r : HeapRefusal). details ≡ counted_lines due r (count_in before) → AreHeapDetails root events before due text r details) (sym e)
     (λ same. same) is
