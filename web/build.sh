@@ -65,7 +65,7 @@ kept_code() {
     archive=crates/$1/out/lib$1.a
     rm -f "$kept"
     [ ! -f "$archive" ] || cp -p "$archive" "$kept"
-    rm -rf web/out/toolchain web/out/kept.*
+    rm -rf web/out/toolchain web/out/kept.ir web/out/kept.ll
     mkdir -p web/out/toolchain/bin
     ln -s "$kit"/toolchain/bin/* web/out/toolchain/bin
     ln -s "$kit/toolchain/lib" web/out/toolchain/lib
