@@ -2,7 +2,7 @@
 use Rattle.std.proofs.Common.{◌≡◌, ◌≢◌, ℕ, ◌+◌, ◌^◌, ◌≤◌, inl, inr, Bool, true, List, [], ◌∷◌, ◌++◌, length, refl, sym}
 use Rattle.std.proofs.Common.{ap, subst, ◌∙◌, append-nil, append_assoc, arith, Result, Ok, Err, length-append}
 use Rattle.std.proofs.lemmas.{Grind.flat_map-append, List.{length_push, length-map, take-append-le, Elements.All-nil}}
-use Rattle.cap_streams.specs.declared.{judge_faults.JudgeFault.TheVariants.Pull, sources.PullFault.PullFault}
+use Rattle.cap_streams.specs.declared.{judging.judge_faults.JudgeFault.TheVariants.Pull, sources.PullFault.PullFault}
 use Rattle.cap_streams.specs.declared.lines.{Lines.Lines, Next.{Next, TheVariants.{Line, LineTooLong, Truncated}}}
 use Rattle.cap_streams.specs.{declared.lines.Next.TheVariants.Finished, Front.{IsLine, IsCut, IsFrontText, IsTooLong}}
 use Rattle.cap_streams.specs.Takings.{IsNext, Answered, kept, over_of}

@@ -1,6 +1,6 @@
 -- What a judge that pushes a text tells.
 use Rattle.std.proofs.Common.{ℕ, Bool, true, false, List, take, refl, Ok, Err}
-use Rattle.cap_streams.specs.declared.judge_faults.JudgeToFault.TheVariants.{Push}
+use Rattle.cap_streams.specs.declared.judging.judge_faults.JudgeToFault.TheVariants.{Push}
 use Rattle.cap_heap.specs.declared.{progress.Progress.Progress, verdict.HeapVerdict.HeapVerdict}
 use Rattle.cap_heap.specs.{declared.verdict.HeapVerdict.TheVariants.{Yes, No}, HeapVerdicts.ReportsAfter}
 use Rattle.cap_heap.specs.{Judgings.{JudgedBy, StopsAfter}, Texts.IsText, VerdictLines.{TellsHeap, Told, heap_line}}

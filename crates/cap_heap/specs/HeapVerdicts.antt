@@ -2,7 +2,7 @@
 use Rattle.std.specs.Prelude.{◌≡◌, ℕ, ◌+◌, ◌-◌, ◌^◌, ◌<◌, Bool, true, not, List, [], ◌∷◌, ◌++◌, length, count_by, fold}
 use Rattle.std.specs.Prelude.{Result, IfOk, IfErr}
 use Rattle.cap_bounds.specs.declared.decoding.Interval.{Interval}
-use Rattle.cap_streams.specs.{declared.judge_faults.JudgeFault.{JudgeFault, TheVariants.{Pull, NoMemory}}, Front.IsCut}
+use Rattle.cap_streams.specs.{declared.judging.judge_faults.JudgeFault.{JudgeFault, TheVariants.{Pull, NoMemory}}, Front.IsCut}
 use Rattle.cap_heap.specs.declared.{events.Event.{Event, TheVariants.Malloc}, lines.HeapLine.HeapLine}
 use Rattle.cap_heap.specs.declared.{lines.HeapLine.TheVariants.{Happens, End}, report.HeapReport.HeapReport}
 use Rattle.cap_heap.specs.declared.verdict.HeapVerdict.{HeapVerdict, TheVariants.{Yes, No}}

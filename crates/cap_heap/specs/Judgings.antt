@@ -1,6 +1,6 @@
 -- What a judge answers at the line where it stops (this profile's own).
 use Rattle.std.specs.Prelude.{ℕ, Bool, List, Result, Ok, Err, IfOk}
-use Rattle.cap_streams.specs.declared.judge_faults.JudgeFault.{JudgeFault, TheVariants.NoMemory}
+use Rattle.cap_streams.specs.declared.judging.judge_faults.JudgeFault.{JudgeFault, TheVariants.NoMemory}
 use Rattle.cap_heap.specs.declared.{events.EventEnd.EventEnd, progress.Progress.Progress}
 use Rattle.cap_heap.specs.declared.refusal.HeapRefusal.{HeapRefusal, TheVariants.{Misplaced, Truncated}}
 use Rattle.cap_heap.specs.declared.{log_parts.LogPart.{LogPart, TheVariants.Ended}, verdict.HeapVerdict.HeapVerdict}

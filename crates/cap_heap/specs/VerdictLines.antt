@@ -1,8 +1,8 @@
 -- The line of a verdict on an allocator's log, and what a judge that writes it answers and writes (this profile's own,
 -- as are all below).
 use Rattle.std.specs.Prelude.{◌≡◌, ℕ, Bool, true, false, List, [], ◌++◌, take, codes, decimal, Result, Ok, Err}
-use Rattle.cap_streams.specs.declared.judge_faults.JudgeToFault.{JudgeToFault, TheVariants.{Pull, NoMemory, Push}}
-use Rattle.cap_streams.specs.declared.judge_faults.JudgeFault.TheVariants as faults
+use Rattle.cap_streams.specs.declared.judging.judge_faults.JudgeToFault.{JudgeToFault, TheVariants.{Pull, NoMemory, Push}}
+use Rattle.cap_streams.specs.declared.judging.judge_faults.JudgeFault.TheVariants as faults
 use Rattle.cap_heap.specs.declared.{report.HeapReport.HeapReport, verdict.HeapVerdict.HeapVerdict}
 use Rattle.cap_heap.specs.{declared.verdict.HeapVerdict.TheVariants.{Yes, No}, HeapReports.report_lines}
 use Rattle.cap_heap.specs.{HeapVerdicts.{IsHeapAnswerOf, Lasts, ReportsAfter}, HeapWhys.IsHeapReport}

@@ -2,8 +2,8 @@
 use Rattle.std.specs.Io.KnownBytes.{Consumes}
 use Rattle.std.proofs.Common.{◌≡◌, ◌≢◌, ◌↔◌, ℕ, Bool, true, List, [], ◌++◌, Option, None, Some, Result, Ok, Err, IfSome}
 use Rattle.std.proofs.Common.{refl, sym, append-nil}
-use Rattle.cap_streams.specs.declared.judge_faults.{JudgeFault.JudgeFault, JudgeToFault.JudgeToFault}
-use Rattle.cap_streams.specs.{declared.judge_faults.JudgeToFault.TheVariants.{Pull, NoMemory, Push}, Streams.next_count}
+use Rattle.cap_streams.specs.declared.judging.judge_faults.{JudgeFault.JudgeFault, JudgeToFault.JudgeToFault}
+use Rattle.cap_streams.specs.{declared.judging.judge_faults.JudgeToFault.TheVariants.{Pull, NoMemory, Push}, Streams.next_count}
 use Rattle.cap_program.specs.{declared.faults.Fault.Fault, Doings.IsCounted, Faults.status_of}
 use Rattle.cap_program.specs.Judging.{StopsJudging, judged}
 

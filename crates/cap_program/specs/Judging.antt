@@ -1,8 +1,8 @@
 -- What a program does with the answer of a judge that writes. All of it is this profile's own.
 use Rattle.std.specs.Prelude.{◌≡◌, ℕ, List, Result, Ok, Err}
-use Rattle.cap_streams.specs.declared.judge_faults.{JudgeFault.JudgeFault, JudgeToFault.JudgeToFault}
-use Rattle.cap_streams.specs.declared.judge_faults.JudgeFault.TheVariants as judge_faults
-use Rattle.cap_streams.specs.declared.judge_faults.JudgeToFault.TheVariants as judging
+use Rattle.cap_streams.specs.declared.judging.judge_faults.{JudgeFault.JudgeFault, JudgeToFault.JudgeToFault}
+use Rattle.cap_streams.specs.declared.judging.judge_faults.JudgeFault.TheVariants as judge_faults
+use Rattle.cap_streams.specs.declared.judging.judge_faults.JudgeToFault.TheVariants as judging
 use Rattle.cap_program.specs.declared.faults.Fault.{Fault, TheVariants.{Read, Write, NoMemory}}
 
 -- the fault of a program whose judge has one

@@ -8,7 +8,7 @@ use crate::outputs::Output;
 use cap_log::buffers::put;
 use cap_log::{PushFault, Sink, push_all};
 
-/// Hands on the text of an order that was followed. Where the output fails then, this is the fault.
+/// Hands on the text of an order that was followed. If the output fails then, this is the fault.
 pub fn hand_on<K: Output>(done: Result<u8, Fault>, out: &mut K) -> Result<u8, Fault>
     ensures nothing_taken { K.took out.old out.new [] }
     ensures handed_on { IsHandedOn done (K.faults out.old) (K.faults out.new) result }
@@ -23,8 +23,8 @@ pub fn hand_on<K: Output>(done: Result<u8, Fault>, out: &mut K) -> Result<u8, Fa
     }
 }
 
-/// Tells why an order was not followed, where it was not: pushes the program's name, and what the fault is called, as a
-/// line. Where the sink fails it took a beginning of the line.
+/// Tells why an order was not followed, if it was not: pushes the program's name, and what the fault is called, as a
+/// line. If the sink fails it took a beginning of the line.
 pub fn tell<F: Sink>(program: &str, done: Result<u8, Fault>, faults: &mut F)
     requires short { length program.now ≤ 16 }
     ensures told { TellsFaultLine program.now F.took F.faults done faults.old faults.new }

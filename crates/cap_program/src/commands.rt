@@ -26,7 +26,7 @@ pub trait Command: Copy {
     ) -> Result<u8, Fault>
         ensures followed { IsFollowed meaning (Some self) S.gave S.ended S.faults K.took K.faults input.old input.new out.old out.new result };
 
-    /// Where there is no order, the arguments are wrong.
+    /// If there is no order, the arguments are wrong.
     ghost worded: { (given : List ℕ) → meaning.fails None given BadWords };
 
     /// No input is read then.

@@ -3,7 +3,8 @@
 ghost use Rattle.std.specs.Prelude.{◌≡◌};
 ghost use Rattle.cap_program.specs.{declared.faults.Fault.TheVariants.{Read, Write}, Judging.fault_of};
 
-use cap_log::{JudgeToFault, PullFault, PushFault};
+use cap_log::{PullFault, PushFault};
+use cap_streams::judging::JudgeToFault;
 
 /// Why a program did not do what it was asked to.
 #[derive(Debug, Clone, Copy, PartialEq, Eq)]

@@ -1,4 +1,4 @@
-//! Where the text of an order goes.
+//! If the text of an order goes.
 
 ghost use Rattle.std.specs.Prelude.{◌≡◌, ℕ, Bool, true, [], take, IfOk, IfErr, OnOk, Ok, Err};
 ghost use Rattle.cap_streams.specs.{Streams.CountsFault, Wrapped.has_flushed};

@@ -7,7 +7,7 @@ use std::alloc::AllocError;
 use std::env;
 use std::io::ErrorKind;
 
-/// The words after the program's name, or `None` where one of them is no text.
+/// The words after the program's name, or `None` if one of them is no text.
 pub fn collect_words(rt: &HostRuntime) -> Result<Option<Vec<String>>, AllocError> {
     let args = match env::args(rt) {
         Ok(args) => args,

@@ -5,21 +5,18 @@
 //! the front of some bytes, and [`Lines`] are the lines of what a source gives, however it is cut. A [`Sink`] takes
 //! bytes a piece at a time, and [`push_all`] pushes a whole text.
 //!
-//! A judge of lines reports the [`FaultLine`] at which it stopped, and why it gave no verdict: [`JudgeFault`], or
-//! [`JudgeToFault`] if it writes one.
+//! A judge of lines reports the [`FaultLine`](judging::FaultLine) at which it stopped, and why it gave no verdict: [`JudgeFault`](judging::JudgeFault), or
+//! [`JudgeToFault`](judging::JudgeToFault) if it writes one.
 #![tactic(auto)]
 
-mod fault_lines;
 mod fronts;
-mod judge_faults;
+pub mod judging;
 mod lines;
 mod read_buffer;
 mod sinks;
 mod sources;
 
-pub use crate::fault_lines::FaultLine;
 pub use crate::fronts::{LINE_LIMIT, front};
-pub use crate::judge_faults::{JudgeFault, JudgeToFault};
 pub use crate::lines::{Front, Lines, Next};
 pub use crate::read_buffer::ReadBuffer;
 pub use crate::sinks::faults::FailingSink;

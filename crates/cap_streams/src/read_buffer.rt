@@ -2,10 +2,11 @@
 
 ghost use Rattle.std.specs.Prelude.{◌≡◌, ℕ, ◌+◌, ◌<◌, ◌≤◌, List, [], ◌++◌, ◌==◌, false, length, take, drop, IfOk, OnOk};
 ghost use Rattle.std.specs.Prelude.{OnErr};
-ghost use Rattle.cap_streams.specs.Streams.{next_count};
+ghost use Rattle.cap_streams.specs.{Streams.next_count, declared.read_buffer.TheConstants.SIZE};
 
 use crate::sources::{PullFault, Source};
 
+// How many bytes a buffer has.
 pub(crate) const SIZE: usize = 32768;
 
 /// The bytes of a source that were pulled and not yet taken, and room after them.
@@ -15,7 +16,7 @@ pub struct ReadBuffer {
     start: usize,
     end: usize,
     ghost ordered: { start ≤ end },
-    ghost within: { end ≤ 32768 },
+    ghost within: { end ≤ SIZE },
 }
 
 impl ReadBuffer {
@@ -41,7 +42,7 @@ impl ReadBuffer {
 
     // The first bytes of those held.
     pub(crate) fn before(&self, start: usize, length: usize) -> &[u8]
-        requires { start + length ≤ 32768 }
+        requires { start + length ≤ SIZE }
         ensures value { result.now ≡ take length (drop start self.now.bytes) }
     {
         &self.bytes[start..start + length]
@@ -49,7 +50,7 @@ impl ReadBuffer {
 
     pub(crate) fn start(&self) -> usize
         ensures value { result ≡ self.now.start }
-        ensures bound { result + length (items self.now) ≤ 32768 }
+        ensures bound { result + length (items self.now) ≤ SIZE }
     {
         self.start
     }
@@ -66,7 +67,7 @@ impl ReadBuffer {
 
     fn move_to_front(&mut self)
         ensures items { items self.new ≡ items self.old }
-        ensures room { room self.new + length (items self.new) ≡ 32768 }
+        ensures room { room self.new + length (items self.new) ≡ SIZE }
     {
         let (start, end) = (self.start, self.end);
         self.bytes.copy_within(start..end, 0);
@@ -76,7 +77,7 @@ impl ReadBuffer {
 
     /// Pulls once, and puts what follows what is held: how many bytes. None is the end of the source.
     pub fn fill<S: Source>(&mut self, source: &mut S) -> Result<usize, PullFault>
-        requires room { length (items self.old) < 32768 }
+        requires room { length (items self.old) < SIZE }
         ensures ok { IfOk result (λ n. (more : List ℕ) × (length more ≡ n) × (items self.new ≡ items self.old ++ more)
             × S.gave source.old source.new more × (S.ended source.new ≡ (n == 0))) }
         ensures counted { OnOk result (S.faults source.new ≡ S.faults source.old) }

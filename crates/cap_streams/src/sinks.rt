@@ -1,15 +1,27 @@
 //! Where bytes go.
 
-ghost use Rattle.std.specs.Prelude.{ℕ, ◌≤◌, ◌<◌, ◌^◌, List, [], ◌++◌, length, take, IfOk, OnErr, OnOk};
+ghost use Rattle.std.specs.Prelude.{ℕ, ◌≤◌, ◌<◌, ◌^◌, List, [], ◌++◌, length, take, IfOk, OnErr, OnOk, Some, codes};
 ghost use Rattle.cap_streams.specs.Streams.{CountsFault};
 
 pub mod faults;
 pub mod slices;
 pub mod writers;
 
+use std::{error, fmt};
+
 /// A sink that failed.
 #[derive(Clone, Copy, Debug, PartialEq, Eq)]
 pub struct PushFault;
+
+impl fmt::Display for PushFault {
+    ghost output = { λ fault. Some (codes "the sink failed") };
+
+    fn fmt<W: fmt::Write>(&self, f: &mut fmt::Formatter<W>) -> fmt::Result {
+        f.write_str("the sink failed")
+    }
+}
+
+impl error::Error for PushFault {}
 
 /// Where bytes go, a piece at a time.
 pub trait Sink {

@@ -1,15 +1,27 @@
 //! Where bytes come from.
 
-ghost use Rattle.std.specs.Prelude.{◌≡◌, ℕ, ◌≤◌, ◌<◌, ◌^◌, Bool, false, List, [], ◌++◌, length, take, IfOk, OnErr};
+ghost use Rattle.std.specs.Prelude.{◌≡◌, ℕ, ◌≤◌, ◌<◌, ◌^◌, Bool, false, List, [], ◌++◌, length, take, IfOk, OnErr, Some, codes};
 ghost use Rattle.cap_streams.specs.Streams.{CountsFault, is_end};
 
 pub mod faults;
 pub mod readers;
 pub mod slices;
 
+use std::{error, fmt};
+
 /// A source that failed.
 #[derive(Clone, Copy, Debug, PartialEq, Eq)]
 pub struct PullFault;
+
+impl fmt::Display for PullFault {
+    ghost output = { λ fault. Some (codes "the source failed") };
+
+    fn fmt<W: fmt::Write>(&self, f: &mut fmt::Formatter<W>) -> fmt::Result {
+        f.write_str("the source failed")
+    }
+}
+
+impl error::Error for PullFault {}
 
 /// Where bytes come from, a piece at a time.
 pub trait Source {

@@ -2,8 +2,8 @@
 use Rattle.std.specs.Io.KnownBytes.{Consumes}
 use Rattle.std.proofs.Common.{◌≡◌, ◌≤◌, ◌↔◌, ℕ, Bool, true, false, List, [], ◌++◌, Option, None, Some, Result, Ok, Err}
 use Rattle.std.proofs.Common.{refl, sym, ap, subst, ◌∙◌, append-nil, arith}
-use Rattle.cap_streams.specs.declared.judge_faults.{JudgeFault.JudgeFault, JudgeToFault.JudgeToFault}
-use Rattle.cap_streams.specs.declared.judge_faults.JudgeToFault.TheVariants.{Pull, Push}
+use Rattle.cap_streams.specs.declared.judging.judge_faults.{JudgeFault.JudgeFault, JudgeToFault.JudgeToFault}
+use Rattle.cap_streams.specs.declared.judging.judge_faults.JudgeToFault.TheVariants.{Pull, Push}
 use Rattle.cap_vectors.specs.declared.files.VectorVerdict.{VectorVerdict, TheVariants.{Pass, Fail}}
 use Rattle.cap_vectors.specs.VectorFiles.{FailsFirst, IsVectorVerdict, IsVectorVerdictOf}
 use Rattle.cap_judge.specs.{declared.verdict.Verdict.Verdict, Judgings.IsAnswerOf, Reports.{IsPushedFor, Tells}}

@@ -1,6 +1,6 @@
 -- An answer on all the bytes of a log with its text.
 use Rattle.std.proofs.Common.{◌≡◌, ◌≢◌, ℕ, Bool, List, Result, [], true, refl, Err}
-use Rattle.cap_streams.specs.declared.judge_faults.JudgeToFault.{JudgeToFault}
+use Rattle.cap_streams.specs.declared.judging.judge_faults.JudgeToFault.{JudgeToFault}
 use Rattle.cap_judge.specs.{declared.verdict.Verdict.Verdict, Reports.IsPushedFor}
 use Rattle.cap_report.specs.{declared.answers.Answer.Answer, Answers.{AnswersBytes, without_verdict}, Whys.Explains}
 use Rattle.cap_report.proofs.AnswerLemmas.{of_lack}

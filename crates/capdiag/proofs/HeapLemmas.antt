@@ -2,7 +2,7 @@
 use Rattle.std.proofs.Common.{◌≡◌, ◌≢◌, ◌≤◌, ℕ, Bool, true, false, List, [], ◌∷◌, ◌++◌, Result, Ok, Err, refl, sym, ap}
 use Rattle.std.proofs.{Common.{subst, ◌∙◌, append-nil, append_assoc, arith}, lemmas.List.Elements.All-nil}
 use Rattle.std.proofs.lemmas.Option.{none-some}
-use Rattle.cap_streams.specs.declared.judge_faults.JudgeToFault.{JudgeToFault, TheVariants.{Pull, NoMemory, Push}}
+use Rattle.cap_streams.specs.declared.judging.judge_faults.JudgeToFault.{JudgeToFault, TheVariants.{Pull, NoMemory, Push}}
 use Rattle.cap_heap.specs.declared.{lines.HeapLine.TheVariants.{Header, Root, End}, refusal.HeapRefusal.HeapRefusal}
 use Rattle.cap_heap.specs.declared.verdict.HeapVerdict.{HeapVerdict, TheVariants.{Yes, No}}
 use Rattle.cap_heap.specs.HeapLogs.{CanBeGuardedThroughout, IsFirstHeapFault}

@@ -1,6 +1,6 @@
 -- Laws of texts that are objects of JSON.
 use Rattle.std.proofs.Common.{◌≡◌, ◌≤◌, ◌↔◌, inl, inr, ℕ, Bool, true, false, List, Result, Ok, Err, sym, ap, subst}
-use Rattle.cap_streams.specs.declared.judge_faults.JudgeFault.{JudgeFault}
+use Rattle.cap_streams.specs.declared.judging.judge_faults.JudgeFault.{JudgeFault}
 use Rattle.cap_json.specs.{declared.rows.LogKind.LogKind, Objects.json_of}
 use Rattle.cap_program.specs.declared.faults.Fault.{Fault, TheVariants.{BadWords, BadWord, BadRequest, Read, Write, NoMemory}}
 use Rattle.cap_program.specs.{Doings.{IsCounted, IsDone}, Faults.status_of, Judging.StopsJudging}

@@ -1,8 +1,8 @@
 -- Laws of the answer of a judge of run logs.
 use Rattle.std.proofs.lemmas.List.{append_assoc, Elements.All-nil}
 use Rattle.std.proofs.Common.{◌≡◌, ◌≢◌, ◌≤◌, ℕ, Bool, true, false, List, [], ◌++◌, Result, Ok, Err, refl, sym, ap, subst, ◌∙◌, append-nil, arith}
-use Rattle.cap_streams.specs.declared.judge_faults.JudgeFault.{JudgeFault}
-use Rattle.cap_streams.specs.declared.judge_faults.JudgeToFault.{JudgeToFault, TheVariants.{Pull, NoMemory, Push}}
+use Rattle.cap_streams.specs.declared.judging.judge_faults.JudgeFault.{JudgeFault}
+use Rattle.cap_streams.specs.declared.judging.judge_faults.JudgeToFault.{JudgeToFault, TheVariants.{Pull, NoMemory, Push}}
 use Rattle.cap_run.specs.{declared.asks.Asks.Asks, Run.Run}
 use Rattle.cap_run_judge.specs.declared.verdict.RunVerdict.{RunVerdict, TheVariants.{Yes, No}}
 use Rattle.cap_judge.proofs.{TurnLaws.ended_front, TurnLemmas.front_more}

@@ -7,7 +7,7 @@ ghost use Rattle.cap_report.specs.Whys.{Explains};
 ghost use Rattle.cap_program.specs.{Doings.{IsCounted, IsDone}, Judging.{ShowsVerdict, StopsJudging, judged}};
 ghost use Rattle.cap_run_judge.specs.{Judgings.IsAnswerOf as IsRunAnswerOf, VerdictLines.run_verdict_status};
 ghost use Rattle.cap_run_judge.specs.Reports.{RunReported};
-ghost use Rattle.cap_streams.specs.{declared.judge_faults.JudgeToFault.TheVariants.{Pull, Push}, Streams.CountsOnly};
+ghost use Rattle.cap_streams.specs.{declared.judging.judge_faults.JudgeToFault.TheVariants.{Pull, Push}, Streams.CountsOnly};
 ghost use Rattle.capdiag.specs.Answers.{ShowsHeap, ShowsRun, TellsAsked, asks_of};
 
 use crate::words::Freed;

@@ -1,5 +1,5 @@
 use Rattle.std.proofs.{Common.{Result, subst}, lemmas.Result.err_from_is_err_and}
-use Rattle.cap_streams.specs.{declared.judge_faults.JudgeFault.JudgeFault, FaultLines.bytes_of}
+use Rattle.cap_streams.specs.{declared.judging.judge_faults.JudgeFault.JudgeFault, FaultLines.bytes_of}
 use Rattle.cap_heap.specs.{declared.verdict.HeapVerdict.HeapVerdict, Judgings.JudgedBy}
 use Rattle.cap_heap.proofs.ToldLemmas.{told, broken}
 use Rattle.cap_heap.proofs.output.judge_heap_to.Goals as goal

@@ -2,8 +2,8 @@ use Rattle.std.proofs.Common.{◌≡◌, ◌∙◌, ◌≤◌, List, ap, arith, 
 use Rattle.std.proofs.Common.{length-take-le, take_all, take_at}
 use Rattle.cap_streams.specs.declared.lines.Front.{Front, TheVariants.{Line, TooLong, Cut}}
 use Rattle.cap_streams.specs.Front.{IsFront, IsFrontText}
-use Rattle.cap_streams.proofs.fault_lines.FaultLine.of_front.Goals.{in-Line, in-TooLong, in-Cut}
-use Rattle.cap_streams.proofs.fault_lines.FaultLine.of_front.Goals as goal
+use Rattle.cap_streams.proofs.judging.fault_lines.FaultLine.of_front.Goals.{in-Line, in-TooLong, in-Cut}
+use Rattle.cap_streams.proofs.judging.fault_lines.FaultLine.of_front.Goals as goal
 
 -- How many bytes are held of a front.
 abbrev held : List ℕ → Front → ℕ
