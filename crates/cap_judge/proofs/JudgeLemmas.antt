@@ -6,7 +6,7 @@ use Rattle.std.proofs.{Common.{Some, None, IsTrue}, lemmas.{Bool.{false≢true, 
 use Rattle.std.proofs.lemmas.Option.{none-some}
 use Rattle.cap_bounds.specs.Bounds.{IsSound, is_sound}
 use Rattle.cap_ops.specs.declared.refusal.Refusal.{Refusal, TheVariants.{LineTooLong, Truncated}}
-use Rattle.cap_streams.specs.{declared.judge_faults.JudgeFault.JudgeFault, Front.FrontIs}
+use Rattle.cap_streams.specs.{declared.judging.judge_faults.JudgeFault.JudgeFault, Front.FrontIs}
 use Rattle.cap_log.specs.declared.{kinds.Step.Step, lines.Line.Line}
 use Rattle.cap_log.specs.Lines.{Spells, spelling, IsInRange, IsStepInRange}
 use Rattle.cap_log.proofs.SpellingLemmas.{one_spelling}

@@ -1,5 +1,4 @@
 mod LogLemmas
-mod RecordedLemmas
 pub mod JudgeLemmas
 mod VersionLemmas
 pub mod EscapeLaws

@@ -7,7 +7,7 @@ use Rattle.std.proofs.lemmas.{Bool.{cond-true, cond-false, cases_lt, false≢tru
 use Rattle.std.proofs.lemmas.List.Elements.{All-nil, Contains-append_left, Contains-append_right}
 use Rattle.std.proofs.lemmas.Option.{none-some, same_Some}
 use Rattle.cap_word.specs.declared.word.Cap.{Cap}
-use Rattle.cap_streams.specs.declared.judge_faults.JudgeFault.{JudgeFault, TheVariants.{NoMemory, Pull}}
+use Rattle.cap_streams.specs.declared.judging.judge_faults.JudgeFault.{JudgeFault, TheVariants.{NoMemory, Pull}}
 use Rattle.cap_streams.specs.FaultLines.{told_fault}
 use Rattle.cap_log.specs.{declared.lines.Place.{Place, TheVariants.{Register, Granule}}, Lines.IsPlace}
 use Rattle.tagmem.specs.Granules.{AreStored, Entry}

@@ -2,12 +2,12 @@
 use Rattle.std.proofs.Common.{◌≡◌, ◌≢◌, ℕ, ◌+◌, ◌≤◌, Bool, true, false, List, [], ◌∷◌, ◌++◌, length, refl, sym, ap}
 use Rattle.std.proofs.Common.{subst, ◌∙◌, append-nil, append_assoc, arith, Result, Ok, Err, IfOk, IfErr, ◌-◌, ◌*◌, ◌<◌}
 use Rattle.std.proofs.Common.{length-append}
-use Rattle.cap_streams.specs.{declared.judge_faults.JudgeFault.{JudgeFault, TheVariants.{Pull, NoMemory}}, Front.IsCut}
+use Rattle.cap_streams.specs.{declared.judging.judge_faults.JudgeFault.{JudgeFault, TheVariants.{Pull, NoMemory}}, Front.IsCut}
 use Rattle.cap_log.specs.declared.lines.Line.{Line}
 use Rattle.cap_machine.specs.Helds.{Held}
 use Rattle.cap_judge.specs.declared.{faults.RefusedLine.RefusedLine, verdict.Verdict.{Verdict, TheVariants.{Yes, No}}}
 use Rattle.cap_judge.specs.{Judgings.{IsVerdictOf, BeginsLog, IsAnswerOf, JudgedBy, JudgedAll}, Logs.MayLackMemory}
-use Rattle.cap_judge.specs.{Logs.text_of, Readings.{EndsAs, EndsIn, EndsWith, Goes, IsAnswered, lines_read}}
+use Rattle.cap_judge.specs.{Logs.text_of, Readings.{AnswerAtEnd, VerdictAtEnd, VerdictWith, Goes, IsAnswered, lines_read}}
 use Rattle.cap_judge.specs.{Turns.{Stage, unread}, Verdicts.{IsVerdict, NoVerdictIn}}
 use Rattle.cap_judge.proofs.{JudgeLemmas.{guarded, no_lack}, TurnLaws.{begun, count_read}, TurnLemmas.goes_on}
 
@@ -81,11 +81,11 @@ given_more gave {a} {b} {c} taken kept now {more} joined before after is =
 
 -- a yes or a no, where a log ends
 pub ended_answer : (stage : Stage) (rest text : List ℕ) (end : Result Verdict RefusedLine) (answer : Result Verdict JudgeFault)
-    → IsAnswered end answer text → EndsAs stage rest end → (verdict : Verdict) × (answer ≡ Ok verdict) × EndsIn stage rest verdict text
+    → IsAnswered end answer text → AnswerAtEnd stage rest end → (verdict : Verdict) × (answer ≡ Ok verdict) × VerdictAtEnd stage rest verdict text
 ended_answer stage rest text (Ok (Yes steps roots)) answer is ends = (Yes steps roots, is, ends)
 ended_answer stage rest text (Ok (No line refusal)) answer is ends = absurd ends
 ended_answer stage rest text (Err fault) answer is ends =
-    (No fault.line fault.refusal, is.0, subst (EndsIn stage rest (No fault.line fault.refusal)) (sym is.1) ends)
+    (No fault.line fault.refusal, is.0, subst (VerdictAtEnd stage rest (No fault.line fault.refusal)) (sym is.1) ends)
 
 -- which is no want of memory
 pub answered_some : (end : Result Verdict RefusedLine) (answer : Result Verdict JudgeFault) (text : List ℕ) → IsAnswered end answer text
@@ -96,7 +96,7 @@ answered_some (Err fault) answer text is none = cc (is.0)
 module _ {S : Type 0} (gave : S → S → List ℕ → Type 0) (ended : S → Bool) (old new : S) (held : Held) (text given : List ℕ) where
   -- the answer of a verdict
   pub verdict_judged : (answer : Result Verdict JudgeFault) (verdict : Verdict) → answer ≡ Ok verdict
-      → EndsWith given (ended new) held verdict text → gave old new given → JudgedBy gave ended old new answer held text
+      → VerdictWith given (ended new) held verdict text → gave old new given → JudgedBy gave ended old new answer held text
   verdict_judged answer verdict is ends gives =
       rw is
       (record {
@@ -161,7 +161,7 @@ closer old new taken front kept more rest was on split cut left some =
 
 -- the answer of a verdict
 pub all_judged : (bytes text : List ℕ) (held : Held) (answer : Result Verdict JudgeFault) (verdict : Verdict) → answer ≡ Ok verdict
-    → EndsWith bytes true held verdict text → JudgedAll bytes answer held text
+    → VerdictWith bytes true held verdict text → JudgedAll bytes answer held text
 all_judged bytes text held answer verdict is ends =
     rw is (record { answer = answer_ok bytes true verdict ends.0; leads = ends.1; stops = ends.2; pulls_nothing = λ e. cc })
 

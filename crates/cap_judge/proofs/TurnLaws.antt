@@ -16,8 +16,8 @@ use Rattle.cap_judge.specs.declared.verdict.Verdict.{Verdict, TheVariants.{Yes, 
 use Rattle.cap_judge.specs.Judgings.{IsBehind, IsLastFront, IsVerdictOf, account_before}
 use Rattle.cap_judge.specs.Logs.{Beginning, Empty, NoMode, Body as BodyOf, Whole, body_lines, header_lines, lines_of}
 use Rattle.cap_judge.specs.Logs.{text_of, account_after, IsAccepted, IsFirstFault, LacksRoom, MayLackMemory, Refuses, RefusesLine}
-use Rattle.cap_judge.specs.{Logs.{RefusesWhole, RunsBy, has_form, line_checks}, Readings.{BeginsWhole, EndsIn}}
-use Rattle.cap_judge.specs.Readings.{EndsWith, Faults, Follows, Goes, IsAtFault, IsReached, IsRest, Lacks, RefusesNext}
+use Rattle.cap_judge.specs.{Logs.{RefusesWhole, RunsBy, has_form, line_checks}, Readings.{BeginsWhole, VerdictAtEnd}}
+use Rattle.cap_judge.specs.Readings.{VerdictWith, Faults, Follows, Goes, IsAtFault, IsReached, IsRest, Lacks, RefusesNext}
 use Rattle.cap_judge.specs.Readings.{Stands, due_at_end, lines_read, long_refusal, refused_at, verdict_so_far}
 use Rattle.cap_judge.specs.Turns.{Body, Due, Ended, Refused, Stage, refusal_at, unread}
 use Rattle.cap_judge.proofs.InTurn.{accepted_read, all_longer, due_after, stage_after, with_lines}
@@ -230,7 +230,7 @@ module _ (bytes : List ℕ) (stage : Stage) (line : ℕ) (refusal : Refusal) (te
   fault_stands false = first_fault
 
   -- and the machine stands before it
-  pub fault_ends : (held : Held) → account_of held ≡ stage.account → (ended : Bool) → EndsWith bytes ended held (No line refusal) text
+  pub fault_ends : (held : Held) → account_of held ≡ stage.account → (ended : Bool) → VerdictWith bytes ended held (No line refusal) text
   fault_ends held same ended = (
     fault_stands ended,
     tt,
@@ -342,7 +342,7 @@ lacks_room room bytes rest more stage goes lacks many =
 whole_told : (rules_are : Rules) (roots : List DeclaredRoot) (steps : List Step) (bytes : List ℕ) (held : Held)
     (verdict : Verdict) (text : List ℕ) → RunsBy rules_are roots steps → bytes ≡ text_of (lines_of (Whole rules_are roots steps))
     → account_of held ≡ account_after rules_are roots steps
-    → EndsIn (stage_after (Whole rules_are roots steps)) [] verdict text → EndsWith bytes true held verdict text
+    → VerdictAtEnd (stage_after (Whole rules_are roots steps)) [] verdict text → VerdictWith bytes true held verdict text
 whole_told rules_are roots steps bytes held (Yes step_count root_count) text runs are account ends =
     let counts = account_after-grows rules_are roots steps in (
       record {
@@ -362,7 +362,7 @@ whole_told rules_are roots steps bytes held (No line refusal) text runs are acco
 cut_told : (beginning : Beginning) (rest bytes : List ℕ) (held : Held) (refusal : Refusal) (verdict : Verdict) (text : List ℕ)
     → IsBehind bytes beginning rest → IsCut rest → Refuses beginning rest refusal → account_of held ≡ account_before beginning
     → (let stage = stage_after beginning in due_at_end stage.account stage.due rest ≡ refused_at stage.account stage.due refusal rest)
-    → EndsIn (stage_after beginning) rest verdict text → EndsWith bytes true held verdict text
+    → VerdictAtEnd (stage_after beginning) rest verdict text → VerdictWith bytes true held verdict text
 cut_told beginning rest bytes held refusal (Yes steps roots) text here cut refused account is ends =
     let at = sym is ∙ ends.0 in let no : ⊥ = cc in absurd no
 cut_told beginning rest bytes held refusal (No line why) text here cut refused account is ends =
@@ -385,8 +385,8 @@ cut_told beginning rest bytes held refusal (No line why) text here cut refused a
     )
 
 end_told : (beginning : Beginning) (rest bytes : List ℕ) (held : Held) (verdict : Verdict) (text : List ℕ) → IsBehind bytes beginning rest
-    → IsCut rest → account_of held ≡ account_before beginning → EndsIn (stage_after beginning) rest verdict text
-    → EndsWith bytes true held verdict text
+    → IsCut rest → account_of held ≡ account_before beginning → VerdictAtEnd (stage_after beginning) rest verdict text
+    → VerdictWith bytes true held verdict text
 end_told (Whole rules_are roots steps) [] bytes held verdict text here cut account ends =
     whole_told rules_are roots steps bytes held verdict text here.accepted (here.bytes_are ∙ append-nil _) account ends
 end_told (Whole rules_are roots steps) (b ∷ rest) bytes held verdict text here cut account ends =
@@ -396,8 +396,8 @@ end_told beginning rest bytes held verdict text here cut account ends =
 
 -- after a faulty line
 pub refused_told : (bytes rest : List ℕ) (stage : Stage) (held : Held) (verdict : Verdict) (text : List ℕ) → IsReached stage bytes
-    → IsAtFault stage.due → account_of held ≡ stage.account → EndsIn stage rest verdict text → (ended : Bool)
-    → EndsWith bytes ended held verdict text
+    → IsAtFault stage.due → account_of held ≡ stage.account → VerdictAtEnd stage rest verdict text → (ended : Bool)
+    → VerdictWith bytes ended held verdict text
 refused_told bytes rest stage held (Yes steps roots) text is at_fault same ends ended =
     let due = (fault_in stage.due at_fault).3 in
     let at = subst (λ (d : Due). due_at_end stage.account d rest ≡ Ended) due ends.0 in let no : ⊥ = cc in absurd no
@@ -407,7 +407,7 @@ refused_told bytes rest stage held (No line refusal) text is at_fault same ends 
     fault_ends bytes stage line refusal text is at held same ended
 
 pub told : (bytes rest : List ℕ) (stage : Stage) (held : Held) (verdict : Verdict) (text : List ℕ) → Follows unread bytes stage
-    → account_of held ≡ stage.account → IsCut rest → EndsIn stage rest verdict text → EndsWith (bytes ++ rest) true held verdict text
+    → account_of held ≡ stage.account → IsCut rest → VerdictAtEnd stage rest verdict text → VerdictWith (bytes ++ rest) true held verdict text
 told bytes rest stage held verdict text (inl goes) same cut ends =
     let b = begun bytes stage goes in
     let here : IsBehind (bytes ++ rest) b.0 rest = record {
@@ -415,7 +415,7 @@ told bytes rest stage held verdict text (inl goes) same cut ends =
       accepted = b.1;
     } in
     end_told b.0 rest (bytes ++ rest) held verdict text here cut (same ∙ ap (λ (s : Stage). s.account) (sym b.3))
-    (subst (λ (s : Stage). EndsIn s rest verdict text) (sym b.3) ends)
+    (subst (λ (s : Stage). VerdictAtEnd s rest verdict text) (sym b.3) ends)
 told bytes rest stage held verdict text (inr faulty) same cut ends =
     refused_told (bytes ++ rest) rest stage held verdict text (reached (bytes ++ rest) stage (follows_more unread bytes rest stage faulty))
     (faults_at faulty.3 faulty.1 stage faulty.5) same ends true

@@ -21,12 +21,12 @@ use Rattle.cap_machine.proofs.AccountLemmas.{first_of-none}
 use Rattle.cap_judge.specs.declared.{faults.RefusedLine.RefusedLine, judges.Stop.Stop, verdict.TakeFault.TakeFault}
 use Rattle.cap_judge.specs.declared.verdict.{TakeFault.TheVariants.{NoLine, NoMemory}, Verdict.Verdict}
 use Rattle.cap_judge.specs.{declared.verdict.Verdict.TheVariants.{Yes, No}, Judgings.IsLastFront}
-use Rattle.cap_judge.specs.{Logs.{has_form, line_checks, text_of}, Readings.{AnswersLine, EndsAs, EndsText, EndsAt, EndsFor}}
-use Rattle.cap_judge.specs.Readings.{EndsIn, Follows, Goes, GoesOrStops, IsAtFault, IsFullAt, IsNoLine, Known, Lacks, RefusesNext}
+use Rattle.cap_judge.specs.{Logs.{has_form, line_checks, text_of}, Readings.{AnswersLine, AnswerAtEnd, EndsText, EndsBytes, EndsLine}}
+use Rattle.cap_judge.specs.Readings.{VerdictAtEnd, Follows, Goes, GoesOrStops, IsAtFault, IsFullAt, IsNoLine, Known, Lacks, RefusesNext}
 use Rattle.cap_judge.specs.Readings.{MakesSteps, StopsAt, Takes, TakesAll, TakesStep, at, due_of, due_at_end, lines_read, refused_at, Faults}
 use Rattle.cap_judge.specs.Turns.{Body, Ended, Reads, Stage, behind, refusal_at, Due, Refused}
-use Rattle.cap_judge.specs.declared.judges.NextLine as code
-use Rattle.cap_judge.specs.declared.judges.NextLine.TheVariants as stages
+use Rattle.cap_judge.specs.declared.judges.Due as code
+use Rattle.cap_judge.specs.declared.judges.Due.TheVariants as dues
 
 -- Lines that are read
 
@@ -74,13 +74,13 @@ goes_line first old new bytes front rest behind line is so_far begins takes =
 
 pub makes_none : (held : Held) → MakesSteps held [] held
 unfolding goes_none
-makes_none held = record { goes = goes_none (at stages.Body held); steps = []; lines_are = refl; same_room = refl }
+makes_none held = record { goes = goes_none (at dues.Body held); steps = []; lines_are = refl; same_room = refl }
 
 pub makes_more : (first old new : Held) (bytes front rest more behind : List ℕ) → bytes ≡ front ++ rest → MakesSteps first front old
     → rest ≡ more ++ behind → MakesSteps old more new → (fronts : List ℕ) × (bytes ≡ fronts ++ behind) × MakesSteps first fronts new
 unfolding goes_on
 makes_more first old new bytes front rest more behind is so_far is_more next =
-    let goes = goes_more (at stages.Body first) (at stages.Body old) (at stages.Body new) bytes front rest more behind is so_far.goes is_more next.goes in (
+    let goes = goes_more (at dues.Body first) (at dues.Body old) (at dues.Body new) bytes front rest more behind is so_far.goes is_more next.goes in (
       goes.0,
       goes.1,
       record {
@@ -97,7 +97,7 @@ pub makes_one : (first old new : Held) (bytes front rest behind : List ℕ) → 
 unfolding one_goes
 makes_one first old new bytes front rest behind is so_far taken =
     let line = Line.Step taken.0 in
-    let one = one_goes (at stages.Body old) (at stages.Body new) line taken.1.0 taken.2 in
+    let one = one_goes (at dues.Body old) (at dues.Body new) line taken.1.0 taken.2 in
     makes_more first old new bytes front rest (spelling line ++ 10 ∷ []) behind is so_far
     (taken.1.1 ∙ sym (append_assoc (spelling line) (10 ∷ []) behind)) (record { goes = one; steps = taken.0 ∷ []; lines_are = refl; same_room = taken.3 })
 
@@ -151,7 +151,7 @@ stops_here first old new bytes so_far front middle rest stop split there on stop
 -- Lines after the header
 
 -- a line that has a form by the rules of version 1 has one by any rules
-formed : (rules_are : Rules) (line : Line) → has_form One line ≡ true → has_form rules_are line ≡ true
+pub formed : (rules_are : Rules) (line : Line) → has_form One line ≡ true → has_form rules_are line ≡ true
 formed One line one = one
 formed rules_are line one = refl
 
@@ -173,11 +173,11 @@ abbrev pub body : Account → Stage
 body account_is = record { account = account_is; due = Body }
 
 -- a step that a machine makes, or not
-pub makes_takes : (old new : Held) (step : Step) → Makes old step new → Takes (at stages.Body old) (Line.Step step) (at stages.Body new)
+pub makes_takes : (old new : Held) (step : Step) → Makes old step new → Takes (at dues.Body old) (Line.Step step) (at dues.Body new)
 makes_takes old new step makes = (by_checks (account_of old) (Line.Step step) refl ∙ makes.checks, ap body makes.account)
 
 pub step_ends : (old new : Held) (step : Step) (end : StepEnd) → EndsStep old step end new
-    → EndsFor (at stages.Body old) (Line.Step step) end × (new ≡ old) × IsFullAt end old
+    → EndsLine (at dues.Body old) (Line.Step step) end × (new ≡ old) × IsFullAt end old
 step_ends old new step (StepEnd.Refused refusal) ended = (by_checks (account_of old) (Line.Step step) refl ∙ ended.0, ended.1, tt)
 step_ends old new step StepEnd.NoMemory ended =
     ((refl, by_checks (account_of old) (Line.Step step) refl ∙ ended.0, ended.1), ended.2, ended.3)
@@ -189,15 +189,15 @@ step_answered old new bytes step (Err end) begins ends =
     let stop = step_ends old new step end ends in ((step, begins, stop.0), stop.1)
 
 -- what is known at a stage
-abbrev pub knowing : code.NextLine → Held → Known
-knowing stage held = record { held = held; stage = stage }
+abbrev pub knowing : code.Due → Held → Known
+knowing stage held = record { held = held; due = stage }
 
-pub step_outcome : (stage : code.NextLine) (old new : Held) (line : Line) (step : Step) (result : Result (Unit {0}) StepEnd)
-    → stage ≡ stages.Body → line ≡ Line.Step step → AnswersStep old step result new
+pub step_outcome : (stage : code.Due) (old new : Held) (line : Line) (step : Step) (result : Result (Unit {0}) StepEnd)
+    → stage ≡ dues.Body → line ≡ Line.Step step → AnswersStep old step result new
     → AnswersLine (knowing stage old) line result (knowing stage new)
 step_outcome stage old new line step (Ok done) is same makes = rw (is, same) (makes_takes old new step makes, makes.same_room)
 step_outcome stage old new line step (Err end) is same ended =
-    let stop = step_ends old new step end ended in rw (is, same) (stop.0, ap (knowing stages.Body) stop.1, stop.2)
+    let stop = step_ends old new step end ended in rw (is, same) (stop.0, ap (knowing dues.Body) stop.1, stop.2)
 
 -- a root before all steps
 root_checked : (held : Held) (place : Place) (word : Word) → held.steps ≡ 0
@@ -206,16 +206,16 @@ root_checked held place word none =
     by_checks (account_of held) (Line.Root place word) refl
     ∙ ap (λ (n : ℕ). first_of ((nat_lt 0 n, Misplaced) ∷ root_checks (account_of held) place word)) none
 
-pub root_outcome : (stage : code.NextLine) (old new : Held) (place : Place) (word : Word) (result : Result (Unit {0}) StepEnd)
-    → stage ≡ stages.Body → old.steps ≡ 0
+pub root_outcome : (stage : code.Due) (old new : Held) (place : Place) (word : Word) (result : Result (Unit {0}) StepEnd)
+    → stage ≡ dues.Body → old.steps ≡ 0
     → MatchResult result (λ _. TakesRoot old place word new) (λ end. EndsRoot old place word end new)
     → AnswersLine (knowing stage old) (Line.Root place word) result (knowing stage new)
 root_outcome stage old new place word (Ok done) is none takes =
     rw is ((root_checked old place word none ∙ takes.checks, ap body takes.account), takes.same_room)
 root_outcome stage old new place word (Err (StepEnd.Refused refusal)) is none ended =
-    rw is (root_checked old place word none ∙ ended.0, ap (knowing stages.Body) ended.1, tt)
+    rw is (root_checked old place word none ∙ ended.0, ap (knowing dues.Body) ended.1, tt)
 root_outcome stage old new place word (Err StepEnd.NoMemory) is none ended =
-    rw is ((refl, root_checked old place word none ∙ ended.0, ended.1), ap (knowing stages.Body) ended.2, ended.3)
+    rw is ((refl, root_checked old place word none ∙ ended.0, ended.1), ap (knowing dues.Body) ended.2, ended.3)
 
 -- Fronts
 
@@ -228,19 +228,19 @@ pub begins_by : (line : Line) (bytes text rest : List ℕ) → IsLine bytes text
 begins_by line bytes text rest whole spells = (spells.0, whole.whole ∙ ap (λ (t : List ℕ). t ++ 10 ∷ rest) spells.1)
 
 -- why a line is not taken, told of its text; and of bytes that it begins
-pub text_ends : (stage : Stage) (text : List ℕ) (line : Line) (end : StepEnd) → Spells text line → EndsFor stage line end → EndsText stage text end
+pub text_ends : (stage : Stage) (text : List ℕ) (line : Line) (end : StepEnd) → Spells text line → EndsLine stage line end → EndsText stage text end
 text_ends stage text line (StepEnd.Refused refusal) spells refused = (Some line, spells, refused)
 text_ends stage text line StepEnd.NoMemory spells names = (line, spells, names)
 
 pub text_ends_at : (stage : Stage) (bytes text rest : List ℕ) (end : StepEnd) → IsLine bytes text rest → EndsText stage text end
-    → EndsAt stage bytes end
+    → EndsBytes stage bytes end
 text_ends_at stage bytes text rest (StepEnd.Refused refusal) whole (line, spells, refused) = inl (text, rest, line, whole, spells, refused)
 text_ends_at stage bytes text rest StepEnd.NoMemory whole (line, spells, names) =
     (rest, record { line = line; begins = begins_by line bytes text rest whole spells; names = names })
 
 -- one that is not taken
 pub ends_at : (stage : Stage) (bytes rest : List ℕ) (line : Line) (end : StepEnd) → Begins IsInRange spelling 10 bytes line rest
-    → EndsFor stage line end → EndsAt stage bytes end
+    → EndsLine stage line end → EndsBytes stage bytes end
 ends_at stage bytes rest line (StepEnd.Refused refusal) is refused =
     inl (spelling line, rest, Some line, line_is line bytes rest is, (is.0, refl), refused)
 ends_at stage bytes rest line StepEnd.NoMemory is names = (rest, record { line = line; begins = is; names = names })
@@ -248,13 +248,13 @@ ends_at stage bytes rest line StepEnd.NoMemory is names = (rest, record { line =
 -- a step at the front of some bytes that is not made
 pub takes_ended : (old new : Held) (bytes rest : List ℕ) (step : Step) (end : StepEnd)
     → Begins IsInRange spelling 10 bytes (Line.Step step) rest → EndsStep old step end new
-    → EndsAt (at stages.Body old) bytes end × (new ≡ old) × IsFullAt end old
+    → EndsBytes (at dues.Body old) bytes end × (new ≡ old) × IsFullAt end old
 takes_ended old new bytes rest step end begins ends =
-    let stop = step_ends old new step end ends in (ends_at (at stages.Body old) bytes rest (Line.Step step) end begins stop.0, stop.1, stop.2)
+    let stop = step_ends old new step end ends in (ends_at (at dues.Body old) bytes rest (Line.Step step) end begins stop.0, stop.1, stop.2)
 
-pub front_end : (stage : code.NextLine) (held : Held) (rest : List ℕ) (end : Option StepEnd) → stage ≡ stages.Body
-    → IfSome end (EndsAt (at stages.Body held) rest)
-    → IfSome end (λ e. EndsAt (at stage held) rest e × (IsAtFault (due_of stage) → ⊥))
+pub front_end : (stage : code.Due) (held : Held) (rest : List ℕ) (end : Option StepEnd) → stage ≡ dues.Body
+    → IfSome end (EndsBytes (at dues.Body held) rest)
+    → IfSome end (λ e. EndsBytes (at stage held) rest e × (IsAtFault (due_of stage) → ⊥))
 front_end stage held rest None is ends_at = tt
 front_end stage held rest (Some end) is ends_at = rw is (ends_at, λ fault. fault)
 
@@ -303,10 +303,10 @@ stop_follows old new front rest stop = inr (front, rest, refl, stop.0, stop.1, s
 pub step_whole : (bytes : List ℕ) (step : Step) → Begins IsInRange spelling 10 bytes (Line.Step step) [] → IsWhole bytes
 step_whole bytes step begins = inl (spelling (Line.Step step), line_is (Line.Step step) bytes [] begins)
 
-pub step_follows : (stage : code.NextLine) (old new : Held) (bytes : List ℕ) → stage ≡ stages.Body → TakesStep old bytes new []
+pub step_follows : (stage : code.Due) (old new : Held) (bytes : List ℕ) → stage ≡ dues.Body → TakesStep old bytes new []
     → Follows (at stage old) bytes (at stage new)
 step_follows stage old new bytes is (step, begins, takes, same_room) =
-    rw (is, begins.1) (inl (one_goes (at stages.Body old) (at stages.Body new) (Line.Step step) begins.0 takes))
+    rw (is, begins.1) (inl (one_goes (at dues.Body old) (at dues.Body new) (Line.Step step) begins.0 takes))
 
 -- more than a line, or less than one
 pub longer_no_line : (line : List ℕ) (n : ℕ) → (n < length line) × IsLine line (take n line) (drop (n + 1) line)
@@ -349,7 +349,7 @@ cut_text rest text cut (inr (inr whole)) = absurd (IsLine-not_cut rest whole.0 w
 pub ends_refused : (stage : Stage) (rest : List ℕ) (refusal : Refusal) (fault : RefusedLine)
     → due_at_end stage.account stage.due rest ≡ refused_at stage.account stage.due refusal rest → IsCut rest
     → fault.line ≡ lines_read stage.account stage.due + 1 → fault.refusal ≡ refusal → IsFrontText rest (bytes_of fault.text)
-    → EndsAs stage rest (Err fault)
+    → AnswerAtEnd stage rest (Err fault)
 ends_refused stage rest refusal fault refused cut number same front =
     refused ∙ cc (number, same, cut_text rest (bytes_of fault.text) cut front)
 
@@ -357,14 +357,14 @@ pub ended_some : (account : Account) (rest : List ℕ) → rest ≢ [] → due_a
 ended_some account [] some = absurd (some refl)
 ended_some account (b ∷ rest) some = refl
 
-pub unended : (stage : code.NextLine) (account : Account) (rest : List ℕ) → (stage ≡ stages.Ended → ⊥)
-    → ((fault : RefusedLine) → stage ≡ stages.Refused fault → ⊥)
+pub unended : (stage : code.Due) (account : Account) (rest : List ℕ) → (stage ≡ dues.Ended → ⊥)
+    → ((fault : RefusedLine) → stage ≡ dues.Refused fault → ⊥)
     → due_at_end account (due_of stage) rest ≡ refused_at account (due_of stage) Truncated rest
-unended stages.Ended account rest goes clear = absurd (goes refl)
-unended (stages.Refused fault) account rest goes clear = absurd (clear fault refl)
+unended dues.Ended account rest goes clear = absurd (goes refl)
+unended (dues.Refused fault) account rest goes clear = absurd (clear fault refl)
 unended stage account rest goes clear = refl
 
-pub ends_ok : (stage : Stage) (rest : List ℕ) (verdict : Verdict) → EndsAs stage rest (Ok verdict) → EndsIn stage rest verdict []
+pub ends_ok : (stage : Stage) (rest : List ℕ) (verdict : Verdict) → AnswerAtEnd stage rest (Ok verdict) → VerdictAtEnd stage rest verdict []
 ends_ok stage rest (Yes steps roots) ends = ends
 ends_ok stage rest (No line refusal) ends = absurd ends
 

@@ -1,6 +1,6 @@
 -- The answer on the bytes that a source gave (this profile's own, as are all below).
 use Rattle.std.specs.Prelude.{◌≡◌, ◌≢◌, ℕ, ◌+◌, Bool, true, false, List, ◌++◌, length, take, Result, Err, IfOk, IfErr}
-use Rattle.cap_streams.specs.declared.judge_faults.JudgeFault.{JudgeFault, TheVariants.{Pull, NoMemory}}
+use Rattle.cap_streams.specs.declared.judging.judge_faults.JudgeFault.{JudgeFault, TheVariants.{Pull, NoMemory}}
 use Rattle.cap_streams.specs.Front.{IsCut, FrontIs}
 use Rattle.cap_log.specs.declared.kinds.Step.{Step}
 use Rattle.cap_machine.specs.{declared.rules.Rules.{Rules, TheVariants.One}, Accounts.{Account, limits_of, no_account}}

@@ -1,10 +1,10 @@
 -- What a judge has read of the bytes that it was handed (this profile's own, as are all below).
-use Rattle.std.specs.Prelude.{◌≡◌, ◌≢◌, ◌⊎◌, ℕ, ◌+◌, Bool, false, IsTrue, List, [], ◌∷◌, ◌++◌, codes, length, map, Option, None, Some}
+use Rattle.std.specs.Prelude.{◌≡◌, ◌≢◌, ◌⊎◌, ℕ, ◌+◌, Bool, false, IsTrue, List, [], ◌++◌, length, map, Option, None, Some}
 use Rattle.std.specs.{Prelude.{Result, Ok, Err}, Borrow.Bor, List.AllByRecursion}
 use Rattle.cap_ops.specs.declared.refusal.Refusal.{Refusal, TheVariants.{LineTooLong, Misplaced, Truncated}}
-use Rattle.cap_streams.specs.{declared.judge_faults.JudgeFault.JudgeFault, FaultLines.bytes_of}
+use Rattle.cap_streams.specs.{declared.judging.judge_faults.JudgeFault.JudgeFault, FaultLines.bytes_of}
 use Rattle.cap_streams.specs.Front.{IsCut, IsLine, IsTooLong}
-use Rattle.cap_log.specs.{declared.{kinds.Step.Step, lines.Line.Line}, Lines.{IsInRange, Spells, spelling, tag_spelling}}
+use Rattle.cap_log.specs.{declared.{kinds.Step.Step, lines.Line.Line}, Lines.{IsInRange, Spells, spelling}}
 use Rattle.cap_log.specs.Parts.{Begins, ReadsAs as Spelled}
 use Rattle.cap_log.specs.declared.lines.Line.TheVariants as lines
 use Rattle.cap_machine.specs.{declared.ends.StepEnd.StepEnd, Accounts.{Account, is_new}, Helds.{Held, IsFull, account_of}}
@@ -15,18 +15,18 @@ use Rattle.cap_judge.specs.Logs.{Beginning, lines_of, text_of, IsAccepted, Refus
 use Rattle.cap_judge.specs.Turns.{Allows, Body, Due, Ended, First, Reads, Refused, Second, Stage, behind, refusal_at}
 use Rattle.cap_judge.specs.Turns.{unread}
 use Rattle.cap_judge.specs.declared.faults.RefusedLine as faults
-use Rattle.cap_judge.specs.declared.judges.NextLine as code
-use Rattle.cap_judge.specs.declared.judges.NextLine.TheVariants as stages
+use Rattle.cap_judge.specs.declared.judges.Due as code
+use Rattle.cap_judge.specs.declared.judges.Due.TheVariants as dues
 use Rattle.cap_judge.specs.declared.judges.Stop.TheVariants as stops
 
 -- what a judge knows: what its machine holds, and what the next line has to be
 pub record Known : Type 0 where
   pub held : Held
-  pub stage : code.NextLine
+  pub due : code.Due
 
 -- what a judge knows, whatever its store
 abbrev pub known_of : {M : Type 0} → Judge M → Known
-known_of judge = record { held = judge.machine; stage = judge.stage }
+known_of judge = record { held = judge.machine; due = judge.due }
 
 -- how many granules surely have room, of the store of a judge
 abbrev pub room_of : {M : Type 0} → Judge M → ℕ
@@ -37,20 +37,20 @@ abbrev pub IsFullJudge : {M : Type 0} → Judge M → Type 0
 IsFullJudge judge = IsFull judge.machine
 
 -- what the code's stage says
-abbrev pub due_of : code.NextLine → Due
-due_of stages.Version = First
-due_of stages.Mode = Second
-due_of stages.Body = Body
-due_of stages.Ended = Ended
-due_of (stages.Refused fault) = Refused fault.line fault.refusal (bytes_of fault.text)
+abbrev pub due_of : code.Due → Due
+due_of dues.First = First
+due_of dues.Second = Second
+due_of dues.Body = Body
+due_of dues.Ended = Ended
+due_of (dues.Refused fault) = Refused fault.line fault.refusal (bytes_of fault.text)
 
 -- how far a log is read, by what a machine holds and the code's stage
-abbrev pub at : code.NextLine → Held → Stage
+abbrev pub at : code.Due → Held → Stage
 at stage held = record { account = account_of held; due = due_of stage }
 
 -- how far a judge has read
 abbrev pub stage_of : {M : Type 0} → Judge M → Stage
-stage_of judge = at judge.stage judge.machine
+stage_of judge = at judge.due judge.machine
 
 -- a line is faulty
 abbrev pub IsAtFault : Due → Type 0
@@ -83,27 +83,27 @@ RefusesNext stage bytes refusal =
     ⊎ (IsTooLong bytes × (refusal ≡ long_refusal stage.due))
 
 -- why a line is not taken: it is refused; or nothing refuses it, and it names a granule for the first time
-abbrev pub EndsFor : Stage → Line → StepEnd → Type 0
-EndsFor stage line (ends.Refused refusal) = refusal_at stage.account stage.due (Some line) ≡ Some refusal
-EndsFor stage line ends.NoMemory =
+abbrev pub EndsLine : Stage → Line → StepEnd → Type 0
+EndsLine stage line (ends.Refused refusal) = refusal_at stage.account stage.due (Some line) ≡ Some refusal
+EndsLine stage line ends.NoMemory =
     (stage.due ≡ Body) × Allows stage line × IsTrue (is_new stage.account (named_by_line stage.account line))
 
 -- the bytes begin with a line that names a granule so, before this rest
 pub record Lacks (stage : Stage) (bytes more : List ℕ) : Type 0 where
   pub line : Line
   pub begins : Begins IsInRange spelling 10 bytes line more
-  pub names : EndsFor stage line ends.NoMemory
+  pub names : EndsLine stage line ends.NoMemory
 
 -- why a line with this text is not taken
 abbrev pub EndsText : Stage → List ℕ → StepEnd → Type 0
 EndsText stage text (ends.Refused refusal) =
     (line : Option Line) × Spelled IsInRange spelling text line × (refusal_at stage.account stage.due line ≡ Some refusal)
-EndsText stage text ends.NoMemory = (line : Line) × Spells text line × EndsFor stage line ends.NoMemory
+EndsText stage text ends.NoMemory = (line : Line) × Spells text line × EndsLine stage line ends.NoMemory
 
 -- why what the bytes begin with is not taken
-abbrev pub EndsAt : Stage → List ℕ → StepEnd → Type 0
-EndsAt stage bytes (ends.Refused refusal) = RefusesNext stage bytes refusal
-EndsAt stage bytes ends.NoMemory = (more : List ℕ) × Lacks stage bytes more
+abbrev pub EndsBytes : Stage → List ℕ → StepEnd → Type 0
+EndsBytes stage bytes (ends.Refused refusal) = RefusesNext stage bytes refusal
+EndsBytes stage bytes ends.NoMemory = (more : List ℕ) × Lacks stage bytes more
 
 -- where memory is refused, at least as many granules were put as surely have room
 abbrev pub IsFullAt : StepEnd → Held → Type 0
@@ -118,8 +118,8 @@ Takes old line new = Allows old line × (new ≡ behind old line)
 -- changed
 abbrev pub AnswersLine : Known → Line → Result (Unit {0}) StepEnd → Known → Type 0
 AnswersLine old line (Ok done) new =
-    Takes (at old.stage old.held) line (at new.stage new.held) × (new.held.least_room ≡ old.held.least_room)
-AnswersLine old line (Err end) new = EndsFor (at old.stage old.held) line end × (new ≡ old) × IsFullAt end old.held
+    Takes (at old.due old.held) line (at new.due new.held) × (new.held.least_room ≡ old.held.least_room)
+AnswersLine old line (Err end) new = EndsLine (at old.due old.held) line end × (new ≡ old) × IsFullAt end old.held
 
 -- the bytes are lines that lead from a stage to a stage
 pub record Goes (old : Stage) (bytes : List ℕ) (new : Stage) : Type 0 where
@@ -130,7 +130,7 @@ pub record Goes (old : Stage) (bytes : List ℕ) (new : Stage) : Type 0 where
 
 -- the bytes are lines of steps, by which a machine goes from what it held to what it holds
 pub record MakesSteps (old : Held) (bytes : List ℕ) (new : Held) : Type 0 where
-  pub goes : Goes (at stages.Body old) bytes (at stages.Body new)
+  pub goes : Goes (at dues.Body old) bytes (at dues.Body new)
   pub steps : List Step
   pub lines_are : goes.lines ≡ map lines.Step steps
   pub same_room : new.least_room ≡ old.least_room
@@ -168,28 +168,28 @@ GoesOrStops old front rest (Some stop) new = StopsAt old front rest stop new
 abbrev pub TakesStep : Held → List ℕ → Held → List ℕ → Type 0
 TakesStep old bytes new rest =
     (step : Step) × Begins IsInRange spelling 10 bytes (lines.Step step) rest
-    × Takes (at stages.Body old) (lines.Step step) (at stages.Body new) × (new.least_room ≡ old.least_room)
+    × Takes (at dues.Body old) (lines.Step step) (at dues.Body new) × (new.least_room ≡ old.least_room)
 
 -- a step was taken from the front of the bytes; or none, and nothing has changed; or the one there isn't made, and
 -- nothing has changed
 abbrev pub TakesOne : Held → List ℕ → Result (Option (Bor (List ℕ))) StepEnd → Held → Type 0
 TakesOne old bytes (Ok (Some rest)) new = TakesStep old bytes new rest.now
 TakesOne old bytes (Ok None) new = new ≡ old
-TakesOne old bytes (Err end) new = EndsAt (at stages.Body old) bytes end × (new ≡ old) × IsFullAt end old
+TakesOne old bytes (Err end) new = EndsBytes (at dues.Body old) bytes end × (new ≡ old) × IsFullAt end old
 
 -- the bytes are the line of a step that the machine does not make
-abbrev pub EndsLine : Held → List ℕ → StepEnd → Type 0
-EndsLine held bytes end =
-    (step : Step) × Begins IsInRange spelling 10 bytes (lines.Step step) [] × EndsFor (at stages.Body held) (lines.Step step) end
+abbrev pub EndsStepLine : Held → List ℕ → StepEnd → Type 0
+EndsStepLine held bytes end =
+    (step : Step) × Begins IsInRange spelling 10 bytes (lines.Step step) [] × EndsLine (at dues.Body held) (lines.Step step) end
 
 -- a step may come next, and the machine does not make this one
 abbrev pub IsUnmade : {M : Type 0} → Judge M → Step → StepEnd → Type 0
-IsUnmade judge step end = (judge.stage ≡ stages.Body) × EndsFor (at stages.Body judge.machine) (lines.Step step) end
+IsUnmade judge step end = (judge.due ≡ dues.Body) × EndsLine (at dues.Body judge.machine) (lines.Step step) end
 
 -- the bytes are the line of a step, which was taken, or isn't made; or they are none
 abbrev pub TakesAll : Held → List ℕ → Option (Result (Unit {0}) StepEnd) → Held → Type 0
 TakesAll old bytes (Some (Ok done)) new = TakesStep old bytes new []
-TakesAll old bytes (Some (Err end)) new = EndsLine old bytes end × (new ≡ old)
+TakesAll old bytes (Some (Err end)) new = EndsStepLine old bytes end × (new ≡ old)
 TakesAll old bytes None new = new ≡ old
 
 -- the bytes are neither one line with its line feed nor begin with more bytes than a line has
@@ -214,21 +214,21 @@ due_at_end account (Refused line refusal text) rest = Refused line refusal text
 due_at_end account due rest = refused_at account due Truncated rest
 
 -- the verdict on a log that ends there, and after a no the text of the faulty line
-abbrev pub EndsIn : Stage → List ℕ → Verdict → List ℕ → Type 0
-EndsIn stage rest (Yes steps roots) text =
+abbrev pub VerdictAtEnd : Stage → List ℕ → Verdict → List ℕ → Type 0
+VerdictAtEnd stage rest (Yes steps roots) text =
     (due_at_end stage.account stage.due rest ≡ Ended) × (steps ≡ stage.account.steps) × (roots ≡ stage.account.roots)
-EndsIn stage rest (No line refusal) text = due_at_end stage.account stage.due rest ≡ Refused line refusal text
+VerdictAtEnd stage rest (No line refusal) text = due_at_end stage.account stage.due rest ≡ Refused line refusal text
 
 -- a yes, or the faulty line
-abbrev pub EndsAs : Stage → List ℕ → Result Verdict faults.RefusedLine → Type 0
-EndsAs stage rest (Ok (Yes steps roots)) = EndsIn stage rest (Yes steps roots) []
-EndsAs stage rest (Ok (No line refusal)) = ⊥
-EndsAs stage rest (Err fault) = EndsIn stage rest (No fault.line fault.refusal) (bytes_of fault.text)
+abbrev pub AnswerAtEnd : Stage → List ℕ → Result Verdict faults.RefusedLine → Type 0
+AnswerAtEnd stage rest (Ok (Yes steps roots)) = VerdictAtEnd stage rest (Yes steps roots) []
+AnswerAtEnd stage rest (Ok (No line refusal)) = ⊥
+AnswerAtEnd stage rest (Err fault) = VerdictAtEnd stage rest (No fault.line fault.refusal) (bytes_of fault.text)
 
 -- a verdict on bytes whose source has ended, or a no that stands whatever follows them; with what the machine holds
 -- then, and the text of the faulty line
-abbrev pub EndsWith : List ℕ → Bool → Held → Verdict → List ℕ → Type 0
-EndsWith bytes ended held verdict text =
+abbrev pub VerdictWith : List ℕ → Bool → Held → Verdict → List ℕ → Type 0
+VerdictWith bytes ended held verdict text =
     IsVerdictOf bytes ended verdict × LeadsAfter bytes held verdict × StopsIn bytes ended held text verdict
 
 -- what follows a beginning, by what the next line has to be: nothing; or what begins with a faulty line, whatever follows
@@ -262,7 +262,3 @@ Stands bytes (Some verdict) = IsVerdictOf bytes false verdict
 abbrev pub IsAnswered : Result Verdict faults.RefusedLine → Result Verdict JudgeFault → List ℕ → Type 0
 IsAnswered (Ok verdict) answer text = answer ≡ Ok verdict
 IsAnswered (Err fault) answer text = (answer ≡ Ok (No fault.line fault.refusal)) × (text ≡ bytes_of fault.text)
-
--- what stands before the digits of a result with this tag
-abbrev pub mark_of : Bool → List ℕ
-mark_of tag = codes "= " ++ (tag_spelling tag ++ 32 ∷ [])

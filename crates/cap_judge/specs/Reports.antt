@@ -1,7 +1,7 @@
 -- What a judge that writes its verdict answers and writes (this profile's own).
 use Rattle.std.specs.Prelude.{◌≡◌, ℕ, Bool, true, false, List, [], ◌++◌, take, Result, Ok, Err}
-use Rattle.cap_streams.specs.declared.judge_faults.JudgeToFault.{JudgeToFault, TheVariants.{Pull, NoMemory, Push}}
-use Rattle.cap_streams.specs.declared.judge_faults.JudgeFault.TheVariants as judge_faults
+use Rattle.cap_streams.specs.declared.judging.judge_faults.JudgeToFault.{JudgeToFault, TheVariants.{Pull, NoMemory, Push}}
+use Rattle.cap_streams.specs.declared.judging.judge_faults.JudgeFault.TheVariants as judge_faults
 use Rattle.cap_judge.specs.{declared.verdict.Verdict.{Verdict, TheVariants.{Yes, No}}, Judgings.IsAnswerOf}
 use Rattle.cap_judge.specs.{Origins.{Origin, AreOriginsOf, origin_lines}, VerdictLines.verdict_line}
 

@@ -2,7 +2,7 @@
 use Rattle.std.specs.Prelude.{◌≡◌, ◌≢◌, ◌↔◌, ℕ, ◌+◌, List, ◌++◌, length, codes, Result, Ok, Err}
 use Rattle.cap_ops.specs.declared.refusal.Refusal.{Refusal}
 use Rattle.cap_ops.specs.declared.refusal.Refusal.TheVariants.{BadHeader, BoundsEscape, LineTooLong, Truncated}
-use Rattle.cap_streams.specs.declared.judge_faults.JudgeFault.{JudgeFault, TheVariants.{Pull, NoMemory}}
+use Rattle.cap_streams.specs.declared.judging.judge_faults.JudgeFault.{JudgeFault, TheVariants.{Pull, NoMemory}}
 use Rattle.cap_streams.specs.Front.{FrontIs, IsLine}
 use Rattle.cap_log.specs.{declared.{kinds.Step.Step, lines.Line.TheVariants.{Version, Step as Stepping}}, Lines.Spells}
 use Rattle.cap_machine.specs.declared.{ends.StepEnd.{StepEnd, TheVariants.Refused}, rules.Rules.Rules}

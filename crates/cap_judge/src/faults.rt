@@ -4,8 +4,8 @@ ghost use Rattle.std.specs.Prelude.{◌≡◌};
 ghost use Rattle.cap_judge.specs.declared.verdict.Verdict.TheVariants.{No};
 
 use crate::verdict::Verdict;
-use cap_log::FaultLine;
 use cap_machine::Refusal;
+use cap_streams::judging::FaultLine;
 
 /// The faulty line of a log.
 #[derive(Clone, Copy)]

@@ -10,10 +10,10 @@ ghost use Rattle.cap_streams.specs.{FaultLines.bytes_of, Front.{IsCut, IsFront, 
 ghost use Rattle.cap_log.specs.declared.lines.Line.TheVariants as lines;
 ghost use Rattle.cap_machine.specs.declared.ends.StepEnd.TheVariants as ends;
 ghost use Rattle.cap_machine.specs.States.{granule_key, key_of, untagged_null};
-ghost use Rattle.cap_judge.specs.declared.{faults.RefusedLine.RefusedLine as FaultIn, judges.NextLine.TheVariants.Body};
-ghost use Rattle.cap_judge.specs.declared.judges.NextLine.TheVariants.{Refused as RefusedIn};
+ghost use Rattle.cap_judge.specs.declared.{faults.RefusedLine.RefusedLine as FaultIn, judges.Due.TheVariants.Body};
+ghost use Rattle.cap_judge.specs.declared.judges.Due.TheVariants.{Refused as RefusedIn};
 ghost use Rattle.cap_judge.specs.{declared.verdict.TakeFault.TheVariants.{NoLine, NoMemory}, Expectations.ExpectsAt};
-ghost use Rattle.cap_judge.specs.{Logs.{has_form, header_lines}, Readings.{AnswersLine, EndsAs, EndsAt, EndsIn, EndsLine}};
+ghost use Rattle.cap_judge.specs.{Logs.{has_form, header_lines}, Readings.{AnswersLine, AnswerAtEnd, EndsBytes, VerdictAtEnd, EndsStepLine}};
 ghost use Rattle.cap_judge.specs.Readings.{EndsText, Follows, Goes, GoesOrStops, IsAtFault, IsFullAt, IsFullJudge};
 ghost use Rattle.cap_judge.specs.Readings.{IsUnmade, room_of};
 ghost use Rattle.cap_judge.specs.Readings.{IsFaultOf, IsNoLine, Lacks, StopsAt, Takes, known_of};
@@ -24,21 +24,23 @@ ghost use Rattle.cap_judge.specs.Turns as turns;
 
 use crate::expectation::expected_by;
 use crate::faults::RefusedLine;
-use crate::steps::{take_alone, take_steps};
+use crate::steps::{take_lone_step, take_steps};
 use crate::verdict::{Expected, TakeFault, Verdict};
-use cap_log::{FaultLine, Front, Line, Mode, Operands, Place, Step, front, read_line, write_line};
+use cap_log::{Line, Mode, Operands, Place, Step, read_line, write_line};
 use cap_machine::{Instruction, Machine, Refusal, Rules, StepEnd};
+use cap_streams::judging::FaultLine;
+use cap_streams::{Front, front};
 use cap_word::Cap;
 use std::alloc::Global;
 use tagmem::{PageStore, TaggedStore};
 
 /// What the next line of a log has to be.
 #[derive(Drop)]
-pub enum NextLine {
+pub enum Due {
     /// The version line.
-    Version,
+    First,
     /// The mode line.
-    Mode,
+    Second,
     /// A root, a step or the end line.
     Body,
     /// None: the end line has come.
@@ -72,7 +74,7 @@ pub struct Taken {
 #[derive(Drop)]
 pub struct Judge<M: TaggedStore> {
     pub(crate) machine: Machine<M>,
-    pub(crate) stage: NextLine,
+    pub(crate) due: Due,
 }
 
 impl Judge<PageStore> {
@@ -93,7 +95,7 @@ impl<M: TaggedStore> Judge<M> {
     {
         Judge {
             machine: Machine::new(memory),
-            stage: NextLine::Version,
+            due: Due::First,
         }
     }
 
@@ -112,7 +114,7 @@ impl<M: TaggedStore> Judge<M> {
     {
         let mut rest = bytes;
         'lines: loop {
-            let (behind, stop) = self.take_some(rest);
+            let (behind, stop) = self.take_steps_and_line(rest);
             rest = behind;
             if let Some(stop) = stop {
                 let count = bytes.len() - rest.len();
@@ -124,6 +126,13 @@ impl<M: TaggedStore> Judge<M> {
     /// Takes the next line, with its line feed. Two kinds of bytes aren't taken, and change nothing: those that
     /// aren't one line with its line feed, unless more than 95 of them come before any, which is a line that is too
     /// long; and a line for which memory runs out. That line may be handed over again.
+    ///
+    /// ```rust
+    /// let mut judge = Judge::over_pages(alloc);
+    /// judge.take_line(b"capcheck 1\n")?;
+    /// judge.take_line(b"end 0\n")?;
+    /// assert_eq!(rt; judge.end(b""), Verdict::Yes { steps: 0, roots: 0 });
+    /// ```
     pub fn take_line(&mut self, line: &[u8]) -> Result<(), TakeFault>
         ensures taken { OnOk result (Follows (stage_of self.old) line.now (stage_of self.new)) }
         ensures unchanged { IfErr result (λ _. known_of self.new ≡ known_of self.old) }
@@ -132,14 +141,14 @@ impl<M: TaggedStore> Judge<M> {
         // Memory is wanted only where this very line, which no check refuses, names a granule for the first time.
         ensures no_memory { result ≡ Err NoMemory → Lacks (stage_of self.old) line.now [] }
     {
-        if let NextLine::Body = self.stage {
-            return match take_alone(&mut self.machine, line) {
+        if let Due::Body = self.due {
+            return match take_lone_step(&mut self.machine, line) {
                 Some(Ok(())) => Ok(()),
-                Some(Err(end)) => self.take_end(end, line),
-                None => self.take_whole(line),
+                Some(Err(end)) => self.take_ended_step(end, line),
+                None => self.take_lone_line(line),
             };
         }
-        self.take_whole(line)
+        self.take_lone_line(line)
     }
 
     /// `None` exactly while the lines so far begin a log, and otherwise the `no` that stays whatever lines
@@ -148,15 +157,15 @@ impl<M: TaggedStore> Judge<M> {
         ensures so_far { result ≡ verdict_so_far (stage_of self.now).due }
         ensures escape { IfSome result NamesEscapes }
     {
-        match &self.stage {
-            NextLine::Refused(fault) => Some(fault.verdict()),
+        match &self.due {
+            Due::Refused(fault) => Some(fault.verdict()),
             _ => None,
         }
     }
 
     /// The verdict if no other bytes follow than these, which are less than a line.
     pub fn end(&self, rest: &[u8]) -> Verdict
-        ensures verdict { IsCut rest.now → (text : List ℕ) × EndsIn (stage_of self.now) rest.now result text }
+        ensures verdict { IsCut rest.now → (text : List ℕ) × VerdictAtEnd (stage_of self.now) rest.now result text }
         ensures escape { NamesEscapes result }
     {
         match self.ending(rest) {
@@ -169,8 +178,8 @@ impl<M: TaggedStore> Judge<M> {
     pub fn expected(&self) -> Option<Expected>
         ensures expects { ExpectsAt (stage_of self.now).account (stage_of self.now).due result }
     {
-        match &self.stage {
-            NextLine::Refused(fault) => match fault.refusal {
+        match &self.due {
+            Due::Refused(fault) => match fault.refusal {
                 Refusal::WrongResult => expected_by(&self.machine, fault.text.as_slice()),
                 _ => None,
             },
@@ -210,7 +219,7 @@ impl<M: TaggedStore> Judge<M> {
 
     // Takes bytes of any kind as one line.
     #[inline(never)]
-    fn take_whole(&mut self, line: &[u8]) -> Result<(), TakeFault>
+    fn take_lone_line(&mut self, line: &[u8]) -> Result<(), TakeFault>
         ensures taken { OnOk result (Follows (stage_of self.old) line.now (stage_of self.new)) }
         ensures unchanged { IfErr result (λ _. known_of self.new ≡ known_of self.old) }
         ensures no_line { (result ≡ Err NoLine) ↔ IsNoLine line.now }
@@ -220,7 +229,7 @@ impl<M: TaggedStore> Judge<M> {
         if !is_whole(found, line) {
             return Err(TakeFault::NoLine);
         }
-        match self.take_found(found, line) {
+        match self.take_found_line(found, line) {
             Ok(_) => Ok(()),
             Err(Stop::Fault) => Ok(()),
             Err(Stop::NoMemory) => Err(TakeFault::NoMemory),
@@ -230,9 +239,9 @@ impl<M: TaggedStore> Judge<M> {
 
     // Ends a line at a step that was not made.
     #[inline(never)]
-    fn take_end(&mut self, end: StepEnd, line: &[u8]) -> Result<(), TakeFault>
-        requires body { self.old.stage ≡ Body }
-        requires ends { EndsLine self.old.machine line.now end }
+    fn take_ended_step(&mut self, end: StepEnd, line: &[u8]) -> Result<(), TakeFault>
+        requires body { self.old.due ≡ Body }
+        requires ends { EndsStepLine self.old.machine line.now end }
         ensures taken { OnOk result (Follows (stage_of self.old) line.now (stage_of self.new)) }
         ensures unchanged { IfErr result (λ _. known_of self.new ≡ known_of self.old) }
         ensures no_memory { IfErr result (λ fault. (fault ≡ NoMemory) × Lacks (stage_of self.old) line.now []) }
@@ -245,12 +254,12 @@ impl<M: TaggedStore> Judge<M> {
 
     /// The verdict if no other bytes follow than these, which are less than a line: a `yes`, or the faulty line.
     pub fn ending(&self, rest: &[u8]) -> Result<Verdict, RefusedLine>
-        ensures ends { IsCut rest.now → EndsAs (stage_of self.now) rest.now result }
-        ensures fault { (fault : FaultIn) → self.now.stage ≡ RefusedIn fault → result ≡ Err fault }
+        ensures ends { IsCut rest.now → AnswerAtEnd (stage_of self.now) rest.now result }
+        ensures fault { (fault : FaultIn) → self.now.due ≡ RefusedIn fault → result ≡ Err fault }
     {
-        match &self.stage {
-            NextLine::Refused(fault) => Err(*fault),
-            NextLine::Ended => {
+        match &self.due {
+            Due::Refused(fault) => Err(*fault),
+            Due::Ended => {
                 if rest.is_empty() {
                     Ok(Verdict::Yes {
                         steps: self.machine.steps(),
@@ -275,8 +284,8 @@ impl<M: TaggedStore> Judge<M> {
     pub fn refused(&self) -> Option<RefusedLine>
         ensures fault { IsFaultOf (stage_of self.now).due result }
     {
-        match &self.stage {
-            NextLine::Refused(fault) => Some(*fault),
+        match &self.due {
+            Due::Refused(fault) => Some(*fault),
             _ => None,
         }
     }
@@ -292,7 +301,7 @@ impl<M: TaggedStore> Judge<M> {
         ensures unmade { IfErr result (λ end. IfSome end (IsUnmade self.old (I.step step))) }
         ensures untried { result ≡ Err None → (stage_of self.old).due ≢ turns.Body }
     {
-        if let NextLine::Body = self.stage {
+        if let Due::Body = self.due {
             return match step.perform(&mut self.machine) {
                 Ok(()) => Ok(()),
                 Err(end) => Err(Some(end)),
@@ -318,24 +327,24 @@ impl<M: TaggedStore> Judge<M> {
         let length = write_line(&Line::Step(step), &mut buffer);
         let line = &buffer[..length];
         match end {
-            Some(end) => self.take_end(end, line),
+            Some(end) => self.take_ended_step(end, line),
             None => self.take_line(line),
         }
     }
 
     /// Takes the steps at the front of some bytes, and then a line of any kind: what follows, and why it
     /// stopped, if it did.
-    pub(crate) fn take_some<'a>(&mut self, bytes: &'a [u8]) -> (&'a [u8], Option<Stop>)
+    pub(crate) fn take_steps_and_line<'a>(&mut self, bytes: &'a [u8]) -> (&'a [u8], Option<Stop>)
         ensures taken { (front : List ℕ) × (bytes.now ≡ front ++ result.0.now)
             × GoesOrStops (stage_of self.old) front result.0.now result.1 (stage_of self.new) }
         ensures full { result.1 ≡ Some stops.NoMemory → IsFullJudge self.new }
         ensures same_room { room_of self.new ≡ room_of self.old }
     {
-        let (rest, end) = self.take_front(bytes);
+        let (rest, end) = self.take_front_steps(bytes);
         if let Some(end) = end {
             return (rest, Some(self.stop(end, front(rest), rest)));
         }
-        match self.take_any(rest) {
+        match self.take_any_line(rest) {
             Ok(behind) => (behind, None),
             Err(stop) => (rest, Some(stop)),
         }
@@ -343,35 +352,35 @@ impl<M: TaggedStore> Judge<M> {
 
     // Takes the steps at the front of some bytes: what follows, and how the step ends there that was not made.
     #[inline(always)]
-    fn take_front<'a>(&mut self, bytes: &'a [u8]) -> (&'a [u8], Option<StepEnd>)
+    fn take_front_steps<'a>(&mut self, bytes: &'a [u8]) -> (&'a [u8], Option<StepEnd>)
         ensures taken { (front : List ℕ) × (bytes.now ≡ front ++ result.0.now)
             × Goes (stage_of self.old) front (stage_of self.new) }
-        ensures end { IfSome result.1 (λ end. EndsAt (stage_of self.new) result.0.now end
+        ensures end { IfSome result.1 (λ end. EndsBytes (stage_of self.new) result.0.now end
             × (IsAtFault (stage_of self.new).due → ⊥)) }
         ensures full { IfSome result.1 (λ end. IsFullAt end self.new.machine) }
         ensures same_room { room_of self.new ≡ room_of self.old }
     {
-        match self.stage {
-            NextLine::Body => take_steps(&mut self.machine, bytes),
+        match self.due {
+            Due::Body => take_steps(&mut self.machine, bytes),
             _ => (bytes, None),
         }
     }
 
     /// Takes the line at the front of some bytes, whatever it is: what follows it.
     #[inline(never)]
-    pub(crate) fn take_any<'a>(&mut self, bytes: &'a [u8]) -> Result<&'a [u8], Stop>
+    pub(crate) fn take_any_line<'a>(&mut self, bytes: &'a [u8]) -> Result<&'a [u8], Stop>
         ensures ok { IfOk result (λ rest. (line : Line) × Begins IsInRange spelling 10 bytes.now line rest.now
             × Takes (stage_of self.old) line (stage_of self.new)) }
         ensures err { IfErr result (λ stop. StopsAt (stage_of self.old) [] bytes.now stop (stage_of self.new)) }
         ensures full { result ≡ Err stops.NoMemory → IsFullJudge self.new }
         ensures same_room { room_of self.new ≡ room_of self.old }
     {
-        let count = self.take_found(front(bytes), bytes)?;
+        let count = self.take_found_line(front(bytes), bytes)?;
         Ok(&bytes[count..])
     }
 
     // Takes the line that was found at the front of some bytes: how many bytes it has, with its line feed.
-    fn take_found(&mut self, found: Front, bytes: &[u8]) -> Result<usize, Stop>
+    fn take_found_line(&mut self, found: Front, bytes: &[u8]) -> Result<usize, Stop>
         requires found { IsFront bytes.now found }
         ensures few { IfOk result (λ count. count ≤ length bytes.now) }
         ensures ok { IfOk result (λ count. (line : Line) × Begins IsInRange spelling 10 bytes.now line (drop count bytes.now)
@@ -381,7 +390,7 @@ impl<M: TaggedStore> Judge<M> {
         ensures full { result ≡ Err stops.NoMemory → IsFullJudge self.new }
         ensures same_room { room_of self.new ≡ room_of self.old }
     {
-        if let NextLine::Refused(_) = self.stage {
+        if let Due::Refused(_) = self.due {
             return Err(Stop::Fault);
         }
         match found {
@@ -420,7 +429,7 @@ impl<M: TaggedStore> Judge<M> {
     fn stop(&mut self, end: StepEnd, found: Front, bytes: &[u8]) -> Stop
         requires found { IsFront bytes.now found }
         requires clear { IsAtFault (stage_of self.old).due → ⊥ }
-        requires ends { EndsAt (stage_of self.old) bytes.now end }
+        requires ends { EndsBytes (stage_of self.old) bytes.now end }
         ensures stops { StopsAt (stage_of self.old) [] bytes.now result (stage_of self.new) }
         ensures same { result ≢ stops.Fault → known_of self.new ≡ known_of self.old }
         ensures uncut { result ≢ stops.Cut }
@@ -430,7 +439,7 @@ impl<M: TaggedStore> Judge<M> {
         match end {
             StepEnd::NoMemory => Stop::NoMemory,
             StepEnd::Refused(refusal) => {
-                self.stage = NextLine::Refused(self.fault(refusal, found, bytes));
+                self.due = Due::Refused(self.fault(refusal, found, bytes));
                 Stop::Fault
             }
         }
@@ -456,11 +465,11 @@ impl<M: TaggedStore> Judge<M> {
     {
         let roots = u64::from(self.machine.roots());
         let behind = header_length(self.machine.rules()) + roots + u64::from(self.machine.steps());
-        match self.stage {
-            NextLine::Version => 1,
-            NextLine::Mode => 2,
-            NextLine::Body => behind + 1,
-            NextLine::Ended | NextLine::Refused(_) => behind + 2,
+        match self.due {
+            Due::First => 1,
+            Due::Second => 2,
+            Due::Body => behind + 1,
+            Due::Ended | Due::Refused(_) => behind + 2,
         }
     }
 
@@ -468,9 +477,9 @@ impl<M: TaggedStore> Judge<M> {
     fn refusal_of_long(&self) -> Refusal
         ensures { result ≡ long_refusal (stage_of self.now).due }
     {
-        match self.stage {
-            NextLine::Version | NextLine::Mode | NextLine::Body => Refusal::LineTooLong,
-            NextLine::Ended | NextLine::Refused(_) => Refusal::Misplaced,
+        match self.due {
+            Due::First | Due::Second | Due::Body => Refusal::LineTooLong,
+            Due::Ended | Due::Refused(_) => Refusal::Misplaced,
         }
     }
 
@@ -478,11 +487,11 @@ impl<M: TaggedStore> Judge<M> {
     fn refusal_of_formless(&self) -> Refusal
         ensures { refusal_at (stage_of self.now).account (stage_of self.now).due None ≡ Some result }
     {
-        match self.stage {
-            NextLine::Version => Refusal::BadHeader,
-            NextLine::Mode => Refusal::BadMode,
-            NextLine::Body => Refusal::BadLine,
-            NextLine::Ended | NextLine::Refused(_) => Refusal::Misplaced,
+        match self.due {
+            Due::First => Refusal::BadHeader,
+            Due::Second => Refusal::BadMode,
+            Due::Body => Refusal::BadLine,
+            Due::Ended | Due::Refused(_) => Refusal::Misplaced,
         }
     }
 
@@ -491,36 +500,36 @@ impl<M: TaggedStore> Judge<M> {
         requires in_range { IsInRange line.now }
         ensures { AnswersLine (known_of self.old) line.now result (known_of self.new) }
     {
-        match self.stage {
-            NextLine::Version => match *line {
+        match self.due {
+            Due::First => match *line {
                 Line::Version(1) => {
-                    self.stage = NextLine::Body;
+                    self.due = Due::Body;
                     Ok(())
                 }
                 Line::Version(_) => {
-                    self.stage = NextLine::Mode;
+                    self.due = Due::Second;
                     Ok(())
                 }
                 _ => Err(StepEnd::Refused(Refusal::BadHeader)),
             },
-            NextLine::Mode => match *line {
+            Due::Second => match *line {
                 Line::Mode(mode) => {
                     let rules = rules_of(mode);
                     self.machine.follow(rules);
                     self.machine.limit(rules.limits());
-                    self.stage = NextLine::Body;
+                    self.due = Due::Body;
                     Ok(())
                 }
                 _ => Err(StepEnd::Refused(Refusal::BadMode)),
             },
-            NextLine::Body => self.follow_body(line),
-            NextLine::Ended | NextLine::Refused(_) => Err(StepEnd::Refused(Refusal::Misplaced)),
+            Due::Body => self.follow_body(line),
+            Due::Ended | Due::Refused(_) => Err(StepEnd::Refused(Refusal::Misplaced)),
         }
     }
 
     // Goes on by a line after the header.
     fn follow_body(&mut self, line: &Line) -> Result<(), StepEnd>
-        requires body { self.old.stage ≡ Body }
+        requires body { self.old.due ≡ Body }
         requires in_range { IsInRange line.now }
         ensures { AnswersLine (known_of self.old) line.now result (known_of self.new) }
     {
@@ -544,7 +553,7 @@ impl<M: TaggedStore> Judge<M> {
                 if count != self.machine.steps() {
                     return Err(StepEnd::Refused(Refusal::WrongCount));
                 }
-                self.stage = NextLine::Ended;
+                self.due = Due::Ended;
                 Ok(())
             }
         }

@@ -8,7 +8,7 @@ ghost use Rattle.cap_machine.specs.{declared.rules.Rules.Rules, Escapes.ClearsEx
 ghost use Rattle.cap_machine.specs.{Runs.IsRun, States.{DeclaredRoot, State, start}};
 ghost use Rattle.cap_judge.specs.declared.verdict.{Expected.Expected, Verdict.{Verdict, TheVariants.No}};
 ghost use Rattle.cap_judge.specs.{Expectations.{Expects, ExpectsAt}, Logs.{Beginning, IsAccepted, IsLogOf}};
-ghost use Rattle.cap_judge.specs.{Logs.{MayLackMemory, lines_of}, Readings.{BeginsWhole, EndsIn, EndsWith, Faults}};
+ghost use Rattle.cap_judge.specs.{Logs.{MayLackMemory, lines_of}, Readings.{BeginsWhole, VerdictAtEnd, VerdictWith, Faults}};
 ghost use Rattle.cap_judge.specs.Readings.{Follows, IsAtFault, IsReached, Lacks, Stands, verdict_so_far};
 ghost use Rattle.cap_judge.specs.{Turns.{Reads, Refused, Stage, unread}, Verdicts.{IsByVersionOne, IsGuarded}};
 ghost use Rattle.cap_judge.specs.Verdicts.{IsOfVersionOne, IsVerdict, IsVerdictOne, NamesEscapes};
@@ -69,7 +69,7 @@ pub fn stages_are_of_logs()
     // The account is that of the lines before the faulty one, whose text is the stage's.
     ensures fault { (bytes : List ℕ) (stage : Stage) (held : Held) (line : ℕ) (refusal : Refusal) (text : List ℕ) (ended : Bool)
         → Follows unread bytes stage → account_of held ≡ stage.account → stage.due ≡ Refused line refusal text
-        → EndsWith bytes ended held (No line refusal) text }
+        → VerdictWith bytes ended held (No line refusal) text }
 
     // Memory is wanted only where a line that no check refuses names a granule for the first time.
     ensures memory { (bytes rest more : List ℕ) (stage : Stage) → Follows unread bytes stage → Lacks stage rest more
@@ -77,8 +77,8 @@ pub fn stages_are_of_logs()
 
     // How the log ends if no other bytes follow than these, which are less than a line.
     ensures ends { (bytes rest : List ℕ) (stage : Stage) (held : Held) (verdict : Verdict) (text : List ℕ)
-        → Follows unread bytes stage → account_of held ≡ stage.account → IsCut rest → EndsIn stage rest verdict text
-        → EndsWith (bytes ++ rest) true held verdict text }
+        → Follows unread bytes stage → account_of held ≡ stage.account → IsCut rest → VerdictAtEnd stage rest verdict text
+        → VerdictWith (bytes ++ rest) true held verdict text }
 
     // What is told of the faulty line is what the rules give for its step, if it is refused for its result.
     ensures expects { (bytes : List ℕ) (stage : Stage) (result : Option Expected) → Follows unread bytes stage

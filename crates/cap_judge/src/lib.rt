@@ -32,4 +32,4 @@ pub use crate::streams::{
 };
 pub use crate::verdict::{Expected, TakeFault, Verdict};
 pub use crate::verdict_lines::{verdict_status, verdict_text};
-pub use cap_log::{FaultLine, JudgeFault, JudgeToFault};
+pub use cap_streams::judging::{FaultLine, JudgeFault, JudgeToFault};

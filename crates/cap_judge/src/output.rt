@@ -1,7 +1,7 @@
 //! The judges that write into a sink: the verdict, and the origins of a log's last state.
 
 ghost use Rattle.std.specs.Prelude.{◌≤◌, ℕ, length, take, Err, IfOk, OnOk, OnErr, true, false};
-ghost use Rattle.cap_streams.specs.declared.judge_faults.JudgeToFault.TheVariants.{Pull, Push};
+ghost use Rattle.cap_streams.specs.declared.judging.judge_faults.JudgeToFault.TheVariants.{Pull, Push};
 ghost use Rattle.cap_streams.specs.Streams.{CountsFault, CountsOnly};
 ghost use Rattle.cap_judge.specs.{OriginLists.report_text, Reports.{Reported, Tells}, VerdictLines.verdict_line};
 ghost use Rattle.cap_judge.specs.Verdicts.{NamesEscapes};
@@ -10,8 +10,9 @@ use crate::origins::push_origins;
 use crate::streams::{JudgeEnd, judge_in, judge_keeping};
 use crate::verdict::Verdict;
 use crate::verdict_lines::verdict_text;
-use cap_log::{JudgeToFault, PushFault, Sink, Source, push_all};
+use cap_log::{PushFault, Sink, Source, push_all};
 use cap_machine::Machine;
+use cap_streams::judging::JudgeToFault;
 use std::alloc::Global;
 use tagmem::{PageStore, TaggedStore};
 

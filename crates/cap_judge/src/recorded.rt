@@ -2,18 +2,16 @@
 
 #![tactic(auto, unfolding(cap_log::specs::Lines::spelling))]
 
-ghost use Rattle.std.specs.Prelude.{◌≡◌, ◌∷◌, ◌++◌, IfSome, Ok, true};
+ghost use Rattle.std.specs.Prelude.{◌≡◌, ◌∷◌, ◌++◌, IfSome, Ok};
 ghost use Rattle.cap_log.specs.{Heads.{head_spelling, numbered_step, plain_step}, Lines.{IsInRange, spelling}, Parts.{Begins, result_spelling}};
 ghost use Rattle.cap_log.specs.declared.lines.Line.TheVariants as lines;
 ghost use Rattle.cap_machine.specs.{Changes.result_in, Helds.{EndsBy, state_of}, States.{State, untagged_null}};
 ghost use Rattle.cap_machine.specs.Steps.{Recorded.Written, Row, row_of};
-ghost use Rattle.cap_judge.specs.Readings.{mark_of};
 
 use cap_log::kinds::{Numbered, Plain};
-use cap_log::{Part, Register, Target, are_four};
+use cap_log::{Part, Register, Target, strip_result};
 use cap_machine::{Machine, Operation};
-use cap_word::{Cap, Word, number_text};
-use std::simd::prelude::*;
+use cap_word::{Cap, Word};
 use tagmem::TaggedStore;
 
 /// A kind of step whose line ends with a result that is quickly derived.
@@ -77,46 +75,4 @@ pub(crate) fn glance<'a, M: TaggedStore, D: Derived>(
     let step = D::recording(before, derived);
     step.in_range();
     Some((step, derived, rest))
-}
-
-// What follows this result and a line feed at the front of some bytes.
-#[inline(always)]
-fn strip_result(bytes: &[u8], recorded: Cap) -> Option<&[u8]>
-    ensures some { IfSome result (λ rest. bytes.now ≡ result_spelling recorded ++ 10 ∷ rest.now) }
-{
-    let (first, others) = bytes.split_first_chunk::<4>()?;
-    if !are_four(first, mark_of(recorded.tag)) {
-        return None;
-    }
-    let (high, others) = others.split_first_chunk::<16>()?;
-    let (low, others) = others.split_first_chunk::<16>()?;
-    let (last, rest) = others.split_first()?;
-    let word = recorded.word.0;
-    // One half after the other: compared at once, a move takes two instructions more.
-    if !is_same(high, &number_text((word >> 64) as u64)) {
-        return None;
-    }
-    if !is_same(low, &number_text((word % (1 << 64)) as u64)) {
-        return None;
-    }
-    if *last == b'\n' { Some(rest) } else { None }
-}
-
-// What stands before the digits of a result with this tag.
-#[inline(always)]
-fn mark_of(tag: bool) -> &'static [u8; 4]
-    ensures { result.now ≡ mark_of tag }
-{
-    if tag { b"= 1 " } else { b"= 0 " }
-}
-
-// Whether sixteen bytes are these, as one vector.
-#[inline(always)]
-fn is_same(bytes: &[u8; 16], text: &[u8; 16]) -> bool
-    ensures same { result ≡ true → bytes.now ≡ text.now }
-{
-    u8x16::from_array(*bytes)
-        .simd_ne(u8x16::from_array(*text))
-        .to_bitmask()
-        == 0
 }

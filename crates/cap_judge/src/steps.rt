@@ -4,8 +4,8 @@ ghost use Rattle.std.specs.Prelude.{◌≡◌, ℕ, List, ◌∷◌, ◌++◌, I
 ghost use Rattle.cap_log.specs.{Heads.head_spelling, Lines.{IsInRange, spelling}, Parts.Begins};
 ghost use Rattle.cap_log.specs.declared.lines.Line.TheVariants as lines;
 ghost use Rattle.cap_machine.specs.Helds.{AnswersStep};
-ghost use Rattle.cap_judge.specs.declared.judges.NextLine.TheVariants.{Body};
-ghost use Rattle.cap_judge.specs.Readings.{EndsAt, IsFullAt, MakesSteps, TakesAll, TakesOne, at};
+ghost use Rattle.cap_judge.specs.declared.judges.Due.TheVariants.{Body};
+ghost use Rattle.cap_judge.specs.Readings.{EndsBytes, IsFullAt, MakesSteps, TakesAll, TakesOne, at};
 
 use crate::recorded::{Derived, glance};
 use cap_log::kinds::{AndPerm, ClearTag, Move, SetAddr};
@@ -27,7 +27,7 @@ pub fn take_steps<'a, M: TaggedStore>(
 ) -> (&'a [u8], Option<StepEnd>)
     ensures taken { (front : List ℕ) × (bytes.now ≡ front ++ result.0.now)
         × MakesSteps machine.old front machine.new }
-    ensures end { IfSome result.1 (EndsAt (at Body machine.new) result.0.now) }
+    ensures end { IfSome result.1 (EndsBytes (at Body machine.new) result.0.now) }
     ensures full { IfSome result.1 (λ end. IsFullAt end machine.new) }
 {
     let mut rest = bytes;
@@ -53,7 +53,7 @@ fn take_usual<'a, M: TaggedStore>(
 ) -> (&'a [u8], Option<StepEnd>)
     ensures taken { (front : List ℕ) × (bytes.now ≡ front ++ result.0.now)
         × MakesSteps machine.old front machine.new }
-    ensures end { IfSome result.1 (EndsAt (at Body machine.new) result.0.now) }
+    ensures end { IfSome result.1 (EndsBytes (at Body machine.new) result.0.now) }
     ensures full { IfSome result.1 (λ end. IsFullAt end machine.new) }
 {
     let mut rest = bytes;
@@ -183,7 +183,7 @@ impl<'a, M: TaggedStore> ByKind<'a, Machine<M>> for Alone {
 /// Takes bytes that are the line of a step, with its line feed, and no more; `None`, and nothing has changed,
 /// where they are not.
 #[inline(always)]
-pub(crate) fn take_alone<M: TaggedStore>(
+pub(crate) fn take_lone_step<M: TaggedStore>(
     machine: &mut Machine<M>,
     line: &[u8],
 ) -> Option<Result<(), StepEnd>>

@@ -2,7 +2,7 @@
 
 ghost use Rattle.std.specs.Prelude.{◌≡◌, ℕ, List, [], ◌++◌, Err, IsOk, IfOk, IfErr};
 ghost use Rattle.std.specs.FinMap as map;
-ghost use Rattle.cap_streams.specs.{declared.judge_faults.JudgeFault.TheVariants.{NoMemory, Pull}, FaultLines.bytes_of};
+ghost use Rattle.cap_streams.specs.{declared.judging.judge_faults.JudgeFault.TheVariants.{NoMemory, Pull}, FaultLines.bytes_of};
 ghost use Rattle.cap_streams.specs.{ReadBuffers.items, Streams.CountsOnly};
 ghost use Rattle.cap_judge.specs.{Judgings.{Judged, JudgedAll, JudgedBy}, Logs.{LacksRoom, NamesNoGranules}};
 ghost use Rattle.cap_judge.specs.{Readings.{IsAnswered, StopsAt, room_of, stage_of}, Turns.unread};
@@ -11,14 +11,21 @@ ghost use Rattle.cap_judge.specs.Verdicts.{EscapesExactly, NoVerdictIn, IsGuarde
 use crate::faults::RefusedLine;
 use crate::judges::{Judge, Stop};
 use crate::verdict::Verdict;
-use cap_log::{FaultLine, JudgeFault, PullFault, ReadBuffer, SliceSource, Source};
+use cap_log::{PullFault, SliceSource, Source};
 use cap_machine::Machine;
+use cap_streams::ReadBuffer;
+use cap_streams::judging::{FaultLine, JudgeFault};
 use std::alloc::Global;
 use tagmem::{PageStore, TaggedStore};
 
 /// Judges the bytes of a log. It is `Yes` exactly for a log whose steps have a run from its roots, and
 /// otherwise `No` with the first fault. Memory is taken only where a line names a granule for the first
 /// time; `NoMemory` comes only there.
+///
+/// ```rust
+/// let verdict = judge_bytes(alloc, b"capcheck 1\nend 0\n");
+/// assert_eq!(rt; verdict, Ok(Verdict::Yes { steps: 0, roots: 0 }));
+/// ```
 pub fn judge_bytes(alloc: Global, bytes: &[u8]) -> Result<Verdict, JudgeFault>
     ensures verdict { IfOk result (IsVerdict bytes.now) }
 

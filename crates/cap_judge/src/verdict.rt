@@ -1,8 +1,12 @@
 //! What a judge answers.
 
+ghost use Rattle.std.specs.Prelude.{Some};
+ghost use Rattle.cap_judge.specs.VerdictLines.{take_fault_text};
+
 use cap_log::Size;
 use cap_machine::Refusal;
 use cap_word::Cap;
+use std::{error, fmt};
 
 /// The verdict on the bytes of a log.
 #[derive(Debug, Clone, Copy, PartialEq, Eq)]
@@ -31,6 +35,19 @@ pub enum TakeFault {
     /// There was no memory for a granule that the line names for the first time.
     NoMemory,
 }
+
+impl fmt::Display for TakeFault {
+    ghost output = { λ fault. Some (take_fault_text fault) };
+
+    fn fmt<W: fmt::Write>(&self, f: &mut fmt::Formatter<W>) -> fmt::Result {
+        f.write_str(match self {
+            TakeFault::NoLine => "the bytes are no line",
+            TakeFault::NoMemory => "out of memory",
+        })
+    }
+}
+
+impl error::Error for TakeFault {}
 
 /// The result that the rules give for a step whose line records another one.
 #[derive(Debug, Clone, Copy, PartialEq, Eq)]

@@ -7,6 +7,7 @@ mod OffsetLemmas
 pub mod OperandLemmas
 pub mod PartLemmas
 mod RegisterLemmas
+mod ResultLemmas
 pub mod Searches
 pub mod Shapes
 mod SizedLemmas

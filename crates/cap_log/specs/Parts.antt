@@ -5,7 +5,7 @@ use Rattle.std.specs.{Prelude.{Bool, true, false, Some, None, All, codes, decima
 use Rattle.std.specs.Str.Parse.{AllDigits, digits_value}
 use Rattle.cap_word.specs.{declared.word.Cap.Cap, Digits.hex_digits}
 use Rattle.cap_log.specs.{declared.{kinds.{Head.Head, Step.Step}, lines.{Line.Line, Mode.Mode}}, Heads.head_spelling}
-use Rattle.cap_log.specs.{Lines.{IsInRange, IsStepInRange, result_words, spelling}, Ranges.Datum}
+use Rattle.cap_log.specs.{Lines.{IsInRange, IsStepInRange, result_words, spelling, tag_spelling}, Ranges.Datum}
 
 -- the value in range whose spelling the bytes are, or none where they are no such value's
 abbrev pub ReadsAs : {A : Type 0} → (A → Type 0) → (A → List ℕ) → List ℕ → Option A → Type 0
@@ -79,6 +79,10 @@ pub record IsFrontNumber (most : ℕ) (bytes : List ℕ) (value count : ℕ) : T
 -- the result at the end of a step
 abbrev pub result_spelling : Cap → List ℕ
 result_spelling result = join_with_byte 32 (result_words result)
+
+-- what stands before the digits of a result with this tag
+abbrev pub result_mark : Bool → List ℕ
+result_mark tag = codes "= " ++ (tag_spelling tag ++ 32 ∷ [])
 
 -- what stands between the size and the value of a load, or of a store, behind a space
 abbrev pub value_mark : Bool → List ℕ

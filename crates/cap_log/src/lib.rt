@@ -33,12 +33,12 @@ pub use crate::parts::decimals::take_decimal;
 pub use crate::parts::fronts::{are_four, strip_word};
 pub use crate::parts::offsets::Offset;
 pub use crate::parts::registers::{Register, Target};
+pub use crate::parts::results::strip_result;
 pub use crate::parts::sized::{Datum, Size};
 pub use crate::parts::{Part, Single};
 pub use crate::readers::{read_line, spellings_are_distinct, take_line};
 pub use crate::writers::{write_line, write_place, write_step};
 pub use cap_streams::{
-    FailingSink, FailingSource, FaultLine, Front, JudgeFault, JudgeToFault, Lines, Next, PullFault,
-    PushFault, ReadBuffer, ReadSource, Sink, SliceSink, SliceSource, Source, WriteSink, front,
-    push_all,
+    FailingSink, FailingSource, Lines, Next, PullFault, PushFault, ReadSource, Sink, SliceSink,
+    SliceSource, Source, WriteSink, push_all,
 };

@@ -1,6 +1,6 @@
 -- An answer on all the bytes of a log, in numbers.
 use Rattle.std.proofs.Common.{◌≡◌, ◌≢◌, ℕ, List, Result, true, refl, ap, arith, Err, Ok, None, Some}
-use Rattle.cap_streams.specs.declared.judge_faults.JudgeFault.{JudgeFault, TheVariants.{NoMemory, Pull}}
+use Rattle.cap_streams.specs.declared.judging.judge_faults.JudgeFault.{JudgeFault, TheVariants.{NoMemory, Pull}}
 use Rattle.cap_judge.specs.{declared.verdict.Verdict.{Verdict, TheVariants.{Yes, No}}, Judgings.IsAnswerOf}
 use Rattle.cap_report.specs.{declared.answers.Answer.Answer, Answers.{AnswersBytes, numbers_of, without_verdict}}
 

@@ -4,9 +4,9 @@ use Rattle.cap_word.specs.{declared.word.Word.Word, Digits.hex_digits}
 use Rattle.cap_bounds.specs.Bounds.{length_of}
 use Rattle.cap_ops.specs.declared.refusal.Refusal.{Refusal, TheVariants.{BadHeader, LineTooLong, BadLine, Misplaced}}
 use Rattle.cap_ops.specs.declared.refusal.Refusal.TheVariants.{Truncated, WrongCount, PlaceTaken, LimitPassed, BadMode}
-use Rattle.cap_log.specs.{declared.{kinds.Step.Step, lines.{Line.Line, Place.Place}}, Lines.Spells}
+use Rattle.cap_log.specs.{declared.lines.{Line.Line, Place.Place}, Lines.Spells}
 use Rattle.cap_texts.specs.{CapLines.cap_lines, TextLines.{says_line, text_line}}
-use Rattle.cap_machine.specs.{declared.rules.Rules.{Rules, TheVariants.{One, TwoStrict, TwoClear}}, Accounts.Account}
+use Rattle.cap_machine.specs.Accounts.{Account}
 use Rattle.cap_machine.specs.States.{tagged}
 use Rattle.cap_judge.specs.Logs.{SpellsBy, has_form}
 use Rattle.cap_judge.proofs.JudgeLemmas.{no_form}
@@ -31,17 +31,6 @@ details_other account text Truncated details n0 n1 n2 n3 n4 n5 n6 n7 is = absurd
 details_other account text WrongCount details n0 n1 n2 n3 n4 n5 n6 n7 is = absurd (n6 refl)
 details_other account text LimitPassed details n0 n1 n2 n3 n4 n5 n6 n7 is = absurd (n7 refl)
 details_other account text refusal details n0 n1 n2 n3 n4 n5 n6 n7 is = is
-
--- roots and steps have a form by all rules
-pub root_form : (rules_are : Rules) (place : Place) (word : Word) → has_form rules_are (Line.Root place word) ≡ true
-root_form One place word = refl
-root_form TwoStrict place word = refl
-root_form TwoClear place word = refl
-
-pub step_form : (rules_are : Rules) (step : Step) → has_form rules_are (Line.Step step) ≡ true
-step_form One step = refl
-step_form TwoStrict step = refl
-step_form TwoClear step = refl
 
 -- a line of which nothing is told, whether it has a form or not
 pub nothing_told : (account : Account) (text : List ℕ) (line : Line) (refusal : Refusal) (formed : Bool)

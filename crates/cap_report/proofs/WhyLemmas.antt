@@ -2,12 +2,12 @@
 use Rattle.std.proofs.Common.{◌≡◌, ℕ, Bool, true, false, List, [], ◌++◌, refl, sym, ap, subst, Ok, Err, Result, OnOk}
 use Rattle.std.proofs.Common.{IfOk, OnErr, Some, if◌then◌else◌}
 use Rattle.cap_ops.specs.declared.refusal.Refusal.{Refusal}
-use Rattle.cap_streams.specs.{declared.judge_faults.JudgeFault.JudgeFault, FaultLines.bytes_of, Front.IsCut}
+use Rattle.cap_streams.specs.{declared.judging.judge_faults.JudgeFault.JudgeFault, FaultLines.bytes_of, Front.IsCut}
 use Rattle.cap_machine.specs.{Accounts.Account, Helds.{Held, account_of}}
-use Rattle.cap_judge.specs.declared.{faults.RefusedLine.RefusedLine, judges.NextLine.NextLine, verdict.Verdict.Verdict}
+use Rattle.cap_judge.specs.declared.{faults.RefusedLine.RefusedLine, judges.Due.Due, verdict.Verdict.Verdict}
 use Rattle.cap_judge.specs.declared.verdict.Verdict.TheVariants.{Yes, No}
 use Rattle.cap_judge.specs.Judgings.{IsVerdictOf, IsAnswerOf, LeadsAfter, StopsBefore, StopsIn}
-use Rattle.cap_judge.specs.{OriginLists.report_text, Readings.{EndsAs, EndsWith, Follows, IsFaultOf, at, due_of}}
+use Rattle.cap_judge.specs.{OriginLists.report_text, Readings.{AnswerAtEnd, VerdictWith, Follows, IsFaultOf, at, due_of}}
 use Rattle.cap_judge.specs.{Reports.Tells, Turns.unread, VerdictLines.verdict_line}
 use Rattle.cap_judge.proofs.{FaultPlaces.at_fault, ReportLemmas.{IsHeld, tells}}
 use Rattle.cap_judge.proofs.TurnLaws.{fault_ends, reached, told as told_at_end}
@@ -73,13 +73,13 @@ why_no origins held text verdict line refusal report is by =
 
 -- the text of a faulty line
 no_text : (bytes : List ℕ) (ended : Bool) (held : Held) (line : ℕ) (refusal : Refusal) (text report : List ℕ)
-    → EndsWith bytes ended held (No line refusal) text → IsLineReport (account_of held) text refusal report
+    → VerdictWith bytes ended held (No line refusal) text → IsLineReport (account_of held) text refusal report
     → IsVerdictOf bytes ended (No line refusal) × Explains false bytes ended (No line refusal) (verdict_line (No line refusal) ++ report)
 no_text bytes ended held line refusal text report ends told =
     (ends.0, (report, reported bytes ended held line refusal text report ends.0 ends.2 told, refl))
 
 -- of one that a judge was handed
-pub so_far : (bytes : List ℕ) (stage : NextLine) (held : Held) (fault : RefusedLine) (report : List ℕ) → Follows unread bytes (at stage held)
+pub so_far : (bytes : List ℕ) (stage : Due) (held : Held) (fault : RefusedLine) (report : List ℕ) → Follows unread bytes (at stage held)
     → IsFaultOf (due_of stage) (Some fault) → IsLineReport (account_of held) (bytes_of fault.text) fault.refusal report
     → ExplainsSoFar bytes (Some (No fault.line fault.refusal)) (verdict_line (No fault.line fault.refusal) ++ report)
 so_far bytes stage held fault report follows is told =
@@ -88,18 +88,18 @@ so_far bytes stage held fault report follows is told =
     (fault_ends bytes (at stage held) fault.line fault.refusal (bytes_of fault.text) reached is held refl false) told
 
 -- the text of a verdict on bytes that end after lines that a judge was handed
-pub yes_at_end : (bytes rest : List ℕ) (stage : NextLine) (held : Held) (end : Result Verdict RefusedLine) (verdict : Verdict) → end ≡ Ok verdict
-    → Follows unread bytes (at stage held) → IsCut rest → EndsAs (at stage held) rest end
+pub yes_at_end : (bytes rest : List ℕ) (stage : Due) (held : Held) (end : Result Verdict RefusedLine) (verdict : Verdict) → end ≡ Ok verdict
+    → Follows unread bytes (at stage held) → IsCut rest → AnswerAtEnd (at stage held) rest end
     → ExplainsEnd (bytes ++ rest) verdict (verdict_line verdict)
 yes_at_end bytes rest stage held end (Yes steps roots) is follows cut ends =
-    ((told_at_end bytes rest (at stage held) held (Yes steps roots) [] follows refl cut (subst (EndsAs (at stage held) rest) is ends)).0, refl)
-yes_at_end bytes rest stage held end (No line refusal) is follows cut ends = absurd (subst (EndsAs (at stage held) rest) is ends)
+    ((told_at_end bytes rest (at stage held) held (Yes steps roots) [] follows refl cut (subst (AnswerAtEnd (at stage held) rest) is ends)).0, refl)
+yes_at_end bytes rest stage held end (No line refusal) is follows cut ends = absurd (subst (AnswerAtEnd (at stage held) rest) is ends)
 
-pub no_at_end : (bytes rest : List ℕ) (stage : NextLine) (held : Held) (end : Result Verdict RefusedLine) (fault : RefusedLine) (report : List ℕ)
-    → end ≡ Err fault → Follows unread bytes (at stage held) → IsCut rest → EndsAs (at stage held) rest end
+pub no_at_end : (bytes rest : List ℕ) (stage : Due) (held : Held) (end : Result Verdict RefusedLine) (fault : RefusedLine) (report : List ℕ)
+    → end ≡ Err fault → Follows unread bytes (at stage held) → IsCut rest → AnswerAtEnd (at stage held) rest end
     → IsLineReport (account_of held) (bytes_of fault.text) fault.refusal report
     → ExplainsEnd (bytes ++ rest) (No fault.line fault.refusal) (verdict_line (No fault.line fault.refusal) ++ report)
 no_at_end bytes rest stage held end fault report is follows cut ends told =
     let no = No fault.line fault.refusal in
     no_text (bytes ++ rest) true held fault.line fault.refusal (bytes_of fault.text) report
-    (told_at_end bytes rest (at stage held) held no (bytes_of fault.text) follows refl cut (subst (EndsAs (at stage held) rest) is ends)) told
+    (told_at_end bytes rest (at stage held) held no (bytes_of fault.text) follows refl cut (subst (AnswerAtEnd (at stage held) rest) is ends)) told

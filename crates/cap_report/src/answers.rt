@@ -36,8 +36,8 @@ pub struct Answer {
     pub steps: u32,
     /// After a `yes` how many root lines the log has, else 0.
     pub roots: u32,
-    /// 1 for a `yes`, 2 for a `no`, 0 where no line is faulty so far, 3 where memory for a granule was refused, and 4
-    /// where there is no judge.
+    /// 1 for a `yes`, 2 for a `no`, 0 if no line is faulty so far, 3 if memory for a granule was refused, and 4
+    /// if there is no judge.
     pub state: u8,
     /// After a `no` the number of the refusal, 1 to 25, else 0.
     pub refusal: u8,

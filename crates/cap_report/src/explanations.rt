@@ -3,9 +3,9 @@
 ghost use Rattle.std.specs.Prelude.{◌≡◌, ◌≢◌, ◌↔◌, ◌≤◌, ℕ, Bool, List, ◌++◌, length, take, true, Err, Option, IfOk, OnOk};
 ghost use Rattle.std.specs.Prelude.{OnErr};
 ghost use Rattle.std.specs.FinMap as map;
-ghost use Rattle.cap_streams.specs.{declared.judge_faults.JudgeToFault.TheVariants.{NoMemory, Pull, Push}, FaultLines.bytes_of};
+ghost use Rattle.cap_streams.specs.{declared.judging.judge_faults.JudgeToFault.TheVariants.{NoMemory, Pull, Push}, FaultLines.bytes_of};
 ghost use Rattle.cap_streams.specs.{Front.IsCut, Streams.{CountsFault, CountsOnly}};
-ghost use Rattle.cap_streams.specs.declared.judge_faults.JudgeFault.TheVariants as judge_faults;
+ghost use Rattle.cap_streams.specs.declared.judging.judge_faults.JudgeFault.TheVariants as judge_faults;
 ghost use Rattle.cap_machine.specs.Helds.{account_of};
 ghost use Rattle.cap_judge.specs.{declared.verdict.Verdict.{Verdict, TheVariants.No}, Readings.HasRead};
 ghost use Rattle.cap_judge.specs.{Judgings.{IsAnswerOf, LeadsAfter, StopsIn}, Logs.LacksRoom};
@@ -25,7 +25,7 @@ use tagmem::{PageStore, TaggedStore};
 
 /// Judges the bytes that a source gives, pushes the line of the verdict, and after a `no` the report of the
 /// first fault: its line, and what the machine held before it and the rules would have given. After a `yes`
-/// the origins are pushed where they are asked for, as by `judge_origins`.
+/// the origins are pushed if they are asked for, as by `judge_origins`.
 pub fn judge_why<S: Source, K: Sink>(
     alloc: Global,
     origins: bool,
@@ -56,7 +56,7 @@ pub fn judge_why_bytes<M: TaggedStore, K: Sink>(
     ensures explained { IsPushedFor (Explains origins bytes.now true) bytes.now true (K.took sink.old sink.new) result }
     ensures pulls_nothing { result ≢ Err Pull }
 
-    // There is no verdict only where at least as many granules were named as surely have room.
+    // There is no verdict only if at least as many granules were named as surely have room.
     ensures full { result ≡ Err NoMemory → LacksRoom (M.least_room memory) bytes.now }
     ensures escape { IfOk result NamesEscapes }
     ensures pushes_counted { CountsOnly (Err Push) (K.faults sink.old) (K.faults sink.new) result }
@@ -146,7 +146,7 @@ fn push_judging<M: TaggedStore, K: Sink>(
     Ok(verdict)
 }
 
-// Pushes the text of a verdict: after a `yes` with the origins where they are asked for, and after a `no` with
+// Pushes the text of a verdict: after a `yes` with the origins if they are asked for, and after a `no` with
 // the report of the line that was refused.
 fn push_why<M: TaggedStore, K: Sink>(
     verdict: &Verdict,

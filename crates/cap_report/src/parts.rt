@@ -118,7 +118,7 @@ fn put_differs_line(buffer: &mut [u8], at: usize, a: Cap, b: Cap) -> usize
     put(buffer, at, b"\n")
 }
 
-// Writes a field's name, where it differs.
+// Writes a field's name, if it differs.
 fn put_where(buffer: &mut [u8], at: usize, same: bool, name: &[u8]) -> usize
     requires short { length name.now ≤ 9 }
     requires room { at + 9 ≤ length buffer.old }

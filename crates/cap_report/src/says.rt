@@ -453,7 +453,7 @@ fn put_failed(buffer: &mut [u8], at: usize, seen: &Seen, refusal: Refusal) -> us
     }
 }
 
-// Where a result comes from that isn't recorded.
+// If a result comes from that isn't recorded.
 fn giver(access: Option<Reached>) -> &'static [u8]
     ensures text { result.now ≡ giver access }
     ensures short { length result.now ≤ 17 }

@@ -1,4 +1,4 @@
-//! The report on a step: what it read and asked for, and where its line records another result, what the
+//! The report on a step: what it read and asked for, and if its line records another result, what the
 //! rules give.
 
 ghost use Rattle.std.specs.Prelude.{◌≡◌, ◌+◌, ◌*◌, ◌<◌, ◌≤◌, ◌∷◌, [], Some, None, IfSome, length};

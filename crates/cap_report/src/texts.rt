@@ -66,7 +66,7 @@ impl<'a> Sink for TextSink<'a> {
     }
 }
 
-// Writes a piece from an index on, where all of it fits.
+// Writes a piece from an index on, if all of it fits.
 fn put_where_it_fits(room: &mut [u8], at: usize, piece: &[u8])
     ensures written { at + length piece.now ≤ length room.old
         → WritesInside at (at + length piece.now) piece.now room.old room.new }

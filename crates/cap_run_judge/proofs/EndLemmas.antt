@@ -10,7 +10,7 @@ use Rattle.cap_run.specs.{declared.{asks.Asks.Asks, ends.RunRefusal.{RunRefusal,
 use Rattle.cap_run_judge.specs.declared.verdict.RunVerdict.{RunVerdict, TheVariants.{Yes, No}}
 use Rattle.cap_run_judge.specs.Turns.{Due, Ended, Goes, Refused, Stage, unread}
 use Rattle.cap_run_judge.specs.{Judgings.IsVerdictOf, Verdicts.{IsBehind, IsFirstFault, Lacks, MayLackMemory, Refuses, RefusesCut}}
-use Rattle.cap_run_judge.specs.Readings.{EndsIn, EndsWith, Faults, IsAtFault, RefusesNext, due_at_end, lines_by, lines_read, refused_at}
+use Rattle.cap_run_judge.specs.Readings.{VerdictAtEnd, VerdictWith, Faults, IsAtFault, RefusesNext, due_at_end, lines_by, lines_read, refused_at}
 use Rattle.cap_run_judge.proofs.GuardLemmas.{guarded_by, read_allowed}
 use Rattle.cap_run_judge.proofs.CountLemmas.{count_read, goes_clear}
 
@@ -46,7 +46,7 @@ module _ (asks_are : Asks) (front rest : List ℕ) (stage : Stage) (goes : Goes 
         subst (λ (b : List ℕ). IsFirstFault asks_are b (lines_read stage + 1) refusal) (append-nil (front ++ rest)) (first_fault [])
     fault_stands false = first_fault
 
-    fault_ends : (ended : Bool) → EndsWith asks_are (front ++ rest) ended stage.run (No (lines_read stage + 1) refusal) text
+    fault_ends : (ended : Bool) → VerdictWith asks_are (front ++ rest) ended stage.run (No (lines_read stage + 1) refusal) text
     fault_ends ended = (
       fault_stands ended,
       record {
@@ -59,29 +59,29 @@ module _ (asks_are : Asks) (front rest : List ℕ) (stage : Stage) (goes : Goes 
       },
     )
 
-    fault_verdict : (ended : Bool) (verdict : RunVerdict) (other : List ℕ) → EndsIn (refused_at stage refusal text) [] verdict other
-        → EndsWith asks_are (front ++ rest) ended stage.run verdict other
+    fault_verdict : (ended : Bool) (verdict : RunVerdict) (other : List ℕ) → VerdictAtEnd (refused_at stage refusal text) [] verdict other
+        → VerdictWith asks_are (front ++ rest) ended stage.run verdict other
     fault_verdict ended (Yes steps roots objects) other ends = let is = ends.0 in let no : ⊥ = cc in absurd no
     fault_verdict ended (No line why) other ends =
         let line_is : lines_read stage + 1 ≡ line = cc in
         let same : refusal ≡ why = cc in
         let text_is : text ≡ other = cc in
-        subst (λ (n : ℕ). EndsWith asks_are (front ++ rest) ended stage.run (No n why) other) line_is
-        (subst (λ (r : RunRefusal). EndsWith asks_are (front ++ rest) ended stage.run (No (lines_read stage + 1) r) other) same
-        (subst (EndsWith asks_are (front ++ rest) ended stage.run (No (lines_read stage + 1) refusal)) text_is (fault_ends ended)))
+        subst (λ (n : ℕ). VerdictWith asks_are (front ++ rest) ended stage.run (No n why) other) line_is
+        (subst (λ (r : RunRefusal). VerdictWith asks_are (front ++ rest) ended stage.run (No (lines_read stage + 1) r) other) same
+        (subst (VerdictWith asks_are (front ++ rest) ended stage.run (No (lines_read stage + 1) refusal)) text_is (fault_ends ended)))
 
   -- the verdict after a faulty line
-  pub fault_told : (new : Stage) (ended : Bool) (verdict : RunVerdict) (text : List ℕ) → Faults stage rest new → EndsIn new [] verdict text
-      → EndsWith asks_are (front ++ rest) ended new.run verdict text
+  pub fault_told : (new : Stage) (ended : Bool) (verdict : RunVerdict) (text : List ℕ) → Faults stage rest new → VerdictAtEnd new [] verdict text
+      → VerdictWith asks_are (front ++ rest) ended new.run verdict text
   fault_told new ended verdict text (inl faulty) ends = absurd (goes_clear asks_are front stage goes faulty.0)
   fault_told new ended verdict text (inr (clear, refusal, line, refused, last, is)) ends =
-      subst (λ (s : Stage). EndsWith asks_are (front ++ rest) ended s.run verdict text) (sym is)
-      (fault_verdict refusal line refused last ended verdict text (subst (λ (s : Stage). EndsIn s [] verdict text) is ends))
+      subst (λ (s : Stage). VerdictWith asks_are (front ++ rest) ended s.run verdict text) (sym is)
+      (fault_verdict refusal line refused last ended verdict text (subst (λ (s : Stage). VerdictAtEnd s [] verdict text) is ends))
 
   -- the verdict where the bytes end
   cut_told : (verdict : RunVerdict) (text : List ℕ) (refusal : RunRefusal) → IsCut rest
       → due_at_end stage.run stage.due rest ≡ Refused (lines_read stage + 1) refusal rest → RefusesCut stage.due rest refusal
-      → EndsIn stage rest verdict text → EndsWith asks_are (front ++ rest) true stage.run verdict text
+      → VerdictAtEnd stage rest verdict text → VerdictWith asks_are (front ++ rest) true stage.run verdict text
   cut_told (Yes steps roots objects) text refusal cut is refused ends = let is' = sym is ∙ ends.0 in let no : ⊥ = cc in absurd no
   cut_told (No line why) text refusal cut is refused ends =
       let both = sym is ∙ ends in
@@ -107,7 +107,7 @@ module _ (asks_are : Asks) (front rest : List ℕ) (stage : Stage) (goes : Goes 
 
   -- a whole log
   whole_told : (verdict : RunVerdict) (text : List ℕ) → due_at_end stage.run stage.due rest ≡ Ended → stage.due ≡ Ended → rest ≡ []
-      → EndsIn stage rest verdict text → EndsWith asks_are (front ++ rest) true stage.run verdict text
+      → VerdictAtEnd stage rest verdict text → VerdictWith asks_are (front ++ rest) true stage.run verdict text
   whole_told (No line why) text is due none ends = let is' = sym is ∙ ends in let no : ⊥ = cc in absurd no
   whole_told (Yes steps roots objects) text is due none ends =
       let all = subst (λ (r : List ℕ). Goes (unread asks_are) (front ++ r) stage) (sym none)
@@ -134,8 +134,8 @@ ending run_is (Refused line refusal text) rest clear = absurd (clear tt)
 ending run_is due rest clear = inr (Usual Truncated, refl, refl)
 
 pub end_told : (asks_are : Asks) (front rest : List ℕ) (stage : Stage) (verdict : RunVerdict) (text : List ℕ)
-    → Goes (unread asks_are) front stage → IsCut rest → EndsIn stage rest verdict text
-    → EndsWith asks_are (front ++ rest) true stage.run verdict text
+    → Goes (unread asks_are) front stage → IsCut rest → VerdictAtEnd stage rest verdict text
+    → VerdictWith asks_are (front ++ rest) true stage.run verdict text
 end_told asks_are front rest stage verdict text goes cut ends =
     elim (ending stage.run stage.due rest (goes_clear asks_are front stage goes)) [
       | inl whole ↦ whole_told asks_are front rest stage goes verdict text whole.0 whole.1 whole.2 ends

@@ -13,7 +13,7 @@ use Rattle.cap_run.specs.declared.{asks.Asks.Asks, ends.RunRefusal.{RunRefusal, 
 use Rattle.cap_run.specs.{Run.Run, RunChanges.line_after, RunChecks.{Answers, line_end, line_wants}}
 use Rattle.cap_run_judge.specs.declared.verdict.RunVerdict.{RunVerdict, TheVariants.{No}}
 use Rattle.cap_run_judge.specs.Turns.{Body, Due, Goes, Reads, Refused, Stage, next_due, refusal_by, text_of, unread}
-use Rattle.cap_run_judge.specs.Readings.{EndsIn, EndsWith, Faults, Follows, IsAtFault, RefusesNext, StopsAt, Takes, due_at_end}
+use Rattle.cap_run_judge.specs.Readings.{VerdictAtEnd, VerdictWith, Faults, Follows, IsAtFault, RefusesNext, StopsAt, Takes, due_at_end}
 use Rattle.cap_run_judge.specs.Verdicts.{IsRunVerdict, Lacks, Refuses}
 use Rattle.cap_run_judge.proofs.{CountLemmas.goes_clear, EndLemmas.{end_told, fault_told, refuses_next}, TurnLemmas.{body, body_answers, goes_on, line_is, one_goes}}
 use Rattle.cap_run_judge.proofs.OneVerdict.{Stops, one_reading, refused_stops}
@@ -124,11 +124,11 @@ module _ (asks_are : Asks) (bytes : List ℕ) (begun : Stage) (begins : Goes (un
 
 -- after a faulty line the verdict is a no, which stands whatever follows, by the run before that line
 pub no_ends : (asks_are : Asks) (bytes : List ℕ) (stage : Stage) (n : ℕ) (refusal : RunRefusal) (text : List ℕ) (ended : Bool)
-    → Follows (unread asks_are) bytes stage → stage.due ≡ Refused n refusal text → EndsWith asks_are bytes ended stage.run (No n refusal) text
+    → Follows (unread asks_are) bytes stage → stage.due ≡ Refused n refusal text → VerdictWith asks_are bytes ended stage.run (No n refusal) text
 no_ends asks_are bytes stage n refusal text ended (inl goes) is =
     absurd (goes_clear asks_are bytes stage goes (subst IsAtFault (sym is) tt))
 no_ends asks_are bytes stage n refusal text ended (inr (front, rest, are, middle, goes, faults)) is =
-    subst (λ (b : List ℕ). EndsWith asks_are b ended stage.run (No n refusal) text) (sym are)
+    subst (λ (b : List ℕ). VerdictWith asks_are b ended stage.run (No n refusal) text) (sym are)
     (fault_told asks_are front rest middle goes stage ended (No n refusal) text faults (ap (λ (d : Due). due_at_end stage.run d []) is))
 
 pub no_stands : (asks_are : Asks) (bytes : List ℕ) (stage : Stage) (n : ℕ) (refusal : RunRefusal) (text : List ℕ)
@@ -143,12 +143,12 @@ refused_in due is = absurd is
 
 -- the verdict on bytes as a whole log, by the run then or before the faulty line
 pub all_ends : (asks_are : Asks) (bytes : List ℕ) (stage : Stage) (verdict : RunVerdict) (text : List ℕ)
-    → Follows (unread asks_are) bytes stage → EndsIn stage [] verdict text → EndsWith asks_are bytes true stage.run verdict text
+    → Follows (unread asks_are) bytes stage → VerdictAtEnd stage [] verdict text → VerdictWith asks_are bytes true stage.run verdict text
 all_ends asks_are bytes stage verdict text (inl goes) ends =
-    subst (λ (b : List ℕ). EndsWith asks_are b true stage.run verdict text) (append-nil bytes)
+    subst (λ (b : List ℕ). VerdictWith asks_are b true stage.run verdict text) (append-nil bytes)
     (end_told asks_are bytes [] stage verdict text goes (omega arith, All-nil (λ b. b ≢ 10)) ends)
 all_ends asks_are bytes stage verdict text (inr (front, rest, are, middle, goes, faults)) ends =
-    subst (λ (b : List ℕ). EndsWith asks_are b true stage.run verdict text) (sym are)
+    subst (λ (b : List ℕ). VerdictWith asks_are b true stage.run verdict text) (sym are)
     (fault_told asks_are front rest middle goes stage true verdict text faults ends)
 
 -- One line

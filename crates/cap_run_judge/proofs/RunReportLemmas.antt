@@ -4,7 +4,7 @@ use Rattle.std.specs.{List.slice_get, Ordering.nat_cmp}
 use Rattle.std.proofs.Common.{◌≡◌, ℕ, ◌≤◌, ◌++◌, List, [], Bool, true, Option, Some, None, Err, option_and_then}
 use Rattle.std.proofs.Common.{refl, sym, ap, ◌∙◌, inl, inr, arith}
 use Rattle.std.proofs.lemmas.{Bool.{cases_Bool, cond-true, cond-false}, Option.{none-some, same_Some}}
-use Rattle.cap_streams.specs.{FaultLines.told_fault, declared.judge_faults.JudgeFault.{JudgeFault, TheVariants.{NoMemory, Pull}}}
+use Rattle.cap_streams.specs.{FaultLines.told_fault, declared.judging.judge_faults.JudgeFault.{JudgeFault, TheVariants.{NoMemory, Pull}}}
 use Rattle.cap_machine.specs.Helds.{Held}
 use Rattle.cap_objects.specs.{declared.{handouts.Handouts.Handouts, objects.Object.Object}, Extents.{Objects, is_present}}
 use Rattle.cap_objects.specs.{HandoutsIn.objects_of, Indexes.{kept, number_key}}

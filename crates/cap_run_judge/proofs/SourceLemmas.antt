@@ -2,14 +2,14 @@
 use Rattle.std.proofs.Common.{◌≡◌, ◌≢◌, ℕ, ◌+◌, ◌≤◌, Bool, true, false, List, [], ◌∷◌, ◌++◌, length, refl, sym, ap}
 use Rattle.std.proofs.Common.{subst, ◌∙◌, append-nil, append_assoc, arith, Result, Ok, Err, IfOk, IfErr, ◌-◌, ◌*◌, ◌<◌}
 use Rattle.std.proofs.Common.{length-append}
-use Rattle.cap_streams.specs.{declared.judge_faults.JudgeFault.{JudgeFault, TheVariants.{Pull, NoMemory}}, Front.IsCut}
+use Rattle.cap_streams.specs.{declared.judging.judge_faults.JudgeFault.{JudgeFault, TheVariants.{Pull, NoMemory}}, Front.IsCut}
 use Rattle.cap_run_log.specs.declared.lines.RunLine.{RunLine}
 use Rattle.cap_run.specs.{declared.asks.Asks.Asks, Run.Run}
 use Rattle.cap_run_judge.specs.declared.{faults.RefusedRunLine.RefusedRunLine, verdict.RunVerdict.{RunVerdict, TheVariants.{Yes, No}}}
 use Rattle.cap_run_judge.specs.Turns.{Goes, Stage, text_of, unread}
 use Rattle.cap_run_judge.specs.Verdicts.{IsRunVerdict, MayLackMemory, NoRunVerdictIn}
 use Rattle.cap_run_judge.specs.Judgings.{IsAnswerOf, IsVerdictOf, JudgedBy}
-use Rattle.cap_run_judge.specs.Readings.{EndsAs, EndsIn, EndsWith, IsAnswered, lines_read}
+use Rattle.cap_run_judge.specs.Readings.{AnswerAtEnd, VerdictAtEnd, VerdictWith, IsAnswered, lines_read}
 use Rattle.cap_run_judge.proofs.{CountLemmas.count_read, TurnLemmas.goes_on}
 
 -- want of memory with more bytes after it
@@ -56,16 +56,16 @@ of_all asks_are bytes given rest ended result are end answer no_pull =
 
 -- a yes or a no, where a log ends
 pub ended_answer : (stage : Stage) (rest text : List ℕ) (end : Result RunVerdict RefusedRunLine) (answer : Result RunVerdict JudgeFault)
-    → IsAnswered end answer text → EndsAs stage rest end → (verdict : RunVerdict) × (answer ≡ Ok verdict) × EndsIn stage rest verdict text
+    → IsAnswered end answer text → AnswerAtEnd stage rest end → (verdict : RunVerdict) × (answer ≡ Ok verdict) × VerdictAtEnd stage rest verdict text
 ended_answer stage rest text (Ok (Yes steps roots objects)) answer is ends = (Yes steps roots objects, is, ends)
 ended_answer stage rest text (Ok (No line refusal)) answer is ends = absurd ends
 ended_answer stage rest text (Err fault) answer is ends =
-    (No fault.line fault.refusal, is.0, subst (EndsIn stage rest (No fault.line fault.refusal)) (sym is.1) ends)
+    (No fault.line fault.refusal, is.0, subst (VerdictAtEnd stage rest (No fault.line fault.refusal)) (sym is.1) ends)
 
 module _ {S : Type 0} (asks_are : Asks) (gave : S → S → List ℕ → Type 0) (ended : S → Bool) (old new : S) (run_is : Run) (text given : List ℕ) where
   -- the answer of a verdict
   pub verdict_judged : (answer : Result RunVerdict JudgeFault) (verdict : RunVerdict) → answer ≡ Ok verdict
-      → EndsWith asks_are given (ended new) run_is verdict text → gave old new given → JudgedBy asks_are gave ended old new answer run_is text
+      → VerdictWith asks_are given (ended new) run_is verdict text → gave old new given → JudgedBy asks_are gave ended old new answer run_is text
   verdict_judged answer verdict is ends gives =
       rw is
       (record {

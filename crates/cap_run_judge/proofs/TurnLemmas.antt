@@ -1,9 +1,9 @@
 -- What lines lead to, and where a judge of run logs stops.
 use Rattle.std.proofs.Common.{◌≡◌, ◌≢◌, ℕ, ◌+◌, ◌-◌, inl, inr, false, List, [], ◌∷◌, ◌++◌, length, take, drop}
-use Rattle.std.proofs.Common.{refl, sym, ap, subst, ◌∙◌, map, append-nil, append_assoc, Bool, Option, None, Some, Result, Ok, Err}
+use Rattle.std.proofs.Common.{refl, sym, ap, subst, ◌∙◌, map, append-nil, append_assoc, Bool, Option, Some, Result, Ok, Err}
 use Rattle.std.proofs.lemmas.{Grind.flat_map-append}
 use Rattle.std.specs.List.{AllByRecursion}
-use Rattle.cap_log.specs.{declared.{kinds.Step.Step}, Lines.{IsStepInRange}, Parts.{Begins, ReadsAs}}
+use Rattle.cap_log.specs.{declared.kinds.Step.Step, Lines.IsStepInRange, Parts.Begins}
 use Rattle.cap_log.proofs.ElementLemmas.{AllByRecursion-append}
 use Rattle.cap_streams.specs.{FaultLines.bytes_of, Front.{IsCut, IsFrontText, IsLine}}
 use Rattle.cap_streams.proofs.FrontLemmas.{IsLine-not_cut, IsTooLong-not_cut}
@@ -22,7 +22,7 @@ use Rattle.cap_run_judge.specs.declared.judges.NextRunLine as code
 use Rattle.cap_run_judge.specs.declared.judges.NextRunLine.TheVariants as stages
 use Rattle.cap_run_judge.specs.Turns.{Body, Ended, Goes, Reads, Refused, Stage}
 use Rattle.cap_run_judge.specs.Turns.{stage_after, text_of}
-use Rattle.cap_run_judge.specs.Readings.{AnswersLine, EndsAs, EndsAt, EndsFor, IsAtFault, RefusesNext, StopsAt, Takes, due_at_end}
+use Rattle.cap_run_judge.specs.Readings.{AnswersLine, AnswerAtEnd, EndsBytes, EndsLine, IsAtFault, RefusesNext, StopsAt, Takes, due_at_end}
 use Rattle.cap_run_judge.specs.Readings.{due_of, lines_by, lines_read}
 
 -- Lines that are read
@@ -148,16 +148,10 @@ line_is line bytes rest is = subst (λ (b : List ℕ). IsLine b (run_spelling li
 
 -- one that is not taken
 pub ends_at : (stage : Stage) (bytes rest : List ℕ) (line : RunLine) (end : RunEnd) → Begins IsRunLineInRange run_spelling 10 bytes line rest
-    → EndsFor stage line end → EndsAt stage bytes end
+    → EndsLine stage line end → EndsBytes stage bytes end
 ends_at stage bytes rest line (RunEnd.Refused refusal) is refused =
     inl (run_spelling line, rest, line_is line bytes rest is, (Some line, (is.0, refl), refused))
 ends_at stage bytes rest line RunEnd.NoMemory is names = (rest, record { line = line; begins = is; allowed = names.0; wants = names.1 })
-
--- no line of run logs has the text of a front that none begins
-pub no_line_text : (bytes text rest : List ℕ) → IsLine bytes text rest
-    → ((line : RunLine) (more : List ℕ) → Begins IsRunLineInRange run_spelling 10 bytes line more → ⊥) → ReadsAs IsRunLineInRange run_spelling text None
-no_line_text bytes text rest whole none line range is =
-    none line rest (range, whole.whole ∙ ap (λ (t : List ℕ). t ++ 10 ∷ rest) is)
 
 -- no line is faulty
 pub clear_of : (stage : code.NextRunLine) → ((fault : RefusedRunLine) → stage ≡ stages.Refused fault → ⊥) → IsAtFault (due_of stage) → ⊥
@@ -178,7 +172,7 @@ last_front stage rest text refusal refused (inr (inr whole)) = inr (inr whole)
 pub ends_refused : (stage : Stage) (rest : List ℕ) (refusal : RunRefusal) (fault : RefusedRunLine)
     → due_at_end stage.run stage.due rest ≡ Refused (lines_read stage + 1) refusal rest → IsCut rest
     → fault.line ≡ lines_read stage + 1 → fault.refusal ≡ refusal → IsFrontText rest (bytes_of fault.text)
-    → EndsAs stage rest (Err fault)
+    → AnswerAtEnd stage rest (Err fault)
 ends_refused stage rest refusal fault refused cut number same front =
     refused ∙ cc (number, same, cut_text rest (bytes_of fault.text) cut front)
 

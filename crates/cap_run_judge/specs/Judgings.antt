@@ -1,6 +1,6 @@
 -- The answer on the bytes that a source gave (this profile's own, as are all below).
 use Rattle.std.specs.Prelude.{◌≡◌, ℕ, ◌+◌, Bool, true, false, List, ◌++◌, length, Result, IfOk, IfErr}
-use Rattle.cap_streams.specs.declared.judge_faults.JudgeFault.{JudgeFault, TheVariants.{Pull, NoMemory}}
+use Rattle.cap_streams.specs.declared.judging.judge_faults.JudgeFault.{JudgeFault, TheVariants.{Pull, NoMemory}}
 use Rattle.cap_streams.specs.Front.{IsCut}
 use Rattle.cap_judge.specs.Judgings.{IsLastFront}
 use Rattle.cap_run.specs.{declared.asks.Asks.Asks, Run.Run}

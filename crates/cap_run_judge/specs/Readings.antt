@@ -1,7 +1,7 @@
 -- What a judge of run logs has read of the bytes that it was handed (this profile's own, as are all below).
 use Rattle.std.specs.Prelude.{◌≡◌, ◌⊎◌, ℕ, ◌+◌, Bool, false, IsTrue, List, [], ◌++◌, Option, None, Some, Result, Ok, Err}
 use Rattle.cap_ops.specs.declared.refusal.Refusal.TheVariants.{Misplaced, Truncated}
-use Rattle.cap_streams.specs.{declared.judge_faults.JudgeFault.JudgeFault, FaultLines.bytes_of, Front.{IsCut, IsLine, IsTooLong}}
+use Rattle.cap_streams.specs.{declared.judging.judge_faults.JudgeFault.JudgeFault, FaultLines.bytes_of, Front.{IsCut, IsLine, IsTooLong}}
 use Rattle.tagmem.specs.declared.store.TaggedStore.{Ghosts}
 use Rattle.cap_judge.specs.{Judgings.IsLastFront, declared.judges.Stop.Stop}
 use Rattle.cap_judge.specs.declared.judges.Stop.TheVariants as stops
@@ -60,14 +60,14 @@ RefusesNext stage bytes refusal =
     ⊎ (IsTooLong bytes × (refusal ≡ long_refusal stage.due))
 
 -- why a line is not taken: it is refused; or nothing refuses it, and it may want memory
-abbrev pub EndsFor : Stage → RunLine → RunEnd → Type 0
-EndsFor stage line (ends.Refused refusal) = refusal_at stage (Some line) ≡ Some refusal
-EndsFor stage line ends.NoMemory = Allows stage line × IsTrue (line_wants stage.run line)
+abbrev pub EndsLine : Stage → RunLine → RunEnd → Type 0
+EndsLine stage line (ends.Refused refusal) = refusal_at stage (Some line) ≡ Some refusal
+EndsLine stage line ends.NoMemory = Allows stage line × IsTrue (line_wants stage.run line)
 
 -- why what the bytes begin with is not taken
-abbrev pub EndsAt : Stage → List ℕ → RunEnd → Type 0
-EndsAt stage bytes (ends.Refused refusal) = RefusesNext stage bytes refusal
-EndsAt stage bytes ends.NoMemory = (more : List ℕ) × Lacks stage bytes more
+abbrev pub EndsBytes : Stage → List ℕ → RunEnd → Type 0
+EndsBytes stage bytes (ends.Refused refusal) = RefusesNext stage bytes refusal
+EndsBytes stage bytes ends.NoMemory = (more : List ℕ) × Lacks stage bytes more
 
 -- a line that is allowed leads from a stage to a stage
 abbrev pub Takes : Stage → RunLine → Stage → Type 0
@@ -76,7 +76,7 @@ Takes old line new = Allows old line × (new ≡ stage_after old line)
 -- an answer to a line: it leads to a stage; or it isn't taken, for this reason, and nothing has changed
 abbrev pub AnswersLine : Stage → RunLine → Result (Unit {0}) RunEnd → Stage → Type 0
 AnswersLine old line (Ok done) new = Takes old line new
-AnswersLine old line (Err end) new = EndsFor old line end × (new ≡ old)
+AnswersLine old line (Err end) new = EndsLine old line end × (new ≡ old)
 
 -- a line is faulty: one before the bytes, or the first is what they begin with
 abbrev pub Faults : Stage → List ℕ → Stage → Type 0
@@ -93,7 +93,7 @@ Follows old bytes new =
 
 -- a step may come next, and its line isn't taken
 abbrev pub IsUnmade : Stage → RunLine → RunEnd → Type 0
-IsUnmade stage line end = (stage.due ≡ Body) × EndsFor stage line end
+IsUnmade stage line end = (stage.due ≡ Body) × EndsLine stage line end
 
 -- a judge that was handed a front and a rest took the front and stopped: the rest is less than a line; or begins with a
 -- faulty line; or with a line that nothing refuses and that may want memory
@@ -115,21 +115,21 @@ due_at_end run (Refused line refusal text) rest = Refused line refusal text
 due_at_end run due rest = Refused (lines_by run due + 1) (Usual Truncated) rest
 
 -- the verdict on a log that ends there, and after a no the text of the faulty line
-abbrev pub EndsIn : Stage → List ℕ → RunVerdict → List ℕ → Type 0
-EndsIn stage rest (Yes steps roots objects) text =
+abbrev pub VerdictAtEnd : Stage → List ℕ → RunVerdict → List ℕ → Type 0
+VerdictAtEnd stage rest (Yes steps roots objects) text =
     (due_at_end stage.run stage.due rest ≡ Ended) × (steps ≡ stage.run.steps) × (roots ≡ stage.run.roots) × (objects ≡ stage.run.count)
-EndsIn stage rest (No line refusal) text = due_at_end stage.run stage.due rest ≡ Refused line refusal text
+VerdictAtEnd stage rest (No line refusal) text = due_at_end stage.run stage.due rest ≡ Refused line refusal text
 
 -- a yes, or the faulty line
-abbrev pub EndsAs : Stage → List ℕ → Result RunVerdict faults.RefusedRunLine → Type 0
-EndsAs stage rest (Ok (Yes steps roots objects)) = EndsIn stage rest (Yes steps roots objects) []
-EndsAs stage rest (Ok (No line refusal)) = ⊥
-EndsAs stage rest (Err fault) = EndsIn stage rest (No fault.line fault.refusal) (bytes_of fault.text)
+abbrev pub AnswerAtEnd : Stage → List ℕ → Result RunVerdict faults.RefusedRunLine → Type 0
+AnswerAtEnd stage rest (Ok (Yes steps roots objects)) = VerdictAtEnd stage rest (Yes steps roots objects) []
+AnswerAtEnd stage rest (Ok (No line refusal)) = ⊥
+AnswerAtEnd stage rest (Err fault) = VerdictAtEnd stage rest (No fault.line fault.refusal) (bytes_of fault.text)
 
 -- a verdict on bytes whose source has ended, or a no that stands whatever follows them; with the run of the machine then,
 -- and the text of the faulty line
-abbrev pub EndsWith : Asks → List ℕ → Bool → Run → RunVerdict → List ℕ → Type 0
-EndsWith asks bytes ended run verdict text = IsVerdictOf asks bytes ended verdict × StopsIn asks bytes ended run text verdict
+abbrev pub VerdictWith : Asks → List ℕ → Bool → Run → RunVerdict → List ℕ → Type 0
+VerdictWith asks bytes ended run verdict text = IsVerdictOf asks bytes ended verdict × StopsIn asks bytes ended run text verdict
 
 -- a yes or a no, and after a no the text of the line at fault
 abbrev pub IsAnswered : Result RunVerdict faults.RefusedRunLine → Result RunVerdict JudgeFault → List ℕ → Type 0

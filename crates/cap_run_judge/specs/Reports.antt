@@ -1,7 +1,7 @@
 -- What a judge of run logs that writes its verdict answers and writes. All of it is this profile's own.
 use Rattle.std.specs.Prelude.{◌≡◌, ℕ, ◌≤◌, Bool, IsTrue, List, [], take, Result, Ok, Err, Some}
-use Rattle.cap_streams.specs.declared.judge_faults.JudgeToFault.{JudgeToFault, TheVariants.{Pull, NoMemory, Push}}
-use Rattle.cap_streams.specs.declared.judge_faults.JudgeFault.TheVariants as judge_faults
+use Rattle.cap_streams.specs.declared.judging.judge_faults.JudgeToFault.{JudgeToFault, TheVariants.{Pull, NoMemory, Push}}
+use Rattle.cap_streams.specs.declared.judging.judge_faults.JudgeFault.TheVariants as judge_faults
 use Rattle.cap_objects.specs.{Counts.owned_by, declared.objects.Object.Object, Extents.is_present}
 use Rattle.cap_run.specs.{declared.asks.Asks.Asks, Run.Run}
 use Rattle.cap_run_judge.specs.declared.verdict.RunVerdict.{RunVerdict, TheVariants.{Yes, No}}

@@ -1,7 +1,7 @@
 -- The verdict on the bytes of a run log. All of it is this profile's own.
 use Rattle.std.specs.Prelude.{◌≡◌, ◌≢◌, ℕ, ◌+◌, List, [], ◌∷◌, ◌++◌, length, IsTrue, Option, Some}
 use Rattle.cap_ops.specs.declared.refusal.Refusal.TheVariants.{LineTooLong, Misplaced, Truncated}
-use Rattle.cap_streams.specs.declared.judge_faults.JudgeFault.{JudgeFault, TheVariants.{Pull, NoMemory}}
+use Rattle.cap_streams.specs.declared.judging.judge_faults.JudgeFault.{JudgeFault, TheVariants.{Pull, NoMemory}}
 use Rattle.cap_streams.specs.Front.{FrontIs}
 use Rattle.cap_log.specs.Parts.{Begins, ReadsAs}
 use Rattle.cap_run_log.specs.{declared.lines.RunLine.RunLine, RunLines.{IsRunLineInRange, run_spelling}}

@@ -5,7 +5,7 @@ ghost use Rattle.cap_run_judge.specs.declared.verdict.RunVerdict.TheVariants.{No
 
 use crate::verdict::RunVerdict;
 use cap_run::RunRefusal;
-use cap_streams::FaultLine;
+use cap_streams::judging::FaultLine;
 
 /// The faulty line of a run log.
 #[derive(Clone, Copy)]

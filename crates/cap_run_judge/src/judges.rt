@@ -8,7 +8,7 @@ ghost use Rattle.cap_judge.specs.declared.judges.Stop.TheVariants as stops;
 ghost use Rattle.cap_run_log.specs.{declared.lines.RunLine.RunLine, RunLines.{IsRunLineInRange, run_spelling}};
 ghost use Rattle.cap_run_judge.specs.declared.faults.RefusedRunLine.{RefusedRunLine as FaultIn};
 ghost use Rattle.cap_run_judge.specs.declared.judges.NextRunLine.TheVariants.{Body, Refused as RefusedIn};
-ghost use Rattle.cap_run_judge.specs.Readings.{AnswersLine, EndsAs, EndsAt, IsAtFault, IsFaultOf, StopsAt, Takes};
+ghost use Rattle.cap_run_judge.specs.Readings.{AnswersLine, AnswerAtEnd, EndsBytes, IsAtFault, IsFaultOf, StopsAt, Takes};
 ghost use Rattle.cap_run_judge.specs.Readings.{lines_read, stage_of};
 ghost use Rattle.cap_run_judge.specs.Turns.{Goes, refusal_at, unread};
 ghost use Rattle.cap_run.specs.{declared.ends.RunRefusal.TheVariants.Usual, RunChanges.rules_of};
@@ -21,7 +21,8 @@ use cap_log::{Line, Mode, read_line};
 use cap_machine::{Refusal, Rules};
 use cap_run::{Asks, RunEnd, RunMachine, RunRefusal};
 use cap_run_log::{RunLine, take_derive, take_exchange, take_run_line};
-use cap_streams::{FaultLine, Front, front};
+use cap_streams::judging::FaultLine;
+use cap_streams::{Front, front};
 use std::alloc::Global;
 use tagmem::TaggedStore;
 
@@ -87,7 +88,7 @@ impl<M: TaggedStore> RunJudge<M> {
 
     /// The verdict if no other bytes follow than these, which are less than a line: a `yes`, or the faulty line.
     pub fn ending(&self, rest: &[u8]) -> Result<RunVerdict, RefusedRunLine>
-        ensures ends { IsCut rest.now → EndsAs (stage_of self.now) rest.now result }
+        ensures ends { IsCut rest.now → AnswerAtEnd (stage_of self.now) rest.now result }
         ensures fault { (fault : FaultIn) → self.now.stage ≡ RefusedIn fault → result ≡ Err fault }
     {
         match &self.stage {
@@ -242,7 +243,7 @@ impl<M: TaggedStore> RunJudge<M> {
     pub(crate) fn stop(&mut self, end: RunEnd, found: Front, bytes: &[u8]) -> Stop
         requires found { IsFront bytes.now found }
         requires clear { IsAtFault (stage_of self.old).due → ⊥ }
-        requires ends { EndsAt (stage_of self.old) bytes.now end }
+        requires ends { EndsBytes (stage_of self.old) bytes.now end }
         ensures stops { StopsAt (stage_of self.old) [] bytes.now result (stage_of self.new) }
     {
         match end {

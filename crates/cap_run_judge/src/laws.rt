@@ -5,7 +5,7 @@ ghost use Rattle.cap_streams.specs.Front.{IsCut};
 ghost use Rattle.cap_judge.specs.{Verdicts.IsVerdict, declared.verdict.Verdict.Verdict};
 ghost use Rattle.cap_run.specs.declared.asks.Asks.{Asks};
 ghost use Rattle.cap_run_judge.specs.{declared.verdict.RunVerdict.RunVerdict, Turns.{Goes, Stage, unread}};
-ghost use Rattle.cap_run_judge.specs.Readings.{EndsIn, EndsWith, Faults};
+ghost use Rattle.cap_run_judge.specs.Readings.{VerdictAtEnd, VerdictWith, Faults};
 ghost use Rattle.cap_run_judge.specs.{UsualLogs.{AreUsual, NamesNoLimit, as_run_verdict}, Verdicts.{IsRunVerdict, Lacks, MayLackMemory}};
 
 /// No bytes have two verdicts: a run log has one number of steps, one of roots and one of objects, and any other bytes
@@ -34,8 +34,8 @@ pub fn stages_are_of_run_logs()
 
     // The no at the first faulty line stands, whatever bytes follow.
     ensures fault { (asks : Asks) (front rest : List ℕ) (middle new : Stage) (ended : Bool) (verdict : RunVerdict) (text : List ℕ)
-        → Goes (unread asks) front middle → Faults middle rest new → EndsIn new [] verdict text
-        → EndsWith asks (front ++ rest) ended new.run verdict text }
+        → Goes (unread asks) front middle → Faults middle rest new → VerdictAtEnd new [] verdict text
+        → VerdictWith asks (front ++ rest) ended new.run verdict text }
 
     // Memory is wanted only where a line that no check refuses names a granule for the first time, or an object.
     ensures memory { (asks : Asks) (front rest more : List ℕ) (stage : Stage) → Goes (unread asks) front stage → Lacks stage rest more
@@ -43,6 +43,6 @@ pub fn stages_are_of_run_logs()
 
     // How the log ends if no other bytes follow than these, which are less than a line.
     ensures ends { (asks : Asks) (front rest : List ℕ) (stage : Stage) (verdict : RunVerdict) (text : List ℕ)
-        → Goes (unread asks) front stage → IsCut rest → EndsIn stage rest verdict text
-        → EndsWith asks (front ++ rest) true stage.run verdict text }
+        → Goes (unread asks) front stage → IsCut rest → VerdictAtEnd stage rest verdict text
+        → VerdictWith asks (front ++ rest) true stage.run verdict text }
 {}

@@ -2,7 +2,7 @@
 
 ghost use Rattle.std.specs.Prelude.{◌≡◌, ◌≤◌, ℕ, length, take, Err, OnOk, OnErr};
 ghost use Rattle.std.specs.FinMap as map;
-ghost use Rattle.cap_streams.specs.declared.judge_faults.JudgeToFault.TheVariants.{Pull, Push};
+ghost use Rattle.cap_streams.specs.declared.judging.judge_faults.JudgeToFault.TheVariants.{Pull, Push};
 ghost use Rattle.cap_streams.specs.Streams.{CountsFault, CountsOnly};
 ghost use Rattle.cap_run_judge.specs.{OwnerLists.run_report_text, Readings.run_in, Reports.{RunReported, TellsRun}, VerdictLines.run_verdict_line};
 
@@ -11,7 +11,8 @@ use crate::streams::{RunJudgeEnd, judge_run_keeping};
 use crate::verdict::RunVerdict;
 use crate::verdict_lines::run_verdict_text;
 use cap_run::{Asks, RunMachine};
-use cap_streams::{JudgeToFault, PushFault, Sink, Source, push_all};
+use cap_streams::judging::JudgeToFault;
+use cap_streams::{PushFault, Sink, Source, push_all};
 use std::alloc::Global;
 use tagmem::TaggedStore;
 

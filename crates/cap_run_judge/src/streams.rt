@@ -2,7 +2,7 @@
 
 ghost use Rattle.std.specs.Prelude.{◌≡◌, ◌≤◌, ℕ, List, [], ◌++◌, Err, IfOk, IfErr};
 ghost use Rattle.std.specs.FinMap as map;
-ghost use Rattle.cap_streams.specs.{declared.judge_faults.JudgeFault.TheVariants.Pull, FaultLines.bytes_of};
+ghost use Rattle.cap_streams.specs.{declared.judging.judge_faults.JudgeFault.TheVariants.Pull, FaultLines.bytes_of};
 ghost use Rattle.cap_streams.specs.{ReadBuffers.items, Streams.CountsOnly};
 ghost use Rattle.cap_run_judge.specs.{Judgings.{Judged, JudgedBy}, Turns.unread, Verdicts.{IsRunVerdict, NoRunVerdictIn}};
 ghost use Rattle.cap_run_judge.specs.Readings.{IsAnswered, StopsAt, lines_read, run_in, stage_of};
@@ -12,7 +12,8 @@ use crate::judges::RunJudge;
 use crate::verdict::RunVerdict;
 use cap_judge::Stop;
 use cap_run::{Asks, RunMachine};
-use cap_streams::{FaultLine, JudgeFault, PullFault, ReadBuffer, SliceSource, Source};
+use cap_streams::judging::{FaultLine, JudgeFault};
+use cap_streams::{PullFault, ReadBuffer, SliceSource, Source};
 use std::alloc::Global;
 use tagmem::{PageStore, TaggedStore};
 

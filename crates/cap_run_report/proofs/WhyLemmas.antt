@@ -4,7 +4,7 @@ use Rattle.cap_streams.specs.FaultLines.{bytes_of}
 use Rattle.cap_run.specs.{declared.{asks.Asks.Asks, ends.RunRefusal.RunRefusal}, Run.Run}
 use Rattle.cap_run_judge.specs.declared.{faults.RefusedRunLine.RefusedRunLine, verdict.RunVerdict.{RunVerdict, TheVariants.{Yes, No}}}
 use Rattle.cap_run_judge.specs.{Judgings.StopsIn, OwnerLists.run_report_text, Reports.AreNumbered, VerdictLines.run_verdict_line}
-use Rattle.cap_run_judge.specs.{Readings.{EndsAs, Follows}, Turns.{Refused, Stage, unread}}
+use Rattle.cap_run_judge.specs.{Readings.{AnswerAtEnd, Follows}, Turns.{Refused, Stage, unread}}
 use Rattle.cap_run_judge.proofs.FollowLemmas.{all_ends, no_ends}
 use Rattle.cap_run_report.specs.Answers.{ExplainsRun, ExplainsRunEnd, ExplainsRunSoFar, IsRunWhyText}
 use Rattle.cap_run_report.specs.LineReports.{IsRunLineReport}
@@ -36,17 +36,17 @@ so_far asks bytes stage n refusal text report follows is by =
 
 -- the text of a verdict on the lines that it was handed as a whole log
 pub yes_at_end : (asks : Asks) (bytes : List ℕ) (stage : Stage) (end : Result RunVerdict RefusedRunLine) (verdict : RunVerdict)
-    → end ≡ Ok verdict → AreNumbered stage.run → Follows (unread asks) bytes stage → EndsAs stage [] end
+    → end ≡ Ok verdict → AreNumbered stage.run → Follows (unread asks) bytes stage → AnswerAtEnd stage [] end
     → ExplainsRunEnd asks bytes verdict (run_verdict_line verdict)
 yes_at_end asks bytes stage end (Yes steps roots objects) is are follows ends =
-    let told_is = all_ends asks bytes stage (Yes steps roots objects) [] follows (subst (EndsAs stage []) is ends) in
+    let told_is = all_ends asks bytes stage (Yes steps roots objects) [] follows (subst (AnswerAtEnd stage []) is ends) in
     (told_is.0, (stage.run, (told_is.1, are), refl))
-yes_at_end asks bytes stage end (No line refusal) is are follows ends = absurd (subst (EndsAs stage []) is ends)
+yes_at_end asks bytes stage end (No line refusal) is are follows ends = absurd (subst (AnswerAtEnd stage []) is ends)
 
 pub no_at_end : (asks : Asks) (bytes : List ℕ) (stage : Stage) (end : Result RunVerdict RefusedRunLine) (fault : RefusedRunLine) (report : List ℕ)
-    → end ≡ Err fault → Follows (unread asks) bytes stage → EndsAs stage [] end
+    → end ≡ Err fault → Follows (unread asks) bytes stage → AnswerAtEnd stage [] end
     → IsRunLineReport stage.run (bytes_of fault.text) fault.refusal report
     → ExplainsRunEnd asks bytes (No fault.line fault.refusal) (run_verdict_line (No fault.line fault.refusal) ++ report)
 no_at_end asks bytes stage end fault report is follows ends by =
-    let told_is = all_ends asks bytes stage (No fault.line fault.refusal) (bytes_of fault.text) follows (subst (EndsAs stage []) is ends) in
+    let told_is = all_ends asks bytes stage (No fault.line fault.refusal) (bytes_of fault.text) follows (subst (AnswerAtEnd stage []) is ends) in
     (told_is.0, (stage.run, bytes_of fault.text, told_is.1, report, by, refl))

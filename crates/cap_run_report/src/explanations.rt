@@ -2,7 +2,7 @@
 
 ghost use Rattle.std.specs.Prelude.{◌≡◌, ◌≤◌, ℕ, List, ◌++◌, length, take, Err, OnOk, OnErr, Option};
 ghost use Rattle.std.specs.FinMap as map;
-ghost use Rattle.cap_streams.specs.declared.judge_faults.JudgeToFault.TheVariants.{Pull, Push};
+ghost use Rattle.cap_streams.specs.declared.judging.judge_faults.JudgeToFault.TheVariants.{Pull, Push};
 ghost use Rattle.cap_streams.specs.{FaultLines.bytes_of, Streams.{CountsFault, CountsOnly}};
 ghost use Rattle.cap_run.specs.declared.asks.Asks.{Asks as AsksIn};
 ghost use Rattle.cap_run_judge.specs.declared.verdict.RunVerdict.{RunVerdict as RunVerdictIn, TheVariants.No};
@@ -17,12 +17,13 @@ use cap_run_judge::{
     RefusedRunLine, RunJudge, RunJudgeEnd, RunVerdict, judge_run_keeping, push_run_report,
     push_run_verdict, run_verdict_text,
 };
-use cap_streams::{FaultLine, JudgeToFault, PushFault, Sink, Source, push_all};
+use cap_streams::judging::{FaultLine, JudgeToFault};
+use cap_streams::{PushFault, Sink, Source, push_all};
 use std::alloc::Global;
 use tagmem::TaggedStore;
 
 /// Judges as [`judge_run_to`](cap_run_judge::judge_run_to) does, and pushes the line of the verdict; after a `no` also the
-/// report of the first fault: its line, and what the run held before it. After a `yes` the owners are pushed where they are
+/// report of the first fault: its line, and what the run held before it. After a `yes` the owners are pushed if they are
 /// asked for.
 pub fn judge_run_why<S: Source, M: TaggedStore, K: Sink>(
     source: &mut S,
@@ -89,7 +90,7 @@ pub fn push_run_ending<M: TaggedStore, K: Sink>(
     }
 }
 
-// Pushes the text of a verdict: after a `yes` with the owners where they are asked for, and after a `no` with the report of
+// Pushes the text of a verdict: after a `yes` with the owners if they are asked for, and after a `no` with the report of
 // the line that was refused.
 fn push_why<M: TaggedStore, K: Sink>(
     owners: bool,

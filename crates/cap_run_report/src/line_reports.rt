@@ -18,7 +18,7 @@ use cap_report::fault_reports::put_counted_lines;
 use cap_report::root_says::put_unsound_says;
 use cap_run::{RunMachine, RunRefusal};
 use cap_run_log::{RunLine, RunPlace, read_run_line};
-use cap_streams::FaultLine;
+use cap_streams::judging::FaultLine;
 use cap_texts::shown_bytes::put_shown_line;
 use cap_texts::text_lines::{put_hex_line, put_line, put_says};
 use cap_texts::wrong_lines::{SHORT_LINE, cut_hint, place_hint, put_header_lines, put_hint_line};

@@ -1,12 +1,14 @@
 //! Words, and the results that steps record.
 
+ghost use Rattle.std.specs.Prelude.{◌≡◌, ◌∷◌, ◌++◌, IfSome, true};
 ghost use Rattle.cap_word.specs.Digits.{hex_digits};
-ghost use Rattle.cap_log.specs.{Lines.IsWord, Parts.result_spelling, Spaceless.digits-spaceless};
+ghost use Rattle.cap_log.specs.{Lines.IsWord, Parts.{result_mark, result_spelling}, Spaceless.digits-spaceless};
 
 use crate::buffers::put;
 use crate::parts::fronts::are_four;
 use crate::parts::{Part, Single};
-use cap_word::{Cap, Word, read_word, word_text};
+use cap_word::{Cap, Word, number_text, read_word, word_text};
+use std::simd::prelude::*;
 
 /// How many digits a word has.
 const WORD_DIGITS: usize = 32;
@@ -72,4 +74,47 @@ impl Part for Cap {
             put(buffer, digits, &word_text(self.word))
         }
     }
+}
+
+/// What follows this result and a line feed at the front of some bytes, or `None` if they don't stand there. It is told by
+/// its text: no digit is read.
+#[inline(always)]
+pub fn strip_result(bytes: &[u8], recorded: Cap) -> Option<&[u8]>
+    ensures some { IfSome result (λ rest. bytes.now ≡ result_spelling recorded ++ 10 ∷ rest.now) }
+{
+    let (first, others) = bytes.split_first_chunk::<4>()?;
+    if !are_four(first, result_mark(recorded.tag)) {
+        return None;
+    }
+    let (high, others) = others.split_first_chunk::<16>()?;
+    let (low, others) = others.split_first_chunk::<16>()?;
+    let (last, rest) = others.split_first()?;
+    let word = recorded.word.0;
+    // One half after the other: compared at once, a move takes two instructions more.
+    if !is_same(high, &number_text((word >> 64) as u64)) {
+        return None;
+    }
+    if !is_same(low, &number_text((word % (1 << 64)) as u64)) {
+        return None;
+    }
+    if *last == b'\n' { Some(rest) } else { None }
+}
+
+// What stands before the digits of a result with this tag.
+#[inline(always)]
+fn result_mark(tag: bool) -> &'static [u8; 4]
+    ensures { result.now ≡ result_mark tag }
+{
+    if tag { b"= 1 " } else { b"= 0 " }
+}
+
+// Whether sixteen bytes are these, as one vector.
+#[inline(always)]
+fn is_same(bytes: &[u8; 16], text: &[u8; 16]) -> bool
+    ensures same { result ≡ true → bytes.now ≡ text.now }
+{
+    u8x16::from_array(*bytes)
+        .simd_ne(u8x16::from_array(*text))
+        .to_bitmask()
+        == 0
 }

@@ -1,7 +1,7 @@
 use Rattle.std.specs.FinMap.{len, len-empty}
 use Rattle.std.proofs.{Common.{ap, subst, true, ◌∙◌, nat_cmp, arith, refl, ℕ, Result, Err}, lemmas.Result.err_from_is_err_and}
 use Rattle.cap_streams.specs.{FaultLines.{bytes_of, told_fault}, Streams.CountsOnly}
-use Rattle.cap_streams.specs.declared.judge_faults.{JudgeFault.JudgeFault, JudgeToFault.JudgeToFault}
+use Rattle.cap_streams.specs.declared.judging.judge_faults.{JudgeFault.JudgeFault, JudgeToFault.JudgeToFault}
 use Rattle.tagmem.specs.Granules.{Entry}
 use Rattle.cap_judge.specs.{Judgings.JudgedBy, OriginLists.report_text, Reports.Tells}
 use Rattle.cap_judge.proofs.{EscapeLaws.named, ReportLemmas.{IsHeld, pushed_nothing, tells}}

@@ -1,7 +1,7 @@
 use Rattle.std.proofs.Common.{◌≡◌, ◌≢◌, ◌≤◌, ◌-◌, [], List, ℕ, arith, drop, inl, length, refl, subst, take, true}
 use Rattle.std.proofs.{Common.{length-drop, take-append-drop, take_all}, lemmas.List.Elements.All-nil}
 use Rattle.cap_streams.specs.FaultLines.{bytes_of}
-use Rattle.cap_judge.specs.{Logs.{LacksRoom, MayLackMemory}, Readings.{EndsWith, Follows, room_of, stage_of}, Turns.unread}
+use Rattle.cap_judge.specs.{Logs.{LacksRoom, MayLackMemory}, Readings.{VerdictWith, Follows, room_of, stage_of}, Turns.unread}
 use Rattle.cap_judge.proofs.SourceLemmas.{all_judged, all_lack, answered_some, ended_answer}
 use Rattle.cap_judge.proofs.{TurnLaws.{lacks_memory, lacks_room, reached, refused_told, told}, TurnLemmas.{faults_at, stop_follows}}
 use Rattle.cap_judge.proofs.streams.judge_all.Goals as goal
@@ -20,7 +20,7 @@ returns-in-Cut g c = record {
       let ends = rw shown at c.ending.ensures.ends in
       let answer = ended_answer new rest text c.ending.result c.answered.result.0 c.answered.ensures (ends stop.1) in
       all_judged bytes text held c.answered.result.0 answer.0 answer.1
-      (subst (λ (b : List ℕ). EndsWith b true held answer.0 text) (take-append-drop count bytes)
+      (subst (λ (b : List ℕ). VerdictWith b true held answer.0 text) (take-append-drop count bytes)
       (told (take count bytes) rest new held answer.0 text (inl stop.0) refl stop.1 answer.2));
   full = λ none. absurd (answered_some c.ending.result c.answered.result.0 _ c.answered.ensures none);
 }

@@ -1,7 +1,7 @@
 use Rattle.std.proofs.Common.{◌≡◌, ◌≢◌, ◌++◌, [], ℕ, List, append-nil, append_assoc, arith, inl, length, refl, rules}
 use Rattle.std.proofs.{Common.{subst, sym, true, ◌∙◌}, lemmas.List.Elements.All-nil}
 use Rattle.cap_streams.specs.{FaultLines.bytes_of, Front.IsCut, ReadBuffers.items}
-use Rattle.cap_judge.specs.{Readings.{EndsAs, stage_of}, Turns.unread}
+use Rattle.cap_judge.specs.{Readings.{AnswerAtEnd, stage_of}, Turns.unread}
 use Rattle.cap_judge.proofs.SourceLemmas.{closer, ended_answer, given_more, lacking_judged, nothing_more, pull_judged}
 use Rattle.cap_judge.proofs.{SourceLemmas.verdict_judged, TurnLaws.{lacks_memory, reached, refused_told, told}}
 use Rattle.cap_judge.proofs.TurnLemmas.{faults_at, follows_on, goes_none, goes_on, stop_follows}
@@ -31,7 +31,7 @@ returns-in-Ok-eq0-clause-judged g c =
     let now = items c.fill.new.self in
     let cut = subst IsCut (sym (nothing_more (items c.pieces.pulled) ok.0 now ok.2 none)) c.pieces.invariant.cut in
     let shown = c.as_slice.ensures.value in
-    let ends = subst (λ (b : List ℕ). EndsAs stage b c.ending.result) shown (c.ending.ensures.ends (subst IsCut (sym shown) cut)) in
+    let ends = subst (λ (b : List ℕ). AnswerAtEnd stage b c.ending.result) shown (c.ending.ensures.ends (subst IsCut (sym shown) cut)) in
     let answer = ended_answer stage now (bytes_of c.answered.result.1) c.ending.result c.answered.result.0 c.answered.ensures ends in
     let tells = told here.0 now stage held answer.0 (bytes_of c.answered.result.1) (inl here.2) refl cut answer.2 in
     verdict_judged g.S.Source.gave g.S.Source.ended c.args.source.now c.fill.new.source held (bytes_of c.answered.result.1) (here.0 ++ now)

@@ -11,7 +11,7 @@ returns-in-Ok-clause-ok g c =
     on_ok c.push_verdict.result (λ took. λ bytes read cut. (
       c.in-Ok.verdict,
       verdict_line c.in-Ok.verdict,
-      yes_at_end bytes c.args.rest.now c.args.judge.now.stage c.args.judge.now.machine c.ending.result c.in-Ok.verdict c.in-Ok.is read cut
+      yes_at_end bytes c.args.rest.now c.args.judge.now.due c.args.judge.now.machine c.ending.result c.in-Ok.verdict c.in-Ok.is read cut
           (c.ending.ensures.ends cut),
       took,
       omega (arith, c.push_verdict.ensures.few),
@@ -22,7 +22,7 @@ returns-in-Ok-clause-err g c =
     on_err c.push_verdict.result (λ part. λ bytes read cut. (
       c.in-Ok.verdict,
       verdict_line c.in-Ok.verdict,
-      yes_at_end bytes c.args.rest.now c.args.judge.now.stage c.args.judge.now.machine c.ending.result c.in-Ok.verdict c.in-Ok.is read cut
+      yes_at_end bytes c.args.rest.now c.args.judge.now.due c.args.judge.now.machine c.ending.result c.in-Ok.verdict c.in-Ok.is read cut
           (c.ending.ensures.ends cut),
       part.0,
       part.1,
@@ -35,7 +35,7 @@ returns-in-Err-clause-ok g c =
     on_ok c.push_fault.result (λ p. λ bytes read cut. (
       No fault.line fault.refusal,
       verdict_line (No fault.line fault.refusal) ++ p.0,
-      no_at_end bytes c.args.rest.now c.args.judge.now.stage held c.ending.result fault p.0 c.in-Err.is read cut (c.ending.ensures.ends cut)
+      no_at_end bytes c.args.rest.now c.args.judge.now.due held c.ending.result fault p.0 c.in-Err.is read cut (c.ending.ensures.ends cut)
           (subst (λ h. IsLineReport (account_of h) (bytes_of fault.text) fault.refusal p.0) c.machine.ensures.held p.1),
       p.2,
       p.3,
@@ -48,7 +48,7 @@ returns-in-Err-clause-err g c =
     on_err c.push_fault.result (λ p. λ bytes read cut. (
       No fault.line fault.refusal,
       verdict_line (No fault.line fault.refusal) ++ p.0,
-      no_at_end bytes c.args.rest.now c.args.judge.now.stage held c.ending.result fault p.0 c.in-Err.is read cut (c.ending.ensures.ends cut)
+      no_at_end bytes c.args.rest.now c.args.judge.now.due held c.ending.result fault p.0 c.in-Err.is read cut (c.ending.ensures.ends cut)
           (subst (λ h. IsLineReport (account_of h) (bytes_of fault.text) fault.refusal p.0) c.machine.ensures.held p.1),
       p.2,
       p.3,

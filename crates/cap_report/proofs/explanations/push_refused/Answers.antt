@@ -21,7 +21,7 @@ returns-in-Some-clause-ok g c =
     on_ok c.push_fault.result (λ p. λ bytes read. (
       Some (No fault.line fault.refusal),
       verdict_line (No fault.line fault.refusal) ++ p.0,
-      so_far bytes c.args.judge.now.stage held fault p.0 read c.in-Some.ensures.fault
+      so_far bytes c.args.judge.now.due held fault p.0 read c.in-Some.ensures.fault
           (subst (λ h. IsLineReport (account_of h) (bytes_of fault.text) fault.refusal p.0) c.machine.ensures.held p.1),
       p.2,
       p.3,
@@ -34,7 +34,7 @@ returns-in-Some-clause-err g c =
     on_err c.push_fault.result (λ p. λ bytes read. (
       Some (No fault.line fault.refusal),
       verdict_line (No fault.line fault.refusal) ++ p.0,
-      so_far bytes c.args.judge.now.stage held fault p.0 read c.in-Some.ensures.fault
+      so_far bytes c.args.judge.now.due held fault p.0 read c.in-Some.ensures.fault
           (subst (λ h. IsLineReport (account_of h) (bytes_of fault.text) fault.refusal p.0) c.machine.ensures.held p.1),
       p.2,
       p.3,

@@ -3,7 +3,8 @@ use Rattle.cap_log.specs.{declared.lines.Line.Line, Lines.Spells}
 use Rattle.cap_streams.specs.Written.{Writes-nothing}
 use Rattle.cap_machine.specs.Helds.{account_of}
 use Rattle.cap_report.specs.{FaultReports.{known_lines, root_lines}, StepLines.step_lines}
-use Rattle.cap_report.proofs.DetailLemmas.{details_other, nothing_told, root_form, step_form}
+use Rattle.cap_judge.proofs.TurnLemmas.{formed}
+use Rattle.cap_report.proofs.DetailLemmas.{details_other, nothing_told}
 use Rattle.cap_report.proofs.fault_reports.put_details.Goals as goal
 
 pub returns-in-None : goal.returns-in-None
@@ -81,7 +82,7 @@ returns-in-Root-clause-written g c =
           c.in_default.not-BadHeader c.in_default.not-LineTooLong c.in_default.not-BadLine
           c.in_default.not-BadMode c.in_default.not-Misplaced
           c.in_default.not-Truncated c.in_default.not-WrongCount c.in_default.not-LimitPassed
-          (inl (Line.Root c.in-Root.place c.in-Root.word, (spells, root_form account.rules c.in-Root.place c.in-Root.word), refl)),
+          (inl (Line.Root c.in-Root.place c.in-Root.word, (spells, formed account.rules (Line.Root c.in-Root.place c.in-Root.word) refl), refl)),
       c.put_root_lines.ensures.written,
     )
 
@@ -95,7 +96,7 @@ returns-in-Step-clause-written g c =
           c.in_default.not-Misplaced c.in_default.not-Truncated
           c.in_default.not-WrongCount c.in_default.not-LimitPassed (inl (
             Line.Step c.in-Step.step,
-            (spells, step_form account.rules c.in-Step.step),
+            (spells, formed account.rules (Line.Step c.in-Step.step) refl),
             refl,
           )),
       c.put_step_lines.ensures.written,

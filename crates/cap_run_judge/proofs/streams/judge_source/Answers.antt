@@ -2,7 +2,7 @@ use Rattle.std.proofs.Common.{◌≡◌, ◌≢◌, ◌++◌, [], ℕ, List, app
 use Rattle.std.proofs.{Common.{subst, sym, true, ◌∙◌}, lemmas.List.Elements.All-nil}
 use Rattle.cap_streams.specs.{FaultLines.bytes_of, Front.IsCut, ReadBuffers.items}
 use Rattle.cap_judge.proofs.SourceLemmas.{given_more, nothing_more}
-use Rattle.cap_run_judge.specs.{Readings.{EndsAs, EndsWith, run_in, stage_of}, Turns.unread}
+use Rattle.cap_run_judge.specs.{Readings.{AnswerAtEnd, VerdictWith, run_in, stage_of}, Turns.unread}
 use Rattle.cap_run_judge.proofs.SourceLemmas.{closer, ended_answer, lacking_judged, pull_judged, verdict_judged}
 use Rattle.cap_run_judge.proofs.{EndLemmas.{end_told, fault_told, lacks_memory}, TurnLemmas.{goes_none, goes_on}}
 use Rattle.cap_run_judge.proofs.streams.judge_source.Goals as goal
@@ -33,7 +33,7 @@ returns-in-Ok-eq0-clause-judged g c =
     let text = bytes_of c.answered.result.1 in
     let cut = subst IsCut (sym (nothing_more (items c.pieces.pulled) ok.0 now ok.2 none)) c.pieces.invariant.cut in
     let shown = c.as_slice.ensures.value in
-    let ends = subst (λ (b : List ℕ). EndsAs stage b c.ending.result) shown (c.ending.ensures.ends (subst IsCut (sym shown) cut)) in
+    let ends = subst (λ (b : List ℕ). AnswerAtEnd stage b c.ending.result) shown (c.ending.ensures.ends (subst IsCut (sym shown) cut)) in
     let answer = ended_answer stage now text c.ending.result c.answered.result.0 c.answered.ensures ends in
     let tells = end_told asks here.0 now stage answer.0 text here.2 cut answer.2 in
     verdict_judged asks g.S.Source.gave g.S.Source.ended c.args.source.now c.fill.new.source stage.run text (here.0 ++ now)
@@ -95,7 +95,7 @@ returns-in-Fault-clause-judged g c =
     let ended = g.S.Source.ended c.fill.new.source in
     verdict_judged asks g.S.Source.gave g.S.Source.ended c.args.source.now c.fill.new.source new.run text (here.0 ++ (taken.0 ++ rest))
     c.answered-in-Fault.result.0 answer.0 answer.1
-    (subst (λ (b : List ℕ). EndsWith asks b ended new.run answer.0 text) (append_assoc here.0 taken.0 rest)
+    (subst (λ (b : List ℕ). VerdictWith asks b ended new.run answer.0 text) (append_assoc here.0 taken.0 rest)
     (fault_told asks (here.0 ++ taken.0) rest stop.0 goes new ended answer.0 text stop.2 answer.2))
     (given_more g.S.Source.gave here.0 (items c.pieces.pulled) (taken.0 ++ rest) g.met.S.Source.joined here.1 ok.3 (sym taken.1 ∙ ok.2))
 

@@ -14,5 +14,5 @@ returns-else-is_empty-clause-ends g c = λ cut.
 pub returns-in_default-clause-ends : goal.returns-in_default-clause-ends
 returns-in_default-clause-ends g c = λ cut.
     ends_refused (stage_of c.args.self.now) c.args.rest.now _ c.fault-in_default.result
-    (unended c.args.self.now.stage (account_of c.args.self.now.machine) c.args.rest.now c.in_default.not-Ended c.in_default.not-Refused)
+    (unended c.args.self.now.due (account_of c.args.self.now.machine) c.args.rest.now c.in_default.not-Ended c.in_default.not-Refused)
     cut c.fault-in_default.ensures.line c.fault-in_default.ensures.refusal c.fault-in_default.ensures.front

@@ -8,5 +8,5 @@ returns-in-Ok-clause-taken g c =
     let old = c.args.self.now.machine in
     let new = c.perform.new.machine in
     let step = g.I.Operands.step c.args.step in
-    step_follows c.args.self.now.stage old new (spelling (Line.Step step) ++ 10 ∷ []) c.in-Body.is
+    step_follows c.args.self.now.due old new (spelling (Line.Step step) ++ 10 ∷ []) c.in-Body.is
     (step, (c.perform.ensures.range, refl), makes_takes old new step c.in-Ok.ensures.outcome, c.in-Ok.ensures.outcome.same_room)

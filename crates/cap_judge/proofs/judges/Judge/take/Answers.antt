@@ -9,21 +9,21 @@ lines-init g c = record { taken = ([], refl, goes_none (stage_of c.args.self.now
 pub lines-preserved : goal.lines-preserved
 lines-preserved g c =
     let so_far = c.lines.invariant.taken in
-    let taken = c.take_some-stop.ensures.taken in
-    let none : c.take_some-stop.result.1 ≡ None = search rules in
+    let taken = c.take_steps_and_line-stop.ensures.taken in
+    let none : c.take_steps_and_line-stop.result.1 ≡ None = search rules in
     let on = rw none at taken.2 in
     record {
-      taken = goes_more (stage_of c.args.self.now) (stage_of c.lines.self) (stage_of c.take_some-stop.new.self) c.args.bytes.now so_far.0
-          c.lines.rest.now taken.0 c.take_some-stop.result.0.now so_far.1 so_far.2 taken.1 on.1;
-      same_room = c.take_some-stop.ensures.same_room ∙ c.lines.invariant.same_room;
+      taken = goes_more (stage_of c.args.self.now) (stage_of c.lines.self) (stage_of c.take_steps_and_line-stop.new.self) c.args.bytes.now so_far.0
+          c.lines.rest.now taken.0 c.take_steps_and_line-stop.result.0.now so_far.1 so_far.2 taken.1 on.1;
+      same_room = c.take_steps_and_line-stop.ensures.same_room ∙ c.lines.invariant.same_room;
     }
 
 pub returns-in-Some-clause-stops : goal.returns-in-Some-clause-stops
 returns-in-Some-clause-stops g c =
     let so_far = c.lines.invariant.taken in
-    let taken = c.take_some-stop.ensures.taken in
-    let some : c.take_some-stop.result.1 ≡ Some c.in-Some.stop = search rules in
+    let taken = c.take_steps_and_line-stop.ensures.taken in
+    let some : c.take_steps_and_line-stop.result.1 ≡ Some c.in-Some.stop = search rules in
     let stops = rw some at taken.2 in
-    stops_here (stage_of c.args.self.now) (stage_of c.lines.self) (stage_of c.take_some-stop.new.self) c.args.bytes.now so_far.0
+    stops_here (stage_of c.args.self.now) (stage_of c.lines.self) (stage_of c.take_steps_and_line-stop.new.self) c.args.bytes.now so_far.0
     c.lines.rest.now
-    taken.0 c.take_some-stop.result.0.now c.in-Some.stop so_far.1 taken.1 so_far.2 stops
+    taken.0 c.take_steps_and_line-stop.result.0.now c.in-Some.stop so_far.1 taken.1 so_far.2 stops

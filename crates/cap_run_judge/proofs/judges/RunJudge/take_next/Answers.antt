@@ -1,5 +1,5 @@
 use Rattle.std.proofs.Common.{[], inl, refl, rules, subst, sym}
-use Rattle.cap_run_judge.specs.{Readings.{EndsAt, IsAtFault, StopsAt, stage_of}, Turns.Stage}
+use Rattle.cap_run_judge.specs.{Readings.{EndsBytes, IsAtFault, StopsAt, stage_of}, Turns.Stage}
 use Rattle.cap_run_judge.proofs.TurnLemmas.{clear_of, ends_at, goes_none}
 use Rattle.cap_run_judge.proofs.judges.RunJudge.take_next.Goals as goal
 
@@ -16,7 +16,7 @@ stop-requires g c =
     record {
       found = c.front.ensures.found;
       clear = subst (λ (s : Stage). IsAtFault s.due → ⊥) (sym answer.1) (clear_of c.args.self.now.stage c.in_default.not-Refused);
-      ends = subst (λ (s : Stage). EndsAt s bytes c.in-Err.end) (sym answer.1)
+      ends = subst (λ (s : Stage). EndsBytes s bytes c.in-Err.end) (sym answer.1)
           (ends_at old bytes c.in-Some.rest.now c.in-Some.line c.in-Err.end c.in-Some.ensures.some answer.0);
     }
 

@@ -1,7 +1,7 @@
 use Rattle.std.proofs.Common.{refl}
 use Rattle.std.proofs.lemmas.Bool.{ne_eqb}
-use Rattle.cap_judge.proofs.RecordedLemmas.{same_lanes}
-use Rattle.cap_judge.proofs.recorded.is_same.Goals as goal
+use Rattle.cap_log.proofs.ResultLemmas.{same_lanes}
+use Rattle.cap_log.proofs.parts.results.is_same.Goals as goal
 
 pub returns : goal.returns
 returns c = record {

@@ -1,15 +1,15 @@
 use Rattle.std.proofs.Common.{◌∙◌, ◌∷◌}
 use Rattle.cap_word.specs.Digits.{hex_digits}
-use Rattle.cap_judge.specs.Readings.{mark_of}
-use Rattle.cap_judge.proofs.RecordedLemmas.{marked, rejoined, result_marked}
-use Rattle.cap_judge.proofs.recorded.strip_result.Goals as goal
+use Rattle.cap_log.specs.Parts.{result_mark}
+use Rattle.cap_log.proofs.ResultLemmas.{marked, rejoined, result_marked}
+use Rattle.cap_log.proofs.parts.results.strip_result.Goals as goal
 
 pub returns-then-last-eq10 : goal.returns-then-last-eq10
 returns-then-last-eq10 c =
     let recorded = c.args.recorded in
     record {
-      some = marked (mark_of recorded.tag) c.in_ok-first.first.now c.in_ok-high.high.now c.in_ok-low.low.now c.in_ok-last.last.now 10 recorded.word.0
-          c.args.bytes.now _ _ _ c.in_ok-last.rest.now (c.are_four.ensures.same.0 c.if-not-are_four.false ∙ c.mark_of.ensures)
+      some = marked (result_mark recorded.tag) c.in_ok-first.first.now c.in_ok-high.high.now c.in_ok-low.low.now c.in_ok-last.last.now 10 recorded.word.0
+          c.args.bytes.now _ _ _ c.in_ok-last.rest.now (c.are_four.ensures.same.0 c.if-not-are_four.false ∙ c.result_mark.ensures)
           (rejoined 4 _ _ _ c.in_ok-first.ensures.cases.0 c.in_ok-first.ensures.cases.1)
           (rejoined 16 _ _ _ c.in_ok-high.ensures.cases.0 c.in_ok-high.ensures.cases.1)
           (rejoined 16 _ _ _ c.in_ok-low.ensures.cases.0 c.in_ok-low.ensures.cases.1)

@@ -1,8 +1,8 @@
 use Rattle.std.proofs.Common.{inl, inr, refl, rules, subst, sym, drop, take, ◌+◌}
 use Rattle.cap_streams.specs.Front.{IsFront}
-use Rattle.cap_judge.specs.Readings.{EndsAt, Known, at, stage_of}
+use Rattle.cap_judge.specs.Readings.{EndsBytes, Known, at, stage_of}
 use Rattle.cap_judge.proofs.TurnLemmas.{begins_by, goes_none, text_ends_at}
-use Rattle.cap_judge.proofs.judges.Judge.take_found.Goals as goal
+use Rattle.cap_judge.proofs.judges.Judge.take_found_line.Goals as goal
 
 pub returns-in-Refused-clause-err : goal.returns-in-Refused-clause-err
 returns-in-Refused-clause-err g c =
@@ -17,7 +17,7 @@ stop-requires-in-Err-clause-ends g c =
     let n = c.in-Line.length in
     let bytes = c.args.bytes.now in
     let found = (subst (IsFront bytes) c.in-Line.is c.requires.found).1 in
-    subst (λ (k : Known). EndsAt (at k.stage k.held) bytes c.in-Err.end) (sym c.in-Err.ensures.same)
+    subst (λ (k : Known). EndsBytes (at k.due k.held) bytes c.in-Err.end) (sym c.in-Err.ensures.same)
     (text_ends_at (stage_of c.args.self.now) bytes (take n bytes) (drop (n + 1) bytes) c.in-Err.end found c.in-Err.ensures.err)
 
 pub returns-in-Ok-clause-ok : goal.returns-in-Ok-clause-ok

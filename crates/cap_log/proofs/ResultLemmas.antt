@@ -5,7 +5,7 @@ use Rattle.std.proofs.lemmas.{Bool.{cases_eq, eqb-true}, List.{length-map, take-
 use lib.Lanes.{zip2, mask_l, top}
 use Rattle.cap_word.specs.Digits.{hex_digits}
 use Rattle.cap_log.specs.Lines.{tag_spelling}
-use Rattle.cap_judge.specs.Readings.{mark_of}
+use Rattle.cap_log.specs.Parts.{result_mark}
 use Rattle.cap_word.proofs.ReadingLemmas.{hex_digits-halves}
 
 no_miss : (miss : ℕ → ℕ → ℕ) → ((x y : ℕ) → x ≢ y → miss x y ≡ 255) → (xs ys : List ℕ) → length xs ≡ length ys
@@ -42,6 +42,6 @@ marked mark first high low last end n bytes r s t rest m i j k l e h w =
 
 -- a result behind its mark
 pub result_marked : (tag : Bool) (digits rest : List ℕ)
-    → mark_of tag ++ (digits ++ rest) ≡ (codes "=" ++ 32 ∷ (tag_spelling tag ++ 32 ∷ digits)) ++ rest
+    → result_mark tag ++ (digits ++ rest) ≡ (codes "=" ++ 32 ∷ (tag_spelling tag ++ 32 ∷ digits)) ++ rest
 result_marked true digits rest = refl
 result_marked false digits rest = refl

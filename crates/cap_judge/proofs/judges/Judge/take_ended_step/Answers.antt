@@ -1,9 +1,9 @@
 use Rattle.std.proofs.Common.{[], ◌≡◌, ◌≢◌, ◌⊎◌, inl, inr, refl, subst}
 use Rattle.cap_log.specs.declared.lines.Line.{Line}
-use Rattle.cap_judge.specs.declared.judges.{NextLine.TheVariants.Body, Stop.{Stop, TheVariants.{Cut, Fault}}}
+use Rattle.cap_judge.specs.declared.judges.{Due.TheVariants.Body, Stop.{Stop, TheVariants.{Cut, Fault}}}
 use Rattle.cap_judge.specs.Readings.{Known, Lacks, at, stage_of}
 use Rattle.cap_judge.proofs.TurnLemmas.{ends_at, step_whole, stop_follows, whole_lacks}
-use Rattle.cap_judge.proofs.judges.Judge.take_end.Goals as goal
+use Rattle.cap_judge.proofs.judges.Judge.take_ended_step.Goals as goal
 
 pub stop-requires-clause-ends : goal.stop-requires-clause-ends
 stop-requires-clause-ends g c =
@@ -14,7 +14,7 @@ pub returns-in-NoMemory-clause-no_memory : goal.returns-in-NoMemory-clause-no_me
 returns-in-NoMemory-clause-no_memory g c =
     let ends = c.requires.ends in
     let stop = rw c.in-NoMemory.is at c.stop.ensures.stops in
-    let lacks = subst (λ (k : Known). Lacks (at k.stage k.held) c.args.line.now stop.1) (c.stop.ensures.same (λ e. cc)) stop.2 in
+    let lacks = subst (λ (k : Known). Lacks (at k.due k.held) c.args.line.now stop.1) (c.stop.ensures.same (λ e. cc)) stop.2 in
     (refl, whole_lacks (stage_of c.args.self.now) c.args.line.now stop.1 (step_whole c.args.line.now ends.0 ends.1) lacks)
 
 fault_only : (stop : Stop) → (stop ≡ Fault) ⊎ (stop ≡ Cut) → stop ≢ Cut → stop ≡ Fault
