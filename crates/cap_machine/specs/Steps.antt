@@ -137,6 +137,10 @@ abbrev pub granule_of : Place → Option ℕ
 granule_of (Register n) = None
 granule_of (Granule g) = Some g
 
+-- the place that a step writes
+abbrev pub written_by : State → Step → Option Place
+written_by state step = option_map (λ write. write.0) (row_of state step).writes
+
 -- the granule that a row names: the one that an sc or a store writes
 abbrev pub named_by : Row → Option ℕ
 named_by row = option_and_then (λ write. granule_of write.0) row.writes

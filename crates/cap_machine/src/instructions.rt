@@ -1,11 +1,13 @@
 //! The kinds of steps: what each does to a machine and shows of it, and what is done by the kind of a step. No other
 //! file of this crate's code names them.
 
-ghost use Rattle.std.specs.Prelude.{◌≡◌, List, ℕ, ◌∷◌, ◌++◌};
+ghost use Rattle.std.specs.Prelude.{◌≡◌, List, ℕ, ◌∷◌, ◌++◌, IfSome, Some};
 ghost use Rattle.cap_ops.specs.{Checks.Ends, Operations.clear_result};
-ghost use Rattle.cap_log.specs.{declared.kinds.Step.Step, Heads.head_spelling, Lines.IsStepInRange};
+ghost use Rattle.cap_log.specs.{declared.kinds.Step.Step, Heads.head_spelling, Lines.{IsPlace, IsStepInRange}};
+ghost use Rattle.cap_log.specs.declared.lines.Place.TheVariants as PlaceIn;
 ghost use Rattle.cap_machine.specs.{Changes.{IsOperation, result_in}, Helds.{AnswersStep, EndsBy, state_of}};
-ghost use Rattle.cap_machine.specs.{Shown.{IsShown, needs_to_store, shown_of}, States.State, Steps.{request_of, row_of}};
+ghost use Rattle.cap_machine.specs.{Shown.{IsShown, needs_to_store, shown_of}, States.State};
+ghost use Rattle.cap_machine.specs.Steps.{granule_through, request_of, row_of, written_by};
 
 use crate::ends::StepEnd;
 use crate::machine::{MOST_STEPS, Machine};
@@ -15,7 +17,7 @@ use cap_log::kinds::{
     ADDRESS, AndPerm, Authorized, ClearTag, EXACT_LENGTH, LENGTH, Load, LoadCap, Move, Numbered,
     Plain, Seal, SetAddr, SetBounds, SetBoundsExact, Store, StoreCap, Unseal,
 };
-use cap_log::{Head, Operands, Place, Register, Step, Target};
+use cap_log::{Head, Offset, Operands, Place, Register, Step, Target};
 use cap_ops::{
     Access, GLOBAL, Kind, OpFault, PERMIT_LOAD, PERMIT_SEAL, PERMIT_STORE, PERMIT_STORE_CAPABILITY,
     PERMIT_STORE_LOCAL_CAPABILITY, PERMIT_UNSEAL, Refusal, and_perm, and_perm_clear, clear_tag,
@@ -53,6 +55,11 @@ pub trait Instruction: Operands {
     fn shown<M: TaggedStore>(self, machine: &Machine<M>) -> Shown
         ensures shown { result ≡ shown_of (state_of machine.now) (Self.step self) }
         ensures in_range { IsShown result };
+
+    /// The place that the step writes, as [`Machine::written`] tells it.
+    fn written<M: TaggedStore>(&self, machine: &Machine<M>) -> Option<Place>
+        ensures place { result ≡ written_by (state_of machine.now) (Self.step self.now) }
+        ensures in_range { IfSome result IsPlace };
 }
 
 /// A kind of step that is an operation from a register to a register.
@@ -147,6 +154,11 @@ impl<O: Operation> Instruction for O {
                 recorded: parts.recorded,
             },
         }
+    }
+
+    #[inline(always)]
+    fn written<M: TaggedStore>(&self, _machine: &Machine<M>) -> Option<Place> {
+        register_at(self.parts().target)
     }
 }
 
@@ -288,6 +300,11 @@ impl Instruction for LoadCap {
         };
         Shown::of_access(Some(Place::Granule(granule)), reached, given)
     }
+
+    #[inline(always)]
+    fn written<M: TaggedStore>(&self, _machine: &Machine<M>) -> Option<Place> {
+        register_at(self.target)
+    }
 }
 
 impl Instruction for StoreCap {
@@ -308,6 +325,11 @@ impl Instruction for StoreCap {
             reached,
             Given::Nothing,
         )
+    }
+
+    #[inline(always)]
+    fn written<M: TaggedStore>(&self, machine: &Machine<M>) -> Option<Place> {
+        granule_at(machine, self.authority, self.offset)
     }
 }
 
@@ -347,6 +369,11 @@ impl Instruction for Load {
         let reached = machine.reached(self.authority, self.offset, size.bytes(), LOAD);
         Shown::of_access(None, reached, given)
     }
+
+    #[inline(always)]
+    fn written<M: TaggedStore>(&self, _machine: &Machine<M>) -> Option<Place> {
+        None
+    }
 }
 
 impl Instruction for Store {
@@ -369,6 +396,38 @@ impl Instruction for Store {
         );
         Shown::of_access(None, reached, Given::Nothing)
     }
+
+    #[inline(always)]
+    fn written<M: TaggedStore>(&self, machine: &Machine<M>) -> Option<Place> {
+        granule_at(machine, self.authority, self.offset)
+    }
+}
+
+// The register that a step writes.
+#[inline(always)]
+fn register_at(target: Target) -> Option<Place>
+    ensures value { result ≡ Some (PlaceIn.Register target) }
+    ensures in_range { IfSome result IsPlace }
+{
+    Some(Place::Register(target.number()))
+}
+
+// The granule that an access through a register reaches.
+#[tactic(auto, unfolding(cap_ops::specs::Accesses::access_address))]
+#[inline(always)]
+fn granule_at<M: TaggedStore>(
+    machine: &Machine<M>,
+    authority: Register,
+    offset: Offset,
+) -> Option<Place>
+    ensures value { result ≡ Some (PlaceIn.Granule (granule_through (state_of machine.now) authority offset)) }
+    ensures in_range { IfSome result IsPlace }
+{
+    let word = machine.register(authority.number()).word;
+    let address = word
+        .address()
+        .wrapping_add_signed(i64::from(offset.number()));
+    Some(Place::Granule(address / 16))
 }
 
 // The permissions that storing a capability needs.
@@ -472,4 +531,13 @@ pub fn show<M: TaggedStore>(step: &Step, machine: &Machine<M>) -> Shown
     ensures in_range { IsShown result }
 {
     by_kind!(*step, step => step.shown(machine))
+}
+
+/// The place that a step writes, as [`Instruction::written`] does.
+#[inline(always)]
+pub fn written_by<M: TaggedStore>(step: &Step, machine: &Machine<M>) -> Option<Place>
+    ensures place { result ≡ written_by (state_of machine.now) step.now }
+    ensures in_range { IfSome result IsPlace }
+{
+    by_kind!(*step, step => step.written(machine))
 }

@@ -17,10 +17,10 @@ ghost use Rattle.cap_machine.specs.{Escapes.{ClearsBeyond, Escapes}, Helds.{Answ
 ghost use Rattle.cap_machine.specs.Helds.{TakesRoot, account_of, code_in, state_of};
 ghost use Rattle.cap_machine.specs.{Parents.{IsSoundCap, StaysWithinParents}, Places.{IsCoded, place_at}};
 ghost use Rattle.cap_machine.specs.{Shown.{IsShown, shown_of}, States.{granule_key, key_of, untagged_null, value_at}};
-ghost use Rattle.cap_machine.specs.{Labels.{filled, labelled, placed_with, with_label, with_labelled_root}, Steps.{address_through, row_of}};
+ghost use Rattle.cap_machine.specs.{Labels.{filled, labelled, placed_with, with_label, with_labelled_root}, Steps.{address_through, row_of, written_by}};
 
 use crate::ends::StepEnd;
-use crate::instructions::{make, show};
+use crate::instructions::{make, show, written_by};
 use crate::limits::Limits;
 use crate::rules::Rules;
 use crate::shown::{Reached, Shown};
@@ -363,6 +363,15 @@ impl<M: TaggedStore> Machine<M> {
         ensures in_range { IsShown result }
     {
         show(step, self)
+    }
+
+    /// The place that a step writes, if any: a register, or the granule that its access reaches.
+    #[inline(always)]
+    pub fn written(&self, step: &Step) -> Option<Place>
+        ensures place { result ≡ written_by (state_of self.now) step.now }
+        ensures in_range { IfSome result IsPlace }
+    {
+        written_by(step, self)
     }
 
     /// The label of what a place holds: its code, 0 exactly where it has no tag. A code is a label that descent

@@ -5,9 +5,9 @@ use Rattle.std.proofs.Math.Path.{fun_ext}
 use Rattle.std.proofs.lemmas.{Bool.cases_lt, Option.{none-some}}
 use Rattle.cap_log.specs.declared.{kinds.Step.Step}
 use Rattle.tagmem.specs.Granules.{AreStored}
-use Rattle.cap_machine.specs.{Accounts.{Account, with_step}, declared.ends.StepEnd.StepEnd, Helds.{EndsStep, Held, Makes, account_of, state_of}, Runs.parent_of}
+use Rattle.cap_machine.specs.{Accounts.{Account, with_step}, declared.ends.StepEnd.StepEnd, Helds.{EndsStep, Held, Makes, account_of, state_of}, Runs.parent_of, Steps.written_by}
 use Rattle.cap_objects.specs.{Counts.{CountsAre, Owners}, declared.{handouts.Handouts.Handouts}, Handed.held_of, HandoutsIn.objects_of}
-use Rattle.cap_run.specs.{declared.specials.Specials.Specials, Owned.{AreWithin, object_by}, Run.first_special, RunOf.{run_owners, run_state}, UsualSteps.{MakesUsual, disowned, main_owners, written_by}}
+use Rattle.cap_run.specs.{declared.specials.Specials.Specials, Owned.{AreWithin, object_by}, Run.first_special, RunOf.{run_owners, run_state}, UsualSteps.{MakesUsual, disowned, main_owners}}
 use Rattle.cap_run.proofs.{GranuleLemmas.recounted-same, ObjectLemmas.owner-there}
 use Rattle.cap_run.proofs.UsualLemmas.{disowned-some, main-far, owners-main, owners-special, under_then, usual-ended}
 
@@ -65,8 +65,8 @@ module _ (held new : Held) (specials : Specials) (h : Handouts) (step : Step) (s
           account = ap (λ (a : Account). record a { origin = (account_of new).origin }) makes.account;
           leads = makes.leads;
           owners = λ key. after-none key
-              ∙ sym (is_none (disowned (written_by held step) (state_of new) by key) (λ slot is.
-              let owned = disowned-some (written_by held step) (state_of new) by key slot is in
+              ∙ sym (is_none (disowned (written_by (state_of held) step) (state_of new) by key) (λ slot is.
+              let owned = disowned-some (written_by (state_of held) step) (state_of new) by key slot is in
               none-some slot (sym (then_none (main_owners held) (parent_of (state_of held) step (state_of new) key) main-none) ∙ owned)));
           recounted = recounted-same h;
         }

@@ -9,6 +9,7 @@ use Rattle.cap_ops.specs.{declared.refusal.Refusal.Refusal, Checks.first_of}
 use Rattle.tagmem.specs.Granules.{AreStored}
 use Rattle.cap_machine.specs.{Accounts.{Account, row_in}, declared.rules.Rules.{Rules, TheVariants.{One, TwoClear, TwoStrict}}, Helds.{Held, account_of, state_of}}
 use Rattle.cap_machine.specs.Steps.{Access, Row, clear_row, row_by, row_of}
+use Rattle.cap_machine.proofs.StepLemmas.{row_by-access}
 use Rattle.cap_objects.specs.{declared.{handouts.Handouts.Handouts, objects.Object.Object}, Handed.{HasRoom, RefusesExtent}, HandoutsIn.objects_of}
 use Rattle.cap_objects.specs.declared.handouts.HandOutFault.TheVariants as hand
 use Rattle.cap_run.specs.declared.{asks.Asks.Asks, ends.RunRefusal.{RunRefusal, TheVariants.{NotOwned, OwnerFreed, Overlaps, StillHeld, Usual}}, specials.Specials.Specials}
@@ -181,12 +182,7 @@ module _ (checks : List (Bool × Refusal)) (asked nothing last : List (Bool × R
       → first_of (map usual_check checks ++ asked ++ last) ≡ first_of (map usual_check checks ++ nothing ++ last)
   asked-passed given = by_first (first_of checks) refl given
 
--- a row with an access, and one without
-pub row-access : (rules_are : Rules) (row : Row) (access : Access) → row.access ≡ Some access → row_by rules_are row ≡ row
-row-access One row access is = refl
-row-access TwoStrict row access is = refl
-row-access TwoClear row access is = ap (λ (a : Option Access). clear_row a row) is
-
+-- a row without an access
 pub row-none : (rules_are : Rules) (row : Row) → row.access ≡ None → (row_by rules_are row).access ≡ None
 row-none One row is = is
 row-none TwoStrict row is = is
@@ -226,7 +222,7 @@ module _ (held : Held) (specials : Specials) (h : Handouts) (step : Step) (asks 
   -- an access
   module _ (access : Access) (there : (row_of (state_of held) step).access ≡ Some access) where
     same : row_by held.rules (row_of (state_of held) step) ≡ row_of (state_of held) step
-    same = row-access held.rules (row_of (state_of held) step) access there
+    same = row_by-access held.rules (row_of (state_of held) step) access there
 
     pub asked-refuses : (refusal : RunRefusal) → first_of (row_of (state_of held) step).checks ≡ None
         → first_of (asked_checks asks (numbered_run held specials h) (Some access)) ≡ Some refusal
@@ -251,11 +247,6 @@ module _ (held : Held) (specials : Specials) (h : Handouts) (step : Step) (asks 
         ∙ ap (λ (a : Option Access). first_of (asked_checks asks (numbered_run held specials h) a)) there
         ∙ given (ap (λ (r : Row). first_of r.checks) (sym same) ∙ none))
         ∙ sym (end-is (asks_nothing asks))
-
--- where nothing is asked
-pub asks-nothing : (asks : Asks) → asks.used ≡ false → asks.owned ≡ false → asks ≡ asks_nothing asks
-asks-nothing asks used owned =
-    ap (λ (b : Bool). record asks { used = b }) used ∙ ap (λ (b : Bool). record asks { used = false; owned = b }) owned
 
 pub if-some : {A : Type 0} (o : Option A) (P Q : A → Type 0) → ((x : A) → P x → Q x) → IfSome o P → IfSome o Q
 if-some None P Q f is = is

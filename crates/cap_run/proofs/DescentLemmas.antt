@@ -125,10 +125,6 @@ sound_along asks run [] allowed sound = sound
 sound_along asks run (line ∷ rest) allowed sound =
     sound_along asks (line_after run line) rest allowed.2 (sound_after asks run line allowed.0 sound allowed.1)
 
-pub all_sound : (asks : Asks) (read : List RunLine) → AreAllowed asks no_run read → IsSoundState (run_along read).state
-all_sound asks read allowed =
-    subst (λ (run : Run). IsSoundState run.state) (sym (along-fold no_run read)) (sound_along asks no_run read allowed nothing_tagged)
-
 -- a line that no check refuses is allowed, and is the last of allowed lines
 pub allowed_by : (asks : Asks) (run : Run) (line : RunLine) → line_end asks run line ≡ None → IsLineAllowed asks run line
 allowed_by asks run lines.Version free = tt
@@ -138,18 +134,6 @@ allowed_by asks run (lines.Root place word) free = free
 allowed_by asks run (lines.Step step) free = free
 allowed_by asks run (lines.Run step) free = free
 allowed_by asks run (lines.End count) free = free
-
-allowed_joined : (asks : Asks) (run : Run) (before after : List RunLine) → AreAllowed asks run before → AreAllowed asks (along run before) after
-    → AreAllowed asks run (before ++ after)
-allowed_joined asks run [] after allowed more = more
-allowed_joined asks run (line ∷ before) after allowed more =
-    (allowed.0, allowed.1, allowed_joined asks (line_after run line) before after allowed.2 more)
-
-pub allowed_next : (asks : Asks) (read : List RunLine) (line : RunLine) → AreAllowed asks no_run read → IsRunLineInRange line
-    → IsLineAllowed asks (run_along read) line → AreAllowed asks no_run (read ++ line ∷ [])
-allowed_next asks read line allowed range next =
-    allowed_joined asks no_run read (line ∷ []) allowed
-    (range, subst (λ (run : Run). IsLineAllowed asks run line) (along-fold no_run read) next, tt)
 
 pub stays_within_roots : (asks : Asks) (read : List RunLine) → AreAllowed asks no_run read → StaysWithinRoots read
 stays_within_roots asks read allowed key held =

@@ -216,10 +216,6 @@ naming_granules one two (Some granule) same as_many =
     ap (λ (named : ℕ → Bool). if named granule then one.granules else one.granules + 1) same
     ∙ ap (λ (count : ℕ). if two.is_named granule then count else count + 1) as_many
 
-naming_rules : (account : Account) (granule : Option ℕ) → (naming account granule).rules ≡ account.rules
-naming_rules account None = refl
-naming_rules account (Some granule) = refl
-
 after_usual : (run : Run) (steps_are : ℕ) (step : Step) → usual_after (bare run steps_are) step ≡ bare (usual_after run step) (steps_are + 1)
 after_usual run steps_are step =
     let other = bare run steps_are in

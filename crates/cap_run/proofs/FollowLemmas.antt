@@ -3,8 +3,7 @@ use Rattle.std.proofs.Common.{◌≡◌, ◌==◌, ◌&&◌, ◌<◌, ℕ, Bool,
 use Rattle.std.proofs.lemmas.{Bool.{and_from, cases_Bool, cases_lt, cond-true, cond-false, false≢true, leb-true, Decides.eqb_tells}, Option.{none-some, same_Some}}
 use Rattle.cap_word.specs.declared.word.{Cap.Cap, Word.Word}
 use Rattle.cap_bounds.specs.Bounds.{base_of, top_of}
-use Rattle.cap_log.specs.declared.kinds.Step.{Step, TheVariants.{Move, ClearTag, SetBounds, SetBoundsExact, SetAddr}}
-use Rattle.cap_log.specs.declared.kinds.Step.TheVariants.{AndPerm, Seal, Unseal, LoadCap, StoreCap, Load, Store}
+use Rattle.cap_log.specs.declared.kinds.Step.{Step, TheVariants.{StoreCap, Load, Store}}
 use Rattle.cap_log.specs.{declared.lines.Place.{Place, TheVariants.{Register, Granule}}, Lines.IsStepInRange}
 use Rattle.cap_machine.specs.{Accounts.row_in, Labels.untagged}
 use Rattle.cap_machine.specs.States.{State, granule_key, key_of, put, tagged, untagged_null}
@@ -278,15 +277,6 @@ stored_is run step key granule cap access access_is writes_is hit =
 
 usual_near : (run : Run) (reach : AllReach run) (step : Step) (key : ℕ) → IsStepInRange step → key < first_special
     → Follows run ((usual_after run step).state key) (line_parent run (lines.Step step) key) ((usual_after run step).owners key)
-usual_near run reach (Move step) key range near = register_follows run reach (Move step) key near step.target _ refl
-usual_near run reach (ClearTag step) key range near = register_follows run reach (ClearTag step) key near step.target _ refl
-usual_near run reach (SetBounds step) key range near = register_follows run reach (SetBounds step) key near step.target _ refl
-usual_near run reach (SetBoundsExact step) key range near = register_follows run reach (SetBoundsExact step) key near step.target _ refl
-usual_near run reach (SetAddr step) key range near = register_follows run reach (SetAddr step) key near step.target _ refl
-usual_near run reach (AndPerm step) key range near = register_follows run reach (AndPerm step) key near step.target _ refl
-usual_near run reach (Seal step) key range near = register_follows run reach (Seal step) key near step.target _ refl
-usual_near run reach (Unseal step) key range near = register_follows run reach (Unseal step) key near step.target _ refl
-usual_near run reach (LoadCap step) key range near = register_follows run reach (LoadCap step) key near step.target _ refl
 usual_near run reach (StoreCap step) key range near =
     let old = main_of run.state in
     let granule = granule_through old step.authority step.offset in
@@ -300,6 +290,7 @@ usual_near run reach (Load step) key range near = missed_near run reach (Load st
 usual_near run reach (Store step) key range near =
     granule_follows run reach (Store step) key near (granule_through (main_of run.state) step.authority step.offset) _ refl
     (λ hit number is. absurd (nothing_from _ _ key number run.owners hit is))
+usual_near run reach step key range near = register_follows run reach step key near _ _ refl
 
 usual_follows : (run : Run) (reach : AllReach run) (step : Step) (key : ℕ) → IsStepInRange step
     → Follows run ((usual_after run step).state key) (line_parent run (lines.Step step) key) ((usual_after run step).owners key)

@@ -1,16 +1,16 @@
 -- What granules of a run hold, and own.
 use Rattle.std.specs.FinMap as map
-use Rattle.std.proofs.Common.{◌≡◌, ◌==◌, ◌+◌, ◌-◌, ◌<◌, ◌||◌, ◌&&◌, ◌^◌, not, nat_lt, ℕ, Bool, true, false, IsTrue, Some, None, Option, inl, inr, is_some, option_and_then, unwrap_or, slice_get}
+use Rattle.std.proofs.Common.{◌≡◌, ◌==◌, ◌+◌, ◌-◌, ◌<◌, ◌||◌, ◌^◌, not, nat_lt, ℕ, Bool, true, false, IsTrue, Some, None, Option, inl, inr, is_some, option_and_then, unwrap_or, slice_get}
 use Rattle.std.proofs.Common.{if◌then◌else◌, refl, sym, ap, subst, ◌∙◌, arith, le-ltb, lt-ltb}
 use Rattle.std.proofs.Math.Path.{fun_ext}
 use Rattle.std.proofs.lemmas.{Bool.{cases_Bool, cond-true, cond-false, false≢true, Decides.eqb_tells}, Option.{none-some}}
 use Rattle.cap_word.specs.declared.word.Cap.{Cap}
 use Rattle.tagmem.specs.Granules.{Entry, Granules, blank}
-use Rattle.cap_machine.specs.{Changes.EndsPut, declared.ends.StepEnd.{StepEnd, TheVariants.{NoMemory, Refused}}, Helds.{Held, IsKept, code_in, granule_cap, state_of}, Labels.untagged}
+use Rattle.cap_machine.specs.{Helds.{Held, IsKept, code_in, granule_cap, state_of}, Labels.untagged}
 use Rattle.cap_machine.specs.{Places.place_at, States.{granule_key, put}}
 use Rattle.cap_objects.specs.{declared.{handouts.Handouts.Handouts, objects.Object.Object}, Extents.{is_present}, Handed.{IsRecounted, held_of, with_held}, HandoutsIn.objects_of, Indexes.kept}
-use Rattle.cap_run.specs.declared.{ends.RunRefusal.RunRefusal, specials.Specials.Specials}
-use Rattle.cap_run.specs.{GranuleSteps.Counts, Owned.object_by, Run.{Run, first_special}, RunChanges.with_named, RunOf.{run_of, run_owners, run_state}, RunSteps.{Writes, step_limit}}
+use Rattle.cap_run.specs.declared.specials.Specials.{Specials}
+use Rattle.cap_run.specs.{GranuleSteps.Counts, Owned.object_by, Run.{Run, first_special}, RunChanges.with_named, RunOf.{run_of, run_owners, run_state}, RunSteps.Writes}
 use Rattle.cap_run.proofs.ObjectLemmas.{kept_some}
 
 pub not_true : (b : Bool) → not b ≡ true → b ≡ false
@@ -110,21 +110,3 @@ counts-writes held new specials sp h after key none unowned same =
       objects = subst (IsRecounted (objects_of h)) (sym same.objects) (recounted-same h);
       rest = same.rest;
     }
-
--- a fill of a granule that is named can't end so below the limit
-step_few : (b : Bool) (refusal : RunRefusal) → (if b then Some refusal else None) ≡ None → b ≡ false
-step_few true refusal is = absurd (none-some refusal (sym is))
-step_few false refusal is = refl
-
-pub never-ends : (old : Held) (specials : Specials) (h : Handouts) (granule : ℕ) (end : StepEnd) (new : Held) → is_some (map.get old.memory granule) ≡ true
-    → step_limit (run_of old specials h) ≡ None → EndsPut old granule end new → ⊥
-never-ends old specials h granule end new named few is = by end is
-  where
-    past : (steps is_named full : Bool) → steps ≡ false → is_named ≡ true → (steps || (not is_named && full)) ≡ false
-    past true is_named full few named = absurd (false≢true (sym few))
-    past false true full few named = refl
-    past false false full few named = absurd (false≢true named)
-
-    by : (e : StepEnd) → EndsPut old granule e new → ⊥
-    by (Refused refusal) ends = false≢true (sym (past _ (is_some (map.get old.memory granule)) _ (step_few _ _ few) named) ∙ ends.0)
-    by NoMemory ends = false≢true (ap not (sym named) ∙ ends.1)

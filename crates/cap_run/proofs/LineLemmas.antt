@@ -8,9 +8,7 @@ use Rattle.cap_ops.specs.{Authority.{ReachesNoMore, StaysWithin}, Checks.first_o
 use Rattle.cap_ops.specs.{Accesses.access_address, declared.refusal.Refusal.{Refusal, TheVariants.{LimitPassed, Misplaced, PlaceTaken, UnsoundRoot, WrongResult}}, Permissions.{unsealed_type, with_type}}
 use Rattle.cap_ops.proofs.{DerivedLemmas.{code_within, data_within, derived_within}, ReachLemmas.ReachesNoMore-refl}
 use Rattle.cap_ops.proofs.TestLemmas.{first_of-append_free, none_hold}
-use Rattle.cap_log.specs.declared.kinds.Step.{Step, TheVariants.{Move, ClearTag, SetBounds, SetBoundsExact, SetAddr}}
-use Rattle.cap_log.specs.declared.kinds.Step.TheVariants.{AndPerm, Seal, Unseal, LoadCap, StoreCap, Load, Store}
-use Rattle.cap_log.specs.Lines.{IsStepInRange}
+use Rattle.cap_log.specs.{declared.kinds.Step.{Step, TheVariants.{StoreCap, Load, Store}}, Lines.IsStepInRange}
 use Rattle.cap_machine.specs.{Accounts.{named_by, passes_granule_limit, row_in}, Labels.untagged, Parents.IsSoundState}
 use Rattle.cap_machine.specs.States.{State, granule_key, tagged, untagged_null}
 use Rattle.cap_machine.specs.Steps.{Leads, agrees, row_of, state_with}
@@ -138,20 +136,12 @@ reached_low w offset = omega arith
 
 -- a step of version 2 writes no special register
 pub hits_no_special : (state : State) (step : Step) (key : ℕ) → IsStepInRange step → first_special ≤ key → hits (row_of state step).writes key ≡ false
-hits_no_special state (Move step) key range far = unhit step.target key (omega (arith, range.0)) far
-hits_no_special state (ClearTag step) key range far = unhit step.target key (omega (arith, range.0)) far
-hits_no_special state (SetBounds step) key range far = unhit step.target key (omega (arith, range.0)) far
-hits_no_special state (SetBoundsExact step) key range far = unhit step.target key (omega (arith, range.0)) far
-hits_no_special state (SetAddr step) key range far = unhit step.target key (omega (arith, range.0)) far
-hits_no_special state (AndPerm step) key range far = unhit step.target key (omega (arith, range.0)) far
-hits_no_special state (Seal step) key range far = unhit step.target key (omega (arith, range.0)) far
-hits_no_special state (Unseal step) key range far = unhit step.target key (omega (arith, range.0)) far
-hits_no_special state (LoadCap step) key range far = unhit step.target key (omega (arith, range.0)) far
 hits_no_special state (StoreCap step) key range far =
     unhit_granule (access_address (state step.authority).word.0 step.offset) key (reached_low (state step.authority).word.0 step.offset) far
 hits_no_special state (Load step) key range far = refl
 hits_no_special state (Store step) key range far =
     unhit_granule (access_address (state step.authority).word.0 step.offset) key (reached_low (state step.authority).word.0 step.offset) far
+hits_no_special state step key range far = unhit _ key (omega (arith, range.0)) far
 
 -- what registers and granules hold
 pub main-tagged : (state : State) (key : ℕ) → (main_of state key).tag ≡ true → (key < first_special) × (main_of state key ≡ state key)

@@ -9,11 +9,11 @@ use Rattle.cap_word.specs.declared.word.Cap.{Cap}
 use Rattle.cap_log.specs.{declared.{kinds.Step.Step, lines.{Line.Line, Place.{Place, TheVariants.{Granule, Register}}}}, Lines.{IsInRange, IsPlace, IsStepInRange, spelling}}
 use Rattle.cap_ops.specs.{Checks.first_of}
 use Rattle.tagmem.specs.Granules.{AreStored}
-use Rattle.cap_machine.specs.{Accounts.{Account, named_by, row_in, step_checks, with_step}, declared.rules.Rules.{Rules, TheVariants.{One, TwoClear, TwoStrict}}}
+use Rattle.cap_machine.specs.Accounts.{Account, named_by, row_in, step_checks, with_step}
 use Rattle.cap_machine.specs.{Helds.{Held, account_of}, Runs.parent_of, States.{State, key_of, untagged_null}}
-use Rattle.cap_machine.specs.Steps.{Access, Row, clear_row, row_by, row_of, state_with}
+use Rattle.cap_machine.specs.Steps.{Access, row_of, state_with}
 use Rattle.cap_judge.specs.{Logs.text_of, Readings.{MakesSteps, at}, Turns.{Reads, Stage}}
-use Rattle.cap_judge.specs.declared.judges.NextLine.TheVariants as stages
+use Rattle.cap_judge.specs.declared.judges.Due.TheVariants as dues
 use Rattle.cap_judge.proofs.TurnLemmas.{allowed_form, body}
 use Rattle.cap_objects.specs.{Counts.{CountsAre, Owners, count_below}, declared.handouts.Handouts.Handouts, Handed.held_of, HandoutsIn.objects_of}
 use Rattle.cap_run_log.specs.RunLines.{run_spelling}
@@ -24,7 +24,7 @@ use Rattle.cap_run.specs.{RunChecks.{asked_checks, is_unowned, uses_freed, usual
 use Rattle.cap_run.specs.{StepLines.{LeadBy, MakesUsualSteps, text_of_steps}, UsualSteps.{disowned}}
 use Rattle.cap_run.proofs.{AloneLemmas.{main-unowned, then_none, unowned}, AskedLemmas.and_none, RootLemmas.first-usual, RunNumberLemmas.{index_in, nowhere, run-is}}
 use Rattle.cap_run.proofs.UsualLemmas.{owners-main, owners-special, place-low, under_then}
-use Rattle.cap_run.proofs.UsualNumberLemmas.{last_checks, naming-apart, naming-rest, passed, state-far, usual_check, usual_with, writes-low}
+use Rattle.cap_run.proofs.UsualNumberLemmas.{last_checks, naming-apart, naming-rest, passed, state-far, usual_check, usual_with, ruled-low}
 
 -- no place past the granules holds anything
 IsNear : State → Type 0
@@ -51,22 +51,6 @@ bare account specials = record {
 
 -- One step
 
--- rules change no place that is written
-clear_writes : (writes : Option (Place × Cap)) (by : Place × Cap → Cap)
-    → option_map (λ (w : Place × Cap). w.0) (option_map (λ (w : Place × Cap). (w.0, by w)) writes) ≡ option_map (λ (w : Place × Cap). w.0) writes
-clear_writes None by = refl
-clear_writes (Some w) by = refl
-
-clear_place : (access : Option Access) (row : Row)
-    → option_map (λ (w : Place × Cap). w.0) (clear_row access row).writes ≡ option_map (λ (w : Place × Cap). w.0) row.writes
-clear_place None row = clear_writes row.writes _
-clear_place (Some access) row = refl
-
-place_by : (rules : Rules) (row : Row) → option_map (λ (w : Place × Cap). w.0) (row_by rules row).writes ≡ option_map (λ (w : Place × Cap). w.0) row.writes
-place_by One row = refl
-place_by TwoStrict row = refl
-place_by TwoClear row = clear_place row.access row
-
 near_with : (state : State) (write : Option (Place × Cap)) → IfSome (option_map (λ (w : Place × Cap). w.0) write) IsPlace → IsNear state
     → IsNear (state_with state write)
 unfolding IsNear
@@ -78,8 +62,7 @@ near_with state (Some w) low near key far =
 
 step_near : (account : Account) (step : Step) → IsStepInRange step → IsNear account.state → IsNear (with_step account step).state
 step_near account step range near =
-    near_with account.state (row_in account step).writes
-    (subst (λ (w : Option Place). IfSome w IsPlace) (sym (place_by account.rules (row_of account.state step))) (writes-low account.state step range)) near
+    near_with account.state (row_in account step).writes (ruled-low account step range) near
 
 step_free : (account : Account) (step : Step) → IsFree account.origin → IsFree (with_step account step).origin
 unfolding IsFree
@@ -234,7 +217,7 @@ module _ (held new : Held) (specials : Specials) (h : Handouts) (asks : Asks) (s
   unfolding IsNear IsFree
   all_led =
       leads_on asks (cap_in specials) (account_of held) (account_of new) makes.steps
-      (subst (λ (ls : List Line). Reads (at stages.Body held) ls (at stages.Body new)) makes.lines_are makes.goes.reads)
+      (subst (λ (ls : List Line). Reads (at dues.Body held) ls (at dues.Body new)) makes.lines_are makes.goes.reads)
       (subst (AllByRecursion IsInRange) makes.lines_are makes.goes.in_range)
       (λ key far. state-far held key stored far) (main-unowned held specials h sized counts alone stored)
 

@@ -1,11 +1,8 @@
 -- What is told of owners, and of objects by their numbers.
-use Rattle.std.specs.FinMap as finmap
-use Rattle.std.proofs.Common.{◌≡◌, ◌≢◌, ◌-◌, ◌<◌, ◌≤◌, ◌^◌, ℕ, Some, None, Option, nat_lt, false, option_and_then, option_map, unwrap_or, refl, sym, ap, ◌∙◌, arith, lt-ltb, le-ltb}
-use Rattle.std.proofs.lemmas.{Bool.{cond-true, cond-false}, Option.{same_Some}}
-use Rattle.tagmem.specs.Granules.{Entry, blank, code_at}
-use Rattle.cap_machine.specs.{Helds.{Held, code_in}, Places.place_at, States.granule_key}
+use Rattle.std.proofs.Common.{◌≡◌, ◌≢◌, ◌-◌, ◌<◌, ◌≤◌, ℕ, Some, None, Option, refl, sym, ap, ◌∙◌, arith}
+use Rattle.std.proofs.lemmas.Option.{same_Some}
 use Rattle.cap_objects.specs.{declared.{handouts.Handouts.Handouts, objects.Object.Object}, Handed.IsNextNumber, HandoutsIn.objects_of}
-use Rattle.cap_run.specs.{declared.specials.Specials.Specials, Numbers.{by_number, number_at, numbered_run}, Owned.object_by, Run.first_special, RunOf.run_owners}
+use Rattle.cap_run.specs.Numbers.{by_number}
 use Rattle.cap_run.proofs.{NumberLemmas.{at-number, slot-of}, RunNumberLemmas.{IsNumbered, index_in}}
 
 module _ (h : Handouts) (index : IsNumbered h) where
@@ -39,27 +36,3 @@ module _ (h : Handouts) (index : IsNumbered h) where
   next-is from found slot o next is =
       let same : o.number ≡ found = ap (λ (x : Object). x.number) (same_Some o next.1.0 (sym is ∙ next.1.1)) ∙ next.1.2 in
       (same, ap (by_number (index_in h) (objects_of h)) (sym same) ∙ at-number (objects_of h) (index_in h) index slot o is)
-
--- the number of the object that owns a place
-pub number-told : (held : Held) (specials : Specials) (h : Handouts) (key slot : ℕ) (o : Object) → run_owners held specials key ≡ Some slot
-    → objects_of h slot ≡ Some o → (let run = numbered_run held specials h in run.owners key ≡ Some o.number)
-number-told held specials h key slot o owner is =
-    ap (option_and_then (number_at (objects_of h))) owner ∙ ap (option_map (λ object. object.number)) is
-
-pub no-number : (held : Held) (specials : Specials) (h : Handouts) (key : ℕ) → run_owners held specials key ≡ None
-    → (let run = numbered_run held specials h in run.owners key ≡ None)
-no-number held specials h key owner = ap (option_and_then (number_at (objects_of h))) owner
-
--- a granule that wasn't named has no owner
-pub unnamed-unowned : (held : Held) (specials : Specials) (h : Handouts) (granule : ℕ) → granule < 2 ^ 60 → finmap.get held.memory granule ≡ None
-    → (let run = numbered_run held specials h in run.owners (granule_key granule) ≡ None)
-unnamed-unowned held specials h granule low unput =
-    let key = granule_key granule in
-    let past : nat_lt key 32 ≡ false = le-ltb key 32 (omega arith) in
-    let back : key - 32 ≡ granule = omega arith in
-    let code : code_in held key ≡ 0 =
-    cond-false (nat_lt key 32) _ (code_at held.memory (key - 32)) past ∙ ap (code_at held.memory) back
-    ∙ ap (λ (o : Option Entry). let entry = unwrap_or o blank in entry.2) unput in
-    no-number held specials h key
-    (cond-true (nat_lt key first_special) (object_by (place_at (code_in held key))) _ (lt-ltb key first_special (omega (arith, low)))
-    ∙ ap (λ (c : ℕ). object_by (place_at c)) code)

@@ -12,14 +12,14 @@ use Rattle.tagmem.specs.Granules.{AreStored, Entry, Granules, blank}
 use Rattle.cap_machine.specs.declared.limits.Limits.{Limits}
 use Rattle.cap_machine.specs.{Accounts.Account, declared.{ends.StepEnd.{StepEnd, TheVariants.{Refused, NoMemory}}, rules.Rules.Rules}}
 use Rattle.cap_machine.specs.Helds.{EndsStep, Held, IsKept, Makes, account_of, code_in, state_of}
-use Rattle.cap_machine.specs.{Places.{IsCoded, place_at}, Runs.parent_of, States.{State, key_of}, Steps.row_of}
+use Rattle.cap_machine.specs.{Places.{IsCoded, place_at}, Runs.parent_of, States.{State, key_of}, Steps.{row_of, written_by}}
 use Rattle.cap_machine.proofs.AuthorityLemmas.{one_back}
 use Rattle.cap_objects.specs.Counts.{CountsAre, Moves, Owners, is_owner, most_places}
 use Rattle.cap_objects.specs.{Extents.Objects, Handed.{IsRecounted, held_of}}
 use Rattle.cap_objects.proofs.BelowLemmas.{below-same, counts_where}
 use Rattle.cap_run.specs.declared.specials.Specials.{Specials}
 use Rattle.cap_run.specs.{Owned.{AreWithin, IsWithin, object_by, owner_for}, Run.{first_special}, RunOf.{run_owners, run_state}}
-use Rattle.cap_run.specs.{Specials.{cap_in, label_in}, RunSteps.IsUnstepped, UsualSteps.{disowned, main_owners, owner_at, written_by}}
+use Rattle.cap_run.specs.{Specials.{cap_in, label_in}, RunSteps.IsUnstepped, UsualSteps.{disowned, main_owners, owner_at}}
 use Rattle.cap_run.proofs.OwnerLemmas.{counts-to, either-key, owner_for-some, within-came}
 
 pub usual-ended : (old : Held) (step : Step) (end : StepEnd) (new : Held) → EndsStep old step end new → new ≡ old
@@ -111,7 +111,7 @@ unstepped-account old new same state =
 
 module _ (old mid new : Held) (specials : Specials) (step : Step) (written : Option Place) (range : IsStepInRange step)
     (kept : IsKept old.registers old.codes old.memory) (stored : AreStored old.memory) (kept_after : IsKept mid.registers mid.codes mid.memory)
-    (makes : Makes old step mid) (written_is : written ≡ written_by old step) (low : IfSome written IsPlace)
+    (makes : Makes old step mid) (written_is : written ≡ written_by (state_of old) step) (low : IfSome written IsPlace)
     (state_is : state_of new ≡ state_of mid)
     (owners_are : (key : ℕ) → main_owners new key ≡ disowned written (state_of mid) (main_owners mid) key) where
   -- where the origin of a place comes from
@@ -130,7 +130,7 @@ module _ (old mid new : Held) (specials : Specials) (step : Step) (written : Opt
 
   -- the owners after the step
   pub usual-owners : (key : ℕ) → main_owners new key
-      ≡ disowned (written_by old step) (state_of new) (λ k. option_and_then (main_owners old) (parent_of (state_of old) step (state_of new) k)) key
+      ≡ disowned (written_by (state_of old) step) (state_of new) (λ k. option_and_then (main_owners old) (parent_of (state_of old) step (state_of new) k)) key
   usual-owners key =
       owners_are key
       ∙ ap (λ (o : Owners). disowned written (state_of mid) o key) (fun_ext mid-owner)

@@ -7,16 +7,17 @@ use Rattle.std.proofs.Common.{if◌then◌else◌, refl, sym, ap, subst, ◌∙�
 use Rattle.std.proofs.Math.Path.{fun_ext}
 use Rattle.std.proofs.lemmas.{Bool.{cases_lt, cond-true, cond-false}, List.{append_assoc, map-append}, Option.{none-some, same_Some}}
 use Rattle.cap_word.specs.{declared.word.Cap.Cap, Memory.{number_of, stored_word}, Word.null_word}
-use Rattle.cap_log.specs.{declared.{kinds.Step.{Step, TheVariants.{AndPerm, ClearTag, Load, LoadCap, Move, Seal, SetAddr, SetBounds, SetBoundsExact, Store, StoreCap, Unseal}}, lines.Place.{Place, TheVariants.{Granule, Register}}}, Lines.{IsPlace, IsStepInRange}}
+use Rattle.cap_log.specs.{declared.{kinds.Step.{Step, TheVariants.{Load, LoadCap, Store, StoreCap}}, lines.Place.{Place, TheVariants.{Granule, Register}}}, Lines.{IsPlace, IsStepInRange}}
 use Rattle.cap_ops.specs.{Accesses.access_address, declared.refusal.Refusal.{Refusal, TheVariants.{LimitPassed, WrongResult}}, Checks.first_of}
 use Rattle.tagmem.specs.Granules.{AreStored, Entry, Granules, blank}
 use Rattle.cap_machine.specs.Accounts.{Account, is_new, most_steps, named_by, naming, passes_granule_limit, row_in, step_checks, with_step}
 use Rattle.cap_machine.specs.{declared.ends.StepEnd.{StepEnd, TheVariants.{NoMemory, Refused}}, Helds.{EndsStep, Held, account_of, granule_cap, state_of}}
-use Rattle.cap_machine.specs.{Runs.parent_of, States.{State, key_of, untagged_null}, Steps.{agrees, row_of}}
+use Rattle.cap_machine.specs.{Runs.parent_of, States.{State, key_of, untagged_null}, Steps.{Access, Row, agrees, clear_row, row_by, row_of, written_by}}
+use Rattle.cap_machine.specs.declared.rules.Rules.{Rules, TheVariants.TwoClear}
 use Rattle.cap_objects.specs.{Counts.{CountsAre, Owners}, declared.{handouts.Handouts.Handouts}, Handed.held_of, HandoutsIn.objects_of}
 use Rattle.cap_run.specs.declared.{asks.Asks.Asks, ends.{RunRefusal.{RunRefusal, TheVariants.{NotOwned, OwnerFreed, Usual}}}, specials.Specials.Specials}
 use Rattle.cap_run.specs.{Numbers.{number_at, numbered, numbered_run}, Owned.owner_for, Run.{Run, first_special}, RunChanges.{account_in, main_of, stepped, usual_after}}
-use Rattle.cap_run.specs.{RunChecks.{Answers, asked_checks, is_unowned, uses_freed, usual_end, usual_ended, usual_wants}, RunOf.{run_owners, run_state}, UsualSteps.{MakesUsual, disowned, main_owners, written_by}}
+use Rattle.cap_run.specs.{RunChecks.{Answers, asked_checks, is_unowned, uses_freed, usual_end, usual_ended, usual_wants}, RunOf.{run_owners, run_state}, UsualSteps.{MakesUsual, disowned, main_owners}}
 use Rattle.cap_run.proofs.{RootLemmas.first-usual, RunNumberLemmas.{IsNumbered, numbered-put, objects-after, owners-after, run-is}}
 use Rattle.cap_run.proofs.UsualLemmas.{disowned-other, own_parent, owners-main, owners-special, place-low, state-main, state-special}
 
@@ -78,38 +79,43 @@ by_register : (source : ℕ) (place : Place) → source ≤ 31 → Some (Registe
 by_register source place low is = subst (λ (p : Place). key_of p < first_special) (same_Some (Register source) place is) (omega (arith, low))
 
 parent-low : (state : State) (step : Step) (place : Place) → IsStepInRange step → (row_of state step).parent ≡ Some place → key_of place < first_special
-parent-low state (Move step) place range is = by_register step.source place range.1 is
-parent-low state (ClearTag step) place range is = by_register step.source place range.1 is
-parent-low state (SetBounds step) place range is = by_register step.source place range.1 is
-parent-low state (SetBoundsExact step) place range is = by_register step.source place range.1 is
-parent-low state (SetAddr step) place range is = by_register step.source place range.1 is
-parent-low state (AndPerm step) place range is = by_register step.source place range.1 is
-parent-low state (Seal step) place range is = by_register step.source place range.1 is
-parent-low state (Unseal step) place range is = by_register step.source place range.1 is
 parent-low state (LoadCap step) place range is =
     let low = address_low (state step.authority).word.0 step.offset in
     subst (λ (p : Place). key_of p < first_special) (same_Some _ place is) (omega (arith, low))
 parent-low state (StoreCap step) place range is = by_register step.source place range.0 is
 parent-low state (Load step) place range is = absurd (none-some place is)
 parent-low state (Store step) place range is = absurd (none-some place is)
+parent-low state step place range is = by_register _ place range.1 is
 
 -- the place that a step writes is a register but c0, or a granule
-pub writes-low : (state : State) (step : Step) → IsStepInRange step → IfSome (option_map (λ write. write.0) (row_of state step).writes) IsPlace
-writes-low state (Move step) range = range.0
-writes-low state (ClearTag step) range = range.0
-writes-low state (SetBounds step) range = range.0
-writes-low state (SetBoundsExact step) range = range.0
-writes-low state (SetAddr step) range = range.0
-writes-low state (AndPerm step) range = range.0
-writes-low state (Seal step) range = range.0
-writes-low state (Unseal step) range = range.0
-writes-low state (LoadCap step) range = range.0
+pub writes-low : (state : State) (step : Step) → IsStepInRange step → IfSome (written_by state step) IsPlace
 writes-low state (StoreCap step) range = address_low (state step.authority).word.0 step.offset
 writes-low state (Load step) range = tt
 writes-low state (Store step) range = address_low (state step.authority).word.0 step.offset
+writes-low state step range = range.0
 
-pub written-low : (held : Held) (step : Step) → IsStepInRange step → IfSome (written_by held step) IsPlace
-written-low held step range = writes-low (state_of held) step range
+-- the rules change what is written, and not where
+same_place : (f : Cap → Cap) (writes : Option (Place × Cap))
+    → option_map (λ (write : Place × Cap). write.0) (option_map (λ (write : Place × Cap). (write.0, f write.1)) writes)
+    ≡ option_map (λ (write : Place × Cap). write.0) writes
+same_place f None = refl
+same_place f (Some write) = refl
+
+cleared_place : (access : Option Access) (row : Row)
+    → option_map (λ (write : Place × Cap). write.0) (clear_row access row).writes ≡ option_map (λ (write : Place × Cap). write.0) row.writes
+cleared_place None row = same_place _ row.writes
+cleared_place (Some access) row = refl
+
+ruled_place : (rules : Rules) (row : Row)
+    → option_map (λ (write : Place × Cap). write.0) (row_by rules row).writes ≡ option_map (λ (write : Place × Cap). write.0) row.writes
+ruled_place TwoClear row = cleared_place row.access row
+ruled_place rules row = refl
+
+pub ruled-low : (account : Account) (step : Step) → IsStepInRange step
+    → IfSome (option_map (λ (write : Place × Cap). write.0) (row_in account step).writes) IsPlace
+ruled-low account step range =
+    subst (λ (place : Option Place). IfSome place IsPlace) (sym (ruled_place account.rules (row_of account.state step)))
+    (writes-low account.state step range)
 
 -- the parent of a place that a step writes, and of another
 parent_in : (writes : Option (Place × Cap)) (tag : Bool) (parent : Option Place) (key from : ℕ)
@@ -156,7 +162,7 @@ then_twice (Some k) f g = refl
 abbrev pub usual_with : Account → Run → Step → Run
 usual_with old run step =
     let new = with_step old step in
-    let written = option_map (λ write. write.0) (row_of old.state step).writes in
+    let written = written_by old.state step in
     stepped (record run {
       state = λ key. if nat_lt key first_special then new.state key else run.state key;
       owners = disowned written new.state (λ key. option_and_then run.owners (parent_of old.state step new.state key));
@@ -166,7 +172,7 @@ usual_with old run step =
 
 module _ (held new : Held) (specials : Specials) (h after : Handouts) (step : Step) (range : IsStepInRange step) (stored : AreStored held.memory)
     (sized : length specials.labels ≡ 32) (are : CountsAre (run_owners new specials) (λ s. held_of (objects_of after s)))
-    (index : IsNumbered h) (reindex : IsNumbered after) (low : IfSome (written_by held step) IsPlace) (count : after.count ≡ h.count)
+    (index : IsNumbered h) (reindex : IsNumbered after) (low : IfSome (written_by (state_of held) step) IsPlace) (count : after.count ≡ h.count)
     (makes : MakesUsual held (objects_of h) step new (objects_of after)) where
   next : State
   next = (with_step (account_of held) step).state
@@ -199,7 +205,7 @@ module _ (held new : Held) (specials : Specials) (h after : Handouts) (step : St
   main-numbered : (key : ℕ) → key < first_special → option_and_then f (run_owners new specials key) ≡ goal.owners key
   unfolding goal f next next_is parent
   main-numbered key near =
-      let written = written_by held step in
+      let written = written_by (state_of held) step in
       let by : ℕ → Option ℕ = λ k. option_and_then (main_owners held) (parent_of (state_of held) step next k) in
       let numbers : ℕ → Option ℕ = numbered (objects_of h) (run_owners held specials) in
       let same : (k : ℕ) → k < first_special → option_and_then f (by k) ≡ option_and_then numbers (parent_of (state_of held) step next k) = λ k k_low.
@@ -217,7 +223,7 @@ module _ (held new : Held) (specials : Specials) (h after : Handouts) (step : St
   special-numbered : (key : ℕ) → first_special ≤ key → option_and_then f (run_owners new specials key) ≡ goal.owners key
   unfolding goal f next
   special-numbered key far =
-      let written = written_by held step in
+      let written = written_by (state_of held) step in
       let numbers : ℕ → Option ℕ = numbered (objects_of h) (run_owners held specials) in
       let differ : (place : Place) → written ≡ Some place → key_of place ≢ key = λ place is e.
       let near = low_place written place low is in let same : key_of place ≡ key = e in omega (arith, near, far, same) in

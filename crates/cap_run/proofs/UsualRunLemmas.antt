@@ -1,17 +1,17 @@
 -- Lines that logs have, too, mean in a run what they mean in a log.
 use Rattle.std.specs.Option.{option_map_or}
 use Rattle.std.proofs.Common.{◌≡◌, ◌≢◌, ◌==◌, ◌&&◌, ◌||◌, ◌≤◌, ◌++◌, ◌∷◌, [], ℕ, Bool, true, false, not, nat_lt, nat_le, if◌then◌else◌, List, map}
-use Rattle.std.proofs.Common.{Option, Some, None, option_map, IfSome, refl, sym, ap, subst, ◌∙◌, arith, inl, inr, le-ltb, le-leb, leb-true, lt-ltb, ne_eqb}
+use Rattle.std.proofs.Common.{Option, Some, None, option_map, IfSome, refl, sym, ap, ◌∙◌, arith, inl, inr, le-ltb, le-leb, leb-true, lt-ltb, ne_eqb}
 use Rattle.std.proofs.Math.Path.{fun_ext}
 use Rattle.std.proofs.lemmas.{Bool.{cases_Bool, cases_lt, cond-true, cond-false, false≢true}, List.{append_assoc, map-append}}
 use Rattle.cap_word.specs.declared.word.{Cap.Cap, Word.Word}
 use Rattle.cap_bounds.specs.Bounds.{is_sound}
 use Rattle.cap_ops.specs.{Checks.first_of, declared.refusal.Refusal.{Refusal, TheVariants.{LimitPassed, Misplaced, PlaceTaken, UnsoundRoot, WrongCount, WrongResult}}}
 use Rattle.cap_log.specs.{declared.{kinds.Step.Step, lines.{Line.Line, Mode.Mode, Place.{Place, TheVariants.{Granule, Register}}}}, Lines.{IsInRange, IsPlace, IsStepInRange}}
-use Rattle.cap_machine.specs.declared.{limits.Limits.Limits, rules.Rules.{Rules, TheVariants.{One, TwoClear}}}
+use Rattle.cap_machine.specs.declared.{limits.Limits.Limits, rules.Rules.{Rules, TheVariants.One}}
 use Rattle.cap_machine.specs.Accounts.{Account, granule_of, limits_of, most_granules, most_steps, named_by, naming, passes_granule_limit, row_in, step_checks, with_step}
 use Rattle.cap_machine.specs.{States.{State, key_of, tagged, untagged_null}}
-use Rattle.cap_machine.specs.Steps.{Access, Row, agrees, clear_row, row_by, row_of, state_with}
+use Rattle.cap_machine.specs.Steps.{Access, agrees, state_with}
 use Rattle.cap_judge.specs.{Turns.account_with}
 use Rattle.cap_objects.specs.{Counts.{count_below}}
 use Rattle.cap_run_log.specs.UsualLines.{as_run, in_run}
@@ -20,7 +20,7 @@ use Rattle.cap_run.specs.{Run.{first_special}, RunChanges.{account_in, line_afte
 use Rattle.cap_run.specs.RunChecks.{asked_checks, is_unowned, line_end, root_end, usual_end, uses_freed}
 use Rattle.cap_run.specs.{UsualRuns.{IsOfLog, MeansTheSame, log_refusal, run_by}}
 use Rattle.cap_run.proofs.{ErasureLemmas.{and_none, disowned_none, then_none}, RootLemmas.first-usual, RunNumberLemmas.run-is}
-use Rattle.cap_run.proofs.{UsualLemmas.place-low, UsualNumberLemmas.{naming-rest, usual_check, usual_with, writes-low}}
+use Rattle.cap_run.proofs.{UsualLemmas.place-low, UsualNumberLemmas.{naming-rest, usual_check, ruled-low, usual_with}}
 
 -- The account of such a run
 
@@ -173,29 +173,10 @@ far_kept (Some (place, cap)) state key low far =
     let near = place-low place low in
     cond-false (key_of place == key) cap (state key) (ne_eqb (key_of place) key (λ same. omega (arith, near, far, same)))
 
--- the rules change what is written, and not where
-same_place : (f : Cap → Cap) (writes : Option (Place × Cap))
-    → option_map (λ (write : Place × Cap). write.0) (option_map (λ (write : Place × Cap). (write.0, f write.1)) writes)
-    ≡ option_map (λ (write : Place × Cap). write.0) writes
-same_place f None = refl
-same_place f (Some write) = refl
-
-cleared_place : (access : Option Access) (row : Row)
-    → option_map (λ (write : Place × Cap). write.0) (clear_row access row).writes ≡ option_map (λ (write : Place × Cap). write.0) row.writes
-cleared_place None row = same_place _ row.writes
-cleared_place (Some access) row = refl
-
-ruled_place : (rules : Rules) (row : Row)
-    → option_map (λ (write : Place × Cap). write.0) (row_by rules row).writes ≡ option_map (λ (write : Place × Cap). write.0) row.writes
-ruled_place TwoClear row = cleared_place row.access row
-ruled_place rules row = refl
-
 step_kept : (account : Account) (step : Step) → IsStepInRange step → (key : ℕ) → first_special ≤ key
     → (with_step account step).state key ≡ account.state key
 step_kept account step range key far =
-    let row = row_of account.state step in
-    far_kept (row_in account step).writes account.state key
-    (subst (λ (place : Option Place). IfSome place IsPlace) (sym (ruled_place account.rules row)) (writes-low account.state step range)) far
+    far_kept (row_in account step).writes account.state key (ruled-low account step range) far
 
 naming_wide : (account : Account) (granule : Option ℕ) → naming (wide account) granule ≡ wide (naming account granule)
 naming_wide account None = refl

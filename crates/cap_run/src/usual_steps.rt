@@ -1,19 +1,17 @@
 //! The steps of version 2 in a run.
 
-ghost use Rattle.std.specs.Prelude.{◌≡◌, ◌<◌, ◌^◌, ℕ, None, Some, false, IfNone, IfSome, MatchResult, OnErr};
-ghost use Rattle.cap_log.specs.declared.lines.Place.TheVariants as PlaceIn;
-ghost use Rattle.cap_machine.specs.Steps.{granule_through};
+ghost use Rattle.std.specs.Prelude.{◌≡◌, ℕ, Some, false, IfNone, IfSome, MatchResult, OnErr};
 ghost use Rattle.cap_run.specs.{Numbers.numbered_run, RunChanges.usual_after, RunChecks.{Answers, usual_end, usual_wants}};
 ghost use Rattle.cap_log.specs.Lines.{IsPlace, IsStepInRange};
-ghost use Rattle.cap_machine.specs.Helds.{EndsStep, state_of};
+ghost use Rattle.cap_machine.specs.{Helds.{EndsStep, state_of}, Steps.written_by};
 ghost use Rattle.cap_objects.specs.HandoutsIn.{objects_of};
-ghost use Rattle.cap_run.specs.{RunSteps.IsUnstepped, UsualSteps.{MakesUsual, disowned, main_owners, owner_at, written_by}};
+ghost use Rattle.cap_run.specs.{RunSteps.IsUnstepped, UsualSteps.{MakesUsual, disowned, main_owners, owner_at}};
 
 use crate::ends::{RunEnd, RunRefusal};
 use crate::lines::usual_ended;
 use crate::puts::is_empty;
 use crate::run_machine::{RunMachine, slot_by};
-use cap_log::{Offset, Place, Register, Step, Target};
+use cap_log::{Place, Step};
 use cap_machine::{Instruction, Machine, StepEnd};
 use cap_objects::recount;
 use tagmem::TaggedStore;
@@ -43,59 +41,6 @@ fn disown<M: TaggedStore>(machine: &mut Machine<M>, written: Option<Place>)
         if machine.label(Place::Register(number)) >= 32 && is_empty(cap.word) {
             machine.put_labelled(number, cap, 1);
         }
-    }
-}
-
-// The granule that an access through a register reaches.
-#[tactic(auto, unfolding(cap_ops::specs::Accesses::access_address))]
-#[inline(always)]
-fn granule_through<M: TaggedStore>(machine: &Machine<M>, authority: Register, offset: Offset) -> u64
-    ensures value { result ≡ granule_through (state_of machine.now) authority offset }
-    ensures in_memory { result < 2 ^ 60 }
-{
-    let word = machine.register(authority.number()).word;
-    let address = word
-        .address()
-        .wrapping_add_signed(i64::from(offset.number()));
-    address / 16
-}
-
-// A register that a step writes.
-fn register_at(target: Target) -> Option<Place>
-    ensures value { result ≡ Some (PlaceIn.Register target) }
-    ensures in_range { IfSome result IsPlace }
-{
-    Some(Place::Register(target.number()))
-}
-
-// The place that a step writes, if any.
-#[inline(always)]
-fn written_by<M: TaggedStore>(machine: &Machine<M>, step: &Step) -> Option<Place>
-    requires { IsStepInRange step.now }
-    ensures value { result ≡ written_by machine.now step.now }
-    ensures in_range { IfSome result IsPlace }
-{
-    match *step {
-        Step::Move(step) => register_at(step.target),
-        Step::ClearTag(step) => register_at(step.target),
-        Step::SetBounds(step) => register_at(step.target),
-        Step::SetBoundsExact(step) => register_at(step.target),
-        Step::SetAddr(step) => register_at(step.target),
-        Step::AndPerm(step) => register_at(step.target),
-        Step::Seal(step) => register_at(step.target),
-        Step::Unseal(step) => register_at(step.target),
-        Step::LoadCap(step) => register_at(step.target),
-        Step::StoreCap(step) => Some(Place::Granule(granule_through(
-            machine,
-            step.authority,
-            step.offset,
-        ))),
-        Step::Load(_) => None,
-        Step::Store(step) => Some(Place::Granule(granule_through(
-            machine,
-            step.authority,
-            step.offset,
-        ))),
     }
 }
 
@@ -206,7 +151,7 @@ impl<M: TaggedStore> RunMachine<M> {
         ensures asks { self.new.asks ≡ self.old.asks }
     {
         self.machine.kept();
-        let written = written_by(&self.machine, &kind.into_step());
+        let written = kind.written(&self.machine);
         match self.step_of_kind(kind, written) {
             Ok(()) => Ok(()),
             Err(end) => Err(usual_ended(end)),
@@ -258,7 +203,7 @@ impl<M: TaggedStore> RunMachine<M> {
         if self.objects.count() == 0 {
             return self.step_alone(step);
         }
-        let written = written_by(&self.machine, step);
+        let written = self.machine.written(step);
         self.step(step, written)
     }
 
@@ -279,7 +224,7 @@ impl<M: TaggedStore> RunMachine<M> {
 
     /// Makes a step of version 2, which writes this place, if any, as the machine without objects does.
     pub(crate) fn step(&mut self, step: &Step, written: Option<Place>) -> Result<(), StepEnd>
-        requires written { written ≡ written_by self.old.machine step.now }
+        requires written { written ≡ written_by (state_of self.old.machine) step.now }
         requires in_range { IfSome written IsPlace }
         requires range { IsStepInRange step.now }
         ensures outcome { MatchResult result
@@ -309,7 +254,7 @@ impl<M: TaggedStore> RunMachine<M> {
         kind: I,
         written: Option<Place>,
     ) -> Result<(), StepEnd>
-        requires written { written ≡ written_by self.old.machine (I.step kind) }
+        requires written { written ≡ written_by (state_of self.old.machine) (I.step kind) }
         requires in_range { IfSome written IsPlace }
         requires range { IsStepInRange (I.step kind) }
         ensures outcome { MatchResult result

@@ -12,14 +12,6 @@ operands x = (
   (x.source, (record { 0 = x.special }, (record {}, (record { 0 = x.result.tag }, (x.result.word, (record { 0 = x.special_result.tag }, x.special_result.word)))))),
 )
 
-pub no_exchange : (bytes : List ℕ) → BeginsWithout (run_head_spelling RunHead.Exchange) 32 bytes → (exchange : ExchangeLine) (rest : List ℕ)
-    → Begins IsRunLineInRange run_spelling 10 bytes (exchange_line exchange) rest → ⊥
-no_exchange bytes without exchange rest begins =
-    let text = run_text RunHead.Exchange (operands exchange) in
-    without (text ++ 10 ∷ rest) (
-    begins.1 ∙ ap (λ (t : List ℕ). t ++ 10 ∷ rest) (is_made RunHead.Exchange (operands exchange)).spelling_is
-    ∙ append_assoc (run_head_spelling RunHead.Exchange) (32 ∷ text) (10 ∷ rest))
-
 pub none_after_exchange : {A : Type 0} (found : Option A) (bytes operands : List ℕ) → bytes ≡ run_head_spelling RunHead.Exchange ++ 32 ∷ operands
     → IfNone found (BeginsWithNone IsRunLineInRange run_spelling 10 (run_head_spelling RunHead.Exchange ++ 32 ∷ operands))
     → IfNone found ((exchange : ExchangeLine) (rest : List ℕ) → Begins IsRunLineInRange run_spelling 10 bytes (exchange_line exchange) rest → ⊥)

@@ -6,7 +6,8 @@ use Rattle.cap_objects.specs.{Counts.CountsAre, Handed.held_of, HandoutsIn.objec
 use Rattle.cap_objects.specs.declared.handouts.Handouts.{Handouts}
 use Rattle.cap_run.specs.{declared.specials.Specials.Specials, Run.Run, RunOf.run_owners}
 use Rattle.cap_run.proofs.StepLineLemmas.{asked-alike}
-use Rattle.cap_run.proofs.UsualNumberLemmas.{asks_nothing, usual-end, usual-numbered, usual-refused, written-low}
+use Rattle.cap_machine.specs.Helds.{state_of}
+use Rattle.cap_run.proofs.UsualNumberLemmas.{asks_nothing, usual-end, usual-numbered, usual-refused, writes-low}
 use Rattle.cap_run.proofs.run_machine.RunMachine.make_alone.Goals as goal
 
 pub returns-in-Ok-clause-outcome : goal.returns-in-Ok-clause-outcome
@@ -15,7 +16,7 @@ returns-in-Ok-clause-outcome g c =
     let n = c.kind_alone.new.self in
     let step = g.I.Operands.step c.args.kind in
     let makes = c.in-Ok.ensures.outcome in
-    let low = written-low s.machine step c.requires.range in (
+    let low = writes-low (state_of s.machine) step c.requires.range in (
       asked-alike s.machine s.specials s.objects s.specials.sized.1 s.counted c.kept.ensures.stored c.requires.none step s.asks (asks_nothing s.asks)
           ∙ usual-end s.machine s.specials s.objects step s.asks c.kept.ensures.stored ∙ ap (option_map Usual) makes.checks,
       subst (λ (x : Specials). numbered_run n.machine x n.objects ≡ usual_after (numbered_run s.machine s.specials s.objects) step) (sym c.in-Ok.ensures.specials)

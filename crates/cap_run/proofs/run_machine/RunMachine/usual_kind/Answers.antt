@@ -4,7 +4,8 @@ use Rattle.cap_run.specs.declared.ends.{RunEnd.RunEnd, RunRefusal.TheVariants.Us
 use Rattle.cap_run.specs.{Numbers.numbered_run, RunChanges.usual_after, RunChecks.{Answers, usual_end, usual_ended, usual_wants}}
 use Rattle.cap_objects.specs.{Counts.CountsAre, Handed.held_of, HandoutsIn.objects_of}
 use Rattle.cap_run.specs.{declared.specials.Specials.Specials, Run.Run, RunOf.run_owners}
-use Rattle.cap_run.proofs.UsualNumberLemmas.{asks_nothing, usual-end, usual-numbered, usual-refused, written-low}
+use Rattle.cap_machine.specs.Helds.{state_of}
+use Rattle.cap_run.proofs.UsualNumberLemmas.{asks_nothing, usual-end, usual-numbered, usual-refused, writes-low}
 use Rattle.cap_run.proofs.run_machine.RunMachine.usual_kind.Goals as goal
 
 pub returns-in-Ok-clause-outcome : goal.returns-in-Ok-clause-outcome
@@ -13,7 +14,7 @@ returns-in-Ok-clause-outcome g c =
     let n = c.step_of_kind.new.self in
     let step = (g.I.Operands.step c.args.kind) in
     let makes = c.in-Ok.ensures.outcome in
-    let low = written-low s.machine step c.requires in (
+    let low = writes-low (state_of s.machine) step c.requires in (
       usual-end s.machine s.specials s.objects step s.asks c.kept.ensures.stored ∙ ap (option_map Usual) makes.checks,
       subst (λ (x : Specials). numbered_run n.machine x n.objects ≡ usual_after (numbered_run s.machine s.specials s.objects) step) (sym c.in-Ok.ensures.specials)
           (usual-numbered s.machine n.machine s.specials s.objects n.objects step c.requires c.kept.ensures.stored s.specials.sized.1
