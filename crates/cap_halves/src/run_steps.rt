@@ -87,7 +87,7 @@ pub fn fill_from(address: u64, word: Halves) -> Option<RunStep>
     Some(RunStep::Fill(address / 16, word_of(word)))
 }
 
-/// The step `object` of C's numbers: a register 1 to 31, and the number of an object, below 2^32; or 0, where what the
+/// The step `object` of C's numbers: a register 1 to 31, and the number of an object, below 2^32; or 0, if what the
 /// register holds is a new object's.
 pub fn object_from(register: u64, object: u64) -> Option<RunStep>
     ensures step { IsStepFrom (Some (object_passed register object)) result }

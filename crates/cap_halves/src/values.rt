@@ -25,9 +25,9 @@ pub struct Capability {
 #[repr(C)]
 #[derive(Debug, Clone, Copy, PartialEq, Eq)]
 pub struct PassedPlace {
-    /// The number of a register, or an address in a granule; in a result the granule's first address, and 0 where
+    /// The number of a register, or an address in a granule; in a result the granule's first address, and 0 if
     /// there is no place.
     pub number: u64,
-    /// 1 for a general-purpose register, 2 for a granule, 3 for a special register, and 0 where there is none.
+    /// 1 for a general-purpose register, 2 for a granule, 3 for a special register, and 0 if there is none.
     pub kind: u8,
 }

@@ -7,14 +7,14 @@ use crate::refusal::HeapRefusal;
 pub enum Event {
     /// An object is allocated.
     Malloc {
-        /// Where it begins.
+        /// If it begins.
         address: u64,
         /// How many bytes were requested.
         length: u64,
     },
     /// An object lives no more.
     Free {
-        /// Where it began.
+        /// If it began.
         address: u64,
     },
 }

@@ -24,7 +24,7 @@ pub struct Heap {
     lengths: BTreeMap<u64, u64>,
     // The addresses of the others, whose bounds have no address.
     empty: BTreeSet<u64>,
-    // Where it is true, no object's rounded bounds begin below its address.
+    // If it is true, no object's rounded bounds begin below its address.
     straight: bool,
     ghost apart: { IsApart bounds (kept lengths empty) },
     ghost long: { (address length : ℕ) → tree.get nat_cmp lengths address ≡ Some length → 0 < length },
@@ -80,7 +80,7 @@ impl Heap {
     }
 
     /// A live object and its length, whose rounded bounds have an address in common with those of a request, or `None`
-    /// where no object's have.
+    /// if no object's have.
     pub fn overlapped(&self, address: u64, length: u64) -> Option<(u64, u64)>
         ensures shared { MatchOption result
             ((other size : ℕ) → objects_in self.now other ≡ Some size → LieApart address length other size)
@@ -89,7 +89,7 @@ impl Heap {
         self.reaching(address, length, round(address, length))
     }
 
-    // The same, where the rounded bounds of the request are these. The last object that begins below their top tells of
+    // The same, if the rounded bounds of the request are these. The last object that begins below their top tells of
     // all, except one that begins above and whose bounds begin below its address.
     fn reaching(&self, address: u64, length: u64, rounded: Rounded) -> Option<(u64, u64)>
         requires base { rounded.base ≡ rounded_base address length }
@@ -113,7 +113,7 @@ impl Heap {
         }
     }
 
-    // Whether an object lives at an address, where the rounded bounds of a request there reach those of this object,
+    // Whether an object lives at an address, if the rounded bounds of a request there reach those of this object,
     // or of none.
     fn is_taken(&self, address: u64, length: u64, overlapped: Option<(u64, u64)>) -> bool
         requires { IfNone overlapped ((other size : ℕ) → objects_in self.now other ≡ Some size → LieApart address length other size) }
@@ -125,7 +125,7 @@ impl Heap {
         self.lengths.contains_key(&address) || self.empty.contains(&address)
     }
 
-    // The first check of a request that fails, or `None` where it can be met; its rounded bounds are these.
+    // The first check of a request that fails, or `None` if it can be met; its rounded bounds are these.
     fn refusal(&self, address: u64, length: u64, rounded: Rounded) -> Option<HeapRefusal>
         requires base { rounded.base ≡ rounded_base address length }
         requires top { rounded.top ≡ rounded_top address length }
@@ -145,7 +145,7 @@ impl Heap {
         }
     }
 
-    // An object of no bytes is allocated where there is room for it.
+    // An object of no bytes is allocated if there is room for it.
     fn keep_empty(&mut self, address: u64) -> Result<(), EventEnd>
         requires { HasRoom self.old.bounds (objects_in self.old) address 0 }
         ensures ok { OnOk result ((other : ℕ) → objects_in self.new other ≡ after_event (objects_in self.old) (Malloc address 0) other) }
@@ -169,7 +169,7 @@ impl Heap {
         self.straight && base == address
     }
 
-    // A longer object is allocated where there is room for it; its rounded bounds begin at this base.
+    // A longer object is allocated if there is room for it; its rounded bounds begin at this base.
     fn keep_long(&mut self, address: u64, length: u64, base: u64) -> Result<(), EventEnd>
         requires some { 0 < length }
         requires base { base ≡ rounded_base address length }
@@ -191,7 +191,7 @@ impl Heap {
     /// An object is allocated at an address, or the first check that refuses it is the answer and nothing changes.
     /// Memory is taken for an object that no check refuses; `NoMemory` comes only there. An object of a byte or more
     /// takes two walks down the map of such objects, one more once one came whose rounded bounds begin below its
-    /// address, and one down the set of those of no bytes where any live.
+    /// address, and one down the set of those of no bytes if any live.
     pub fn malloc(&mut self, address: u64, length: u64) -> Result<(), EventEnd>
         ensures room { OnOk result (HasRoom self.old.bounds (objects_in self.old) address length) }
         ensures ok { OnOk result ((other : ℕ) → objects_in self.new other ≡ after_event (objects_in self.old) (Malloc address length) other) }

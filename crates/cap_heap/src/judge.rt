@@ -1,7 +1,7 @@
 //! The judge of an allocator's log.
 
 ghost use Rattle.std.specs.Prelude.{◌≡◌, Err};
-ghost use Rattle.cap_streams.specs.{declared.judge_faults.JudgeFault.TheVariants.Pull, FaultLines.bytes_of};
+ghost use Rattle.cap_streams.specs.{declared.judging.judge_faults.JudgeFault.TheVariants.Pull, FaultLines.bytes_of};
 ghost use Rattle.cap_streams.specs.{Streams.CountsOnly, Takings.kept};
 ghost use Rattle.cap_heap.specs.{declared.log_parts.LogPart.TheVariants.Start, HeapVerdicts.HeapJudged, Heaps.live_in};
 ghost use Rattle.cap_heap.specs.Judgings.{JudgedBy, answer_at, finished_in, refused_in};
@@ -11,20 +11,28 @@ use crate::log_parts::LogPart;
 use crate::progress::Progress;
 use crate::refusal::HeapRefusal;
 use crate::verdict::HeapVerdict;
-use cap_log::{FaultLine, JudgeFault, Lines, Next, PullFault, Source, front};
+use cap_log::{Lines, Next, PullFault, Source};
+use cap_streams::front;
+use cap_streams::judging::{FaultLine, JudgeFault};
 use std::alloc::Global;
 
 /// Judges the log of an allocator that a source gives, each line as soon as it is there. It is `Yes` exactly
-/// where the bytes are such a log, at each moment of which the rounded bounds of the live objects lie apart
+/// if the bytes are such a log, at each moment of which the rounded bounds of the live objects lie apart
 /// from one another and inside the root, and the source has ended. Otherwise it is `No` with the first fault:
-/// where the source has not ended, whatever bytes follow.
+/// if the source has not ended, whatever bytes follow.
 ///
-/// Rounding is least, so no choice of capabilities does better: it is `Yes` exactly where to each live object, at
+/// Rounding is least, so no choice of capabilities does better: it is `Yes` exactly if to each live object, at
 /// each moment, a sound word can be given whose bounds hold it, such that these lie apart and inside the root.
 ///
-/// `Pull` comes only where the source failed; then the whole lines that it gave begin a log, and less than
+/// `Pull` comes only if the source failed; then the whole lines that it gave begin a log, and less than
 /// a line follows them. Memory is taken only for an object that is allocated and that no check refuses;
 /// `NoMemory` comes only there. It returns for a source without end too, since a log has fewer than 2^32 events.
+///
+/// ```rust
+/// let log = b"heap 1\nroot 0000000000001000 00000000000002000\nend 0\n";
+/// let verdict = judge_heap(alloc, &mut SliceSource::new(log, &[]));
+/// assert_eq!(rt; verdict, Ok(HeapVerdict::Yes { events: 0, live: 0 }));
+/// ```
 pub fn judge_heap<S: Source>(alloc: Global, source: &mut S) -> Result<HeapVerdict, JudgeFault>
     ensures judged { HeapJudged S.gave S.ended source.old source.new result }
 
@@ -69,7 +77,7 @@ pub(crate) fn judge_lines<S: Source>(
     }
 }
 
-// The verdict where the bytes end at a line's start.
+// The verdict if the bytes end at a line's start.
 fn finished(progress: &Progress, line: u64) -> HeapVerdict
     ensures { result ≡ finished_in progress.now.stage progress.now.events (live_in progress.now.heap) line }
 {

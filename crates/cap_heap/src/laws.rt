@@ -7,7 +7,7 @@ ghost use Rattle.cap_heap.specs.HeapLogs.{IsFirstHeapFault, IsHeapLogOf, heap_te
 ghost use Rattle.cap_heap.specs.Objects.{CanBeGuarded, IsApart};
 
 /// Whatever the lines: they are a log at each moment of which the rounded bounds of the live objects lie inside the
-/// root and apart, exactly where they are one at each moment of which sound words can be given so.
+/// root and apart, exactly if they are one at each moment of which sound words can be given so.
 pub fn apart_is_guarded()
     ensures law { (lines : List HeapLine) (root : Interval) (events : List Event)
         → IsHeapLogOf IsApart lines root events ↔ IsHeapLogOf CanBeGuarded lines root events }

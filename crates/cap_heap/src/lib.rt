@@ -35,4 +35,4 @@ pub use crate::refusal::HeapRefusal;
 pub use crate::report::{HeapReport, put_report};
 pub use crate::verdict::HeapVerdict;
 pub use crate::verdict_lines::{heap_status, heap_text};
-pub use cap_log::{JudgeFault, JudgeToFault};
+pub use cap_streams::judging::{JudgeFault, JudgeToFault};

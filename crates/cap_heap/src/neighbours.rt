@@ -41,7 +41,7 @@ pub(crate) fn first_from(map: &BTreeMap<u64, u64>, address: u64) -> Option<(u64,
     }
 }
 
-/// An entry, where its rounded top is above a base.
+/// An entry, if its rounded top is above a base.
 pub(crate) fn reaching_up(below: Option<(u64, u64)>, base: u64) -> Option<(u64, u64)>
     ensures { MatchOption result (IfSome below (λ entry. rounded_top entry.0 entry.1 ≤ base))
         (λ entry. (below ≡ Some entry) × (base < rounded_top entry.0 entry.1)) }
@@ -54,7 +54,7 @@ pub(crate) fn reaching_up(below: Option<(u64, u64)>, base: u64) -> Option<(u64, 
     }
 }
 
-/// An entry, where its rounded base is below a top.
+/// An entry, if its rounded base is below a top.
 pub(crate) fn reaching_down(above: Option<(u64, u64)>, top: u128) -> Option<(u64, u64)>
     ensures { MatchOption result (IfSome above (λ entry. top ≤ rounded_base entry.0 entry.1))
         (λ entry. (above ≡ Some entry) × (rounded_base entry.0 entry.1 < top)) }

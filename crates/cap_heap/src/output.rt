@@ -1,7 +1,7 @@
 //! The judge that writes its verdict into a sink.
 
 ghost use Rattle.std.specs.Prelude.{◌≤◌, take, Err};
-ghost use Rattle.cap_streams.specs.{declared.judge_faults.JudgeToFault.TheVariants.{Pull, Push}, FaultLines.bytes_of};
+ghost use Rattle.cap_streams.specs.{declared.judging.judge_faults.JudgeToFault.TheVariants.{Pull, Push}, FaultLines.bytes_of};
 ghost use Rattle.cap_streams.specs.Streams.{CountsOnly};
 ghost use Rattle.cap_heap.specs.{Texts.IsText, VerdictLines.Told};
 
@@ -12,7 +12,8 @@ use crate::verdict::HeapVerdict;
 use crate::verdict_lines::heap_text;
 use crate::whys::put_details;
 use cap_log::buffers::put;
-use cap_log::{FaultLine, JudgeToFault, Sink, Source, push_all};
+use cap_log::{Sink, Source, push_all};
+use cap_streams::judging::{FaultLine, JudgeToFault};
 use cap_texts::shown_bytes::put_shown_line;
 use std::alloc::Global;
 

@@ -14,7 +14,7 @@ use cap_bounds::Interval;
 use cap_log::Line;
 use cap_word::{read_u64, take_u64};
 
-/// Reads a line from its bytes, without its line feed: the line that they spell, or `None` where they spell
+/// Reads a line from its bytes, without its line feed: the line that they spell, or `None` if they spell
 /// none.
 pub fn read_heap_line(text: &[u8]) -> Option<HeapLine>
     ensures some { IfSome result (SpellsHeapLine text.now) }
@@ -43,7 +43,7 @@ pub(crate) fn is_header(text: &[u8]) -> bool
     text == b"heap 1".as_slice()
 }
 
-/// What follows a text at the front of some bytes, or `None` where it does not stand there.
+/// What follows a text at the front of some bytes, or `None` if it does not stand there.
 #[inline(always)]
 pub(crate) fn strip_text<'a, const N: usize>(bytes: &'a [u8], front: &[u8; N]) -> Option<&'a [u8]>
     ensures some { IfSome result (λ rest. bytes.now ≡ front.now ++ rest.now) }

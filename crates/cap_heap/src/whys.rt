@@ -80,7 +80,7 @@ fn put_counted_lines(
     }
 }
 
-// Writes what is told of an event that was refused, where the text is one's line.
+// Writes what is told of an event that was refused, if the text is one's line.
 fn put_event_lines(
     heap: &Heap,
     text: &[u8],
@@ -170,7 +170,7 @@ fn put_request_lines(buffer: &mut [u8], at: usize, name: &[u8], address: u64, si
     put_bounds_line(buffer, at, name, b"rounded ", rounded.base, rounded.top)
 }
 
-// Writes those of a live object, where there is one.
+// Writes those of a live object, if there is one.
 fn put_live_lines(buffer: &mut [u8], at: usize, found: Option<(u64, u64)>) -> usize
     requires { at + 104 ≤ length buffer.old }
     ensures written { Writes at (live_lines found) buffer.old buffer.new result }
@@ -193,7 +193,7 @@ fn put_right_lines(buffer: &mut [u8], at: usize, size: u64) -> usize
     put_hex_line(buffer, at, b"alignment", 17, alignment(size))
 }
 
-// Writes what would keep a request apart from a live object, where there is one.
+// Writes what would keep a request apart from a live object, if there is one.
 fn put_apart_lines(
     buffer: &mut [u8],
     at: usize,

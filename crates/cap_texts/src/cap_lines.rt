@@ -14,7 +14,7 @@ use cap_ops::perm_view;
 use cap_word::{Cap, Word, split};
 
 /// Writes the lines of an operand that has this name in a report, and returns the index after them: the
-/// four of the capability that its place holds, and the place of the root that this descends from, where
+/// four of the capability that its place holds, and the place of the root that this descends from, if
 /// there is one. Nothing else of the buffer changes.
 #[tactic(auto, unfolding(crate::specs::CapLines::operand_lines))]
 pub fn put_operand_lines(
@@ -34,7 +34,7 @@ pub fn put_operand_lines(
     put_descent_lines(buffer, at, name, root)
 }
 
-// Writes the place of a root, where there is one.
+// Writes the place of a root, if there is one.
 #[tactic(auto, unfolding(crate::specs::CapLines::descent_line))]
 fn put_descent_lines(buffer: &mut [u8], at: usize, name: &[u8], root: Option<Place>) -> usize
     requires name { length name.now ≤ 9 }

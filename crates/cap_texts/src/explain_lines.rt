@@ -14,6 +14,12 @@ use cap_word::{Word, split, to_memory, word_text};
 
 /// Writes the fifteen lines that explain a capability at the front of the buffer, and answers their
 /// length. The rest of the buffer stays as it was.
+///
+/// ```rust
+/// let mut buffer = [0; 512];
+/// let length = explain_text(Word(0xffff1ffffc0180040000000000000000), true, &mut buffer);
+/// assert!(rt; buffer[..length].starts_with(b"word ffff1ffffc0180040000000000000000\n"));
+/// ```
 pub fn explain_text(word: Word, tag: bool, buffer: &mut [u8; 512]) -> usize
     ensures lines { take result buffer.new ≡ explain_lines word.0 tag }
     ensures length { result ≡ length (explain_lines word.0 tag) }

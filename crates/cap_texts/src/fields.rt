@@ -96,7 +96,7 @@ fn size_after(field: Field, size: u8, bytes: &[u8]) -> u8
     }
 }
 
-// What follows a field at the front of some bytes and the byte that ends it, or `None` where they do not stand there.
+// What follows a field at the front of some bytes and the byte that ends it, or `None` if they do not stand there.
 fn take_field(field: Field, size: u8, bytes: &[u8], end: u8) -> Option<&[u8]>
     requires { IsEnd end }
     ensures some { IfSome result (λ rest. Stands field size end bytes.now rest.now) }

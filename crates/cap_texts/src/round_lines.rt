@@ -8,6 +8,12 @@ use cap_bounds::Rounded;
 
 /// Writes the five lines of a rounding at the front of the buffer, and answers their length. The rest of
 /// the buffer stays as it was.
+///
+/// ```rust
+/// let mut buffer = [0; 128];
+/// let length = round_text(&round(1, 0x1fff), &mut buffer);
+/// assert!(rt; buffer[..length].ends_with(b"exact no\n"));
+/// ```
 pub fn round_text(rounded: &Rounded, buffer: &mut [u8; 128]) -> usize
     ensures lines { take result buffer.new ≡ round_lines rounded.now }
     ensures length { result ≡ length (round_lines rounded.now) }

@@ -24,7 +24,7 @@ pub const SHORT_LINE: &[u8] = b"a line feed after at most 95 bytes";
 pub const WHOLE_LOG: &[u8] = b"an end line, and a line feed after each line";
 
 /// Writes which word of a line is wrong at an index of the buffer, and returns the index after it: the column at
-/// which the word begins, from 1 on, the line from there on, what is expected there, and a hint where the line ends
+/// which the word begins, from 1 on, the line from there on, what is expected there, and a hint if the line ends
 /// too early, has a space too many or ends with a carriage return. The length is that of the line with its line feed.
 #[tactic(auto, unfolding(crate::specs::WrongLines::wrong_lines))]
 pub fn put_wrong_lines(buffer: &mut [u8], at: usize, line_length: usize, wrong: Wrong<'_>) -> usize
@@ -41,7 +41,7 @@ pub fn put_wrong_lines(buffer: &mut [u8], at: usize, line_length: usize, wrong: 
     put_hint_line(buffer, at, hint_of(wrong))
 }
 
-/// Writes what a line of one form has to be, and a hint where it begins with a byte order mark or ends with a
+/// Writes what a line of one form has to be, and a hint if it begins with a byte order mark or ends with a
 /// carriage return.
 #[tactic(auto, unfolding(crate::specs::WrongLines::header_lines))]
 pub fn put_header_lines(buffer: &mut [u8], at: usize, text: &[u8], expected: &[u8]) -> usize
@@ -54,7 +54,7 @@ pub fn put_header_lines(buffer: &mut [u8], at: usize, text: &[u8], expected: &[u
     put_hint_line(buffer, at, mark_hint(text))
 }
 
-// Writes a line from a wrong word on, where it has more than its line feed.
+// Writes a line from a wrong word on, if it has more than its line feed.
 fn put_found_line(buffer: &mut [u8], at: usize, rest: &[u8]) -> usize
     requires few { length rest.now ≤ 97 }
     requires room { at + 395 ≤ length buffer.old }
@@ -84,7 +84,7 @@ fn put_expected_line(buffer: &mut [u8], at: usize, field: &[u8], end: &[u8]) -> 
     put(buffer, at, b"\n")
 }
 
-/// Writes a hint, or nothing where it is empty.
+/// Writes a hint, or nothing if it is empty.
 pub fn put_hint_line(buffer: &mut [u8], at: usize, hint: &[u8]) -> usize
     requires few { length hint.now ≤ 80 }
     requires room { at + 86 ≤ length buffer.old }

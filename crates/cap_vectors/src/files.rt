@@ -26,13 +26,19 @@ pub enum VectorVerdict {
 }
 
 /// Checks the lines of a vector file that a source gives, each as soon as it is there. It is `Pass` exactly
-/// where each line states something true, there are fewer than 2^64 - 1 of them, and the source has ended at
+/// if each line states something true, there are fewer than 2^64 - 1 of them, and the source has ended at
 /// a line's start. Otherwise it is `Fail` with the first line that is too long, lacks its line feed, has no
-/// form, states something false, or has the number 2^64 - 1: where the source has not ended, whatever bytes
+/// form, states something false, or has the number 2^64 - 1: if the source has not ended, whatever bytes
 /// follow.
 ///
-/// A `PullFault` comes only where the source failed; then the whole lines that it gave state something true,
+/// A `PullFault` comes only if the source failed; then the whole lines that it gave state something true,
 /// and less than a line follows them. It takes no memory.
+///
+/// ```rust
+/// let file = b"keeps ffff1ffffc0180040000000000000000 0000000000001000 = 1\n";
+/// let verdict = vectors(&mut SliceSource::new(file, &[]));
+/// assert_eq!(rt; verdict, Ok(VectorVerdict::Pass { lines: 1 }));
+/// ```
 pub fn vectors<S: Source>(source: &mut S) -> Result<VectorVerdict, PullFault>
     ensures checked { Checked S.gave S.ended source.old source.new result }
     ensures counted { CountsFault (S.faults source.old) (S.faults source.new) result }

@@ -10,6 +10,10 @@ use crate::writers::{write_bounds, write_keeps, write_memory, write_round};
 const GREATEST_TOP: u128 = 1 << 64;
 
 /// Whether a line states something true.
+///
+/// ```rust
+/// assert!(rt; is_true_line(b"bounds ffff1ffffc0000000000000000000001 = 0000000000000000 00000000000001000 1"));
+/// ```
 pub fn is_true_line(line: &[u8]) -> bool
     ensures exact { IsTrue result ↔ IsTrueLine line.now }
 {

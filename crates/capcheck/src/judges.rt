@@ -9,7 +9,7 @@ use cap_log::{Sink, Source};
 use cap_program::{Fault, fault_of};
 use std::alloc::Global;
 
-/// Judges what a source gives, pushes the line of the verdict and, where they are asked for, those of origins, and answers
+/// Judges what a source gives, pushes the line of the verdict and, if they are asked for, those of origins, and answers
 /// the status that goes with the verdict.
 pub fn judge_input<S: Source, K: Sink>(
     alloc: Global,

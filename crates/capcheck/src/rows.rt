@@ -2,7 +2,7 @@
 //! `examples/program/check.py` runs the built program for them.
 //!
 //! Each row has the words of one or more runs after their exit status, with `''` for an empty word; the lines of the
-//! input after `|`; those on standard output after `=`, where `..` stands for any lines; and the line on standard error
+//! input after `|`; those on standard output after `=`, in which `..` stands for any lines; and the line on standard error
 //! after `!`. A ` / ` joins runs of one status, or lines of one kind. The input is standard input, and the two files `log` and `file`.
 //! There is no file `gone`.
 

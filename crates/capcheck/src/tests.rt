@@ -99,7 +99,7 @@ fn input_of<'a>(order: Option<Order<'_>>, input: &'a [u8]) -> Option<&'a [u8]> {
     }
 }
 
-// Whether a text is the one that is wanted, where a line `..` stands for any lines.
+// Whether a text is the one that is wanted, in which a line `..` stands for any lines.
 fn agrees(text: &[u8], wanted: &[u8]) -> bool {
     match wanted {
         [b'.', b'.', b'\n', middle @ .., b'.', b'.', b'\n'] => {
@@ -110,7 +110,7 @@ fn agrees(text: &[u8], wanted: &[u8]) -> bool {
     }
 }
 
-// Whether the run has its status and its texts. Where it is shown or judged, its output then fails after each byte
+// Whether the run has its status and its texts. If it is shown or judged, its output then fails after each byte
 // and when it is handed on, and its input fails after each byte, up to the one that decides.
 fn holds(alloc: Global, worked: Worked<'_>) -> Result<bool, AllocError> {
     let Worked {

@@ -22,7 +22,7 @@ pub enum Order<'a> {
         /// The length, a word that does not begin with `-`.
         length: &'a str,
     },
-    /// `judge [--origins] [FILE]`: judge the file, or standard input where no file is named.
+    /// `judge [--origins] [FILE]`: judge the file, or standard input if no file is named.
     Judge {
         /// Whether the root of each capability in the last state is asked for.
         origins: bool,

@@ -61,7 +61,7 @@ fn access_from(authority: Capability, kind: Kind, offset: i64, size: u64) -> Acc
 }
 
 /// Whether an authority allows to load `size` bytes of data, 1, 2, 4 or 8, at an offset of -2048 to 2047 from its
-/// address. Refused with its first failed check, 14 to 17 and 20, and as 255 where there is no such access.
+/// address. Refused with its first failed check, 14 to 17 and 20, and as 255 if there is no such access.
 #[unsafe(no_mangle)]
 pub extern "C" fn capcheck_may_load(authority: Capability, offset: i64, size: u64) -> AccessAnswer
     ensures answer { AnswersAccess (cap_of authority) kind.LoadData offset size result }
@@ -70,7 +70,7 @@ pub extern "C" fn capcheck_may_load(authority: Capability, offset: i64, size: u6
 }
 
 /// Whether an authority allows to store `size` bytes of data, 1, 2, 4 or 8, at an offset of -2048 to 2047 from its
-/// address. Refused with its first failed check, 14 to 17 and 20, and as 255 where there is no such access.
+/// address. Refused with its first failed check, 14 to 17 and 20, and as 255 if there is no such access.
 #[unsafe(no_mangle)]
 pub extern "C" fn capcheck_may_store(authority: Capability, offset: i64, size: u64) -> AccessAnswer
     ensures answer { AnswersAccess (cap_of authority) kind.StoreData offset size result }

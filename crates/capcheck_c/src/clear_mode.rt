@@ -98,7 +98,7 @@ pub extern "C" fn capcheck_clear_tag(source: Capability) -> Capability
     to_c(clear_tag(from_c(source)))
 }
 
-/// What a load of a stored capability gives: its tag goes where the authority lacks Load Capability.
+/// What a load of a stored capability gives: its tag goes if the authority lacks Load Capability.
 #[unsafe(no_mangle)]
 pub extern "C" fn capcheck_loaded(authority: Capability, stored: Capability) -> Capability
     ensures result_is { cap_of result ≡ loaded_result (cap_of authority) (cap_of stored) }

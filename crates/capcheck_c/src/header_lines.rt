@@ -1,6 +1,6 @@
 //! The lines at the beginning and the end of a log.
 //!
-//! Each call answers how many bytes it wrote, the line feed with them, or 0 where a number is out of its
+//! Each call answers how many bytes it wrote, the line feed with them, or 0 if a number is out of its
 //! range; then the buffer is as it was.
 
 ghost use Rattle.std.specs.Prelude.{◌≡◌, ◌/◌, ◌%◌};

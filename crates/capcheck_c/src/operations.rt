@@ -34,10 +34,10 @@ fn made_from(outcome: Result<Cap, OpFault>) -> Made
     }
 }
 
-/// Narrows the source's bounds to the length from its address on, rounded; with `exact` only where nothing is rounded.
+/// Narrows the source's bounds to the length from its address on, rounded; with `exact` only if nothing is rounded.
 ///
-/// A tagged source is refused where it is sealed (10), then where the rounded bounds do not lie inside its
-/// own (11), then where they are to be exact and are not (12).
+/// A tagged source is refused if it is sealed (10), then if the rounded bounds do not lie inside its
+/// own (11), then if they are to be exact and are not (12).
 #[unsafe(no_mangle)]
 pub extern "C" fn capcheck_set_bounds(source: Capability, length: u64, exact: u8) -> Made
     ensures outcome { IsMadeBy (ops.set_bounds_checks (cap_of source) length (is_set exact)) (ops.set_bounds_result (cap_of source) length) result }
@@ -52,7 +52,7 @@ pub extern "C" fn capcheck_set_bounds(source: Capability, length: u64, exact: u8
 
 /// Gives the source another address.
 ///
-/// A tagged source is refused where it is sealed (10), and then where the address does not keep its bounds (13).
+/// A tagged source is refused if it is sealed (10), and then if the address does not keep its bounds (13).
 #[unsafe(no_mangle)]
 pub extern "C" fn capcheck_set_addr(source: Capability, address: u64) -> Made
     ensures outcome { IsMadeBy (ops.set_addr_checks (cap_of source) address) (ops.set_addr_result (cap_of source) address) result }
@@ -82,8 +82,8 @@ pub extern "C" fn capcheck_and_perm(source: Capability, mask: u64) -> Made
 
 /// Seals the source with the authority's address as its object type.
 ///
-/// It is refused, in this order, where the authority is untagged (14), is sealed (15), lacks Seal (16), or
-/// does not hold its own address (17), where that address is above `0x3fffb` (18), and where the source is
+/// It is refused, in this order, if the authority is untagged (14), is sealed (15), lacks Seal (16), or
+/// does not hold its own address (17), if that address is above `0x3fffb` (18), and if the source is
 /// untagged (9) or sealed (10).
 #[unsafe(no_mangle)]
 pub extern "C" fn capcheck_seal(source: Capability, authority: Capability) -> Made
@@ -99,8 +99,8 @@ pub extern "C" fn capcheck_seal(source: Capability, authority: Capability) -> Ma
 
 /// Unseals the source, which is sealed with the authority's address.
 ///
-/// It is refused, in this order, where the authority is untagged (14), is sealed (15), lacks Unseal (16), or does not
-/// hold its own address (17), and where the source is untagged (9) or has another object type or a reserved one (19).
+/// It is refused, in this order, if the authority is untagged (14), is sealed (15), lacks Unseal (16), or does not
+/// hold its own address (17), and if the source is untagged (9) or has another object type or a reserved one (19).
 #[unsafe(no_mangle)]
 pub extern "C" fn capcheck_unseal(source: Capability, authority: Capability) -> Made
     ensures outcome { IsMadeBy (ops.unseal_checks (cap_of source) (cap_of authority)) (ops.unseal_result (cap_of source) (cap_of authority)) result }

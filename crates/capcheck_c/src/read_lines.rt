@@ -23,7 +23,7 @@ const ROOT_AT: u8 = 4;
 
 const END: u8 = 17;
 
-/// Reads the line at the front of some bytes, with its line feed: its kind, its numbers, and how long it is. Where they
+/// Reads the line at the front of some bytes, with its line feed: its kind, its numbers, and how long it is. If they
 /// begin with no line and a line feed, the kind is 0, and so is all else.
 #[unsafe(no_mangle)]
 pub extern "C" fn capcheck_read_line(bytes: &[u8]) -> LineRead

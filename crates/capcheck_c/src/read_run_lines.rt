@@ -35,7 +35,7 @@ const RUN_VERSION: u8 = 25;
 const ROOT_SPECIAL: u8 = 26;
 
 /// Reads the line of a run log at the front of some bytes, with its line feed: its kind, its numbers, and how long it is.
-/// Where they begin with no such line and a line feed, the kind is 0, and so is all else.
+/// If they begin with no such line and a line feed, the kind is 0, and so is all else.
 #[unsafe(no_mangle)]
 pub extern "C" fn capcheck_read_run_line(bytes: &[u8]) -> RunLineRead
     ensures read { ReadsRunFront bytes.now result }

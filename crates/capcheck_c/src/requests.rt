@@ -58,7 +58,7 @@ pub extern "C" fn capcheck_round(base: u64, length: u64) -> RoundedRequest
     }
 }
 
-/// The least length from `length` on that is exact at base 0, or 2^64 where none is. No length from
+/// The least length from `length` on that is exact at base 0, or 2^64 if none is. No length from
 /// `length` to below it is exact at any base.
 #[unsafe(no_mangle)]
 pub extern "C" fn capcheck_round_length(length: u64) -> Halves
@@ -72,8 +72,8 @@ pub extern "C" fn capcheck_round_length(length: u64) -> Halves
     halves_of(round_length(length))
 }
 
-/// 2^64 less the alignment of a length, which is a power of two. Where the rounded length is below 2^64, it is exact at
-/// just the bases that are multiples of the alignment; where it is 2^64, the alignment is 2^55.
+/// 2^64 less the alignment of a length, which is a power of two. If the rounded length is below 2^64, it is exact at
+/// just the bases that are multiples of the alignment; if it is 2^64, the alignment is 2^55.
 #[unsafe(no_mangle)]
 pub extern "C" fn capcheck_align_mask(length: u64) -> u64
     ensures value { result + alignment_of length ≡ 2 ^ 64 }
@@ -85,7 +85,7 @@ pub extern "C" fn capcheck_align_mask(length: u64) -> u64
     align_mask(length)
 }
 
-/// Whether a word is sound and a request lies in its bounds. Of a sound word that is exactly where the
+/// Whether a word is sound and a request lies in its bounds. Of a sound word that is exactly if the
 /// rounded request does, so rounding is least.
 #[unsafe(no_mangle)]
 pub extern "C" fn capcheck_least_law(word: Halves, base: u64, length: u64) -> bool
@@ -104,7 +104,7 @@ pub extern "C" fn capcheck_least_law(word: Halves, base: u64, length: u64) -> bo
 }
 
 /// A word's representable range, as its start and its size: an address keeps the word's bounds exactly
-/// where it is less than the size above the start, modulo 2^64; or that every address keeps them.
+/// if it is less than the size above the start, modulo 2^64; or that every address keeps them.
 #[unsafe(no_mangle)]
 pub extern "C" fn capcheck_reach(word: Halves) -> AddressRange
     ensures bit { result.every ≤ 1 }
@@ -147,7 +147,7 @@ pub extern "C" fn capcheck_keeps_bounds(word: Halves, address: u64) -> bool
 }
 
 /// A word with the rounded bounds of a request, and the request's base as its address. Its other fields stay as they
-/// are. Where the request ends at or below 2^64, the word has exactly the rounded bounds, and is sound.
+/// are. If the request ends at or below 2^64, the word has exactly the rounded bounds, and is sound.
 #[unsafe(no_mangle)]
 pub extern "C" fn capcheck_with_bounds(word: Halves, base: u64, length: u64) -> Halves
     ensures word { whole_of result ≡ rounded_word (whole_of word) base length }
@@ -168,7 +168,7 @@ pub extern "C" fn capcheck_with_bounds(word: Halves, base: u64, length: u64) -> 
 
 /// The word of a root: unsealed, with the flag and the reserved bits 0, these permissions in the
 /// architectural view, and the rounded bounds of `length` bytes from `base` on, which is its address. There
-/// is none where the request ends past 2^64, or where a bit of the view stands for no permission.
+/// is none if the request ends past 2^64, or if a bit of the view stands for no permission.
 #[unsafe(no_mangle)]
 pub extern "C" fn capcheck_root(base: u64, length: Halves, permissions: u32) -> OptionalWord
     ensures root { IsRootRequest base (whole_of length) permissions

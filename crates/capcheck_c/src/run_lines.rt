@@ -1,6 +1,6 @@
 //! The lines that only run logs have, written from the numbers that C passes.
 //!
-//! Each call answers how many bytes it wrote, the line feed with them, or 0 where a number is out of its
+//! Each call answers how many bytes it wrote, the line feed with them, or 0 if a number is out of its
 //! range; then the buffer is as it was.
 
 ghost use Rattle.std.specs.Prelude.{◌≡◌, ◌≤◌, Some};
@@ -146,7 +146,7 @@ pub extern "C" fn capcheck_line_fill(buffer: &mut [u8; 96], address: u64, word: 
 }
 
 /// Writes the line of a step `object` into the buffer: a register 1 to 31, and the number of an object, below 2^32; or 0,
-/// where what the register holds is a new object's.
+/// if what the register holds is a new object's.
 #[unsafe(no_mangle)]
 pub extern "C" fn capcheck_line_object(buffer: &mut [u8; 96], register: u64, object: u64) -> usize
     ensures line { AnswersRunStep (Some (object_passed register object)) buffer.old buffer.new result }

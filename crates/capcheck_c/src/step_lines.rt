@@ -1,6 +1,6 @@
 //! The lines of steps: written from the numbers that C passes, and read as such.
 //!
-//! Each call answers how many bytes it wrote, the line feed with them, or 0 where a number is out of its
+//! Each call answers how many bytes it wrote, the line feed with them, or 0 if a number is out of its
 //! range; then the buffer is as it was.
 
 ghost use Rattle.std.specs.Prelude.{◌≡◌, ◌≢◌, ◌≤◌};
@@ -208,7 +208,7 @@ pub extern "C" fn capcheck_line_store(
     put_step::<Store>((authority, offset, size, value), buffer)
 }
 
-// Writes the line of the step that C's numbers make. Where they make none, it answers 0, and the buffer is as it was.
+// Writes the line of the step that C's numbers make. If they make none, it answers 0, and the buffer is as it was.
 #[inline(always)]
 fn put_step<O: Operands>(numbers: O::Numbers, buffer: &mut [u8; 96]) -> usize
     ensures { AnswersLine (line.Step (O.step (O.meant numbers))) buffer.old buffer.new result }

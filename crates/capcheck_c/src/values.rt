@@ -37,9 +37,9 @@ pub struct WordFields {
 #[repr(C)]
 #[derive(Debug, Clone, Copy, PartialEq, Eq)]
 pub struct OptionalWord {
-    /// The word; 0 where there is none.
+    /// The word; 0 if there is none.
     pub word: Halves,
-    /// 1 where there is a word, else 0.
+    /// 1 if there is a word, else 0.
     pub present: u8,
 }
 
@@ -75,9 +75,9 @@ pub struct RoundedRequest {
     pub t: u16,
     /// The exponent, at most 52.
     pub e: u8,
-    /// 1 where the exponent stands in the word, from a length of 4096 on, else 0.
+    /// 1 if the exponent stands in the word, from a length of 4096 on, else 0.
     pub ie: u8,
-    /// 1 where both bounds are the requested ones, else 0.
+    /// 1 if both bounds are the requested ones, else 0.
     pub exact: u8,
 }
 
@@ -85,11 +85,11 @@ pub struct RoundedRequest {
 #[repr(C)]
 #[derive(Debug, Clone, Copy, PartialEq, Eq)]
 pub struct AddressRange {
-    /// The first address; 0 where every address keeps the bounds.
+    /// The first address; 0 if every address keeps the bounds.
     pub start: u64,
-    /// How many there are; 0 where every address keeps the bounds.
+    /// How many there are; 0 if every address keeps the bounds.
     pub size: u64,
-    /// 1 where every address keeps the bounds, else 0.
+    /// 1 if every address keeps the bounds, else 0.
     pub every: u8,
 }
 
@@ -97,7 +97,7 @@ pub struct AddressRange {
 #[repr(C)]
 #[derive(Debug, Clone, Copy, PartialEq, Eq)]
 pub struct Made {
-    /// The result; NULL without a tag where the operation is refused.
+    /// The result; NULL without a tag if the operation is refused.
     pub cap: Capability,
     /// 0, or the number of the refusal.
     pub refusal: u8,
@@ -107,7 +107,7 @@ pub struct Made {
 #[repr(C)]
 #[derive(Debug, Clone, Copy, PartialEq, Eq)]
 pub struct AccessAnswer {
-    /// The address of the access; 0 where it is refused.
+    /// The address of the access; 0 if it is refused.
     pub address: u64,
     /// 0, or the number of the refusal.
     pub refusal: u8,
@@ -148,11 +148,11 @@ pub struct LineRead {
     /// The version, 1 for clear mode, the address of a root in memory, a length, an address, a mask, a value, or the
     /// number of steps; else 0.
     pub number: u64,
-    /// How many bytes the line has with its line feed; 0 where there is none.
+    /// How many bytes the line has with its line feed; 0 if there is none.
     pub length: usize,
     /// The offset of an access, else 0.
     pub offset: i16,
-    /// The kind of the line, 1 to 17; 0 where there is none.
+    /// The kind of the line, 1 to 17; 0 if there is none.
     pub kind: u8,
     /// The register that a step writes or that holds a root, else 0.
     pub target: u8,

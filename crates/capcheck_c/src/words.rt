@@ -61,7 +61,7 @@ pub(crate) fn no_word() -> OptionalWord
     }
 }
 
-/// Puts a word together: its fields are the given ones. There is none where a field is too wide, or where
+/// Puts a word together: its fields are the given ones. There is none if a field is too wide, or if
 /// the exponent, B and T don't fit `ie`.
 #[unsafe(no_mangle)]
 pub extern "C" fn capcheck_join(fields: WordFields) -> OptionalWord

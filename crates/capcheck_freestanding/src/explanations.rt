@@ -22,8 +22,8 @@ pub struct Why {
 
 /// Judges the bytes of a log, as [`capcheck_judge_bytes_in`](crate::judges::capcheck_judge_bytes_in) does, and
 /// writes what `capdiag why` prints of them: the line of the verdict, and after a `no` the report of the faulty line.
-/// After a yes the lines of the origins follow where they are asked for. The text stands at the front of its room
-/// where it fits. Where it doesn't, the room holds anything, and the length says what is needed.
+/// After a yes the lines of the origins follow if they are asked for. The text stands at the front of its room
+/// if it fits. If it doesn't, the room holds anything, and the length says what is needed.
 #[unsafe(no_mangle)]
 pub extern "C" fn capcheck_judge_why(
     origins: bool,

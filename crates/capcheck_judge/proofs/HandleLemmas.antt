@@ -90,7 +90,7 @@ line_handed text held after old new state is now takes =
       still_holds = λ large bytes holds. record {
         judge = new;
         held_is = now;
-        taken = subst (λ (k : Known). Follows unread bytes (at k.stage k.held)) (sym (takes.unchanged large)) (held_taken held bytes holds old is);
+        taken = subst (λ (k : Known). Follows unread bytes (at k.due k.held)) (sym (takes.unchanged large)) (held_taken held bytes holds old is);
       };
       no_memory = λ three bytes holds. lacks_memory bytes text [] (stage_of old) (held_taken held bytes holds old is) (takes.no_memory three);
     }

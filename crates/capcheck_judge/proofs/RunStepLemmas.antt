@@ -121,12 +121,6 @@ unhanded line (Some judge) after state out is same = record {
   no_line = (λ five. (λ none. there (Some judge) judge refl none, out), λ both. is);
 }
 
-pub no_judge_handed : (line : RunLine) (held after : HeldRunJudge) → held ≡ None → after ≡ None → HandsOverRun line held after 4
-no_judge_handed line held after none still = record {
-  handed = none_handed (run_spelling line ++ 10 ∷ []) held after 4 (subst (λ (h : HeldRunJudge). IsNoStep h 4) (sym none) refl) (still ∙ sym none);
-  no_line = (λ five. let never : ⊥ = omega (arith, five) in absurd never, λ both. absurd (both.0 none));
-}
-
 -- the same for a step that C's numbers name, if they do
 pub run_step_handed : (passed : Option RunStep) (step : RunStep) (held after : HeldRunJudge) (old new : RunJudgeIn) (state : ℕ)
     → IsStepFrom passed (Some step) → held ≡ Some old → after ≡ Some new → (state ≡ 0) ⊎ (state ≡ 2) ⊎ (state ≡ 3)
@@ -139,11 +133,6 @@ pub no_run_step : (passed : Option RunStep) (held after : HeldRunJudge) (state :
     → HandsOverRunStep passed held after state
 no_run_step None held after state from is same = (is, ap stage_in same, (λ none. sym same ∙ none, λ none. same ∙ none))
 no_run_step (Some step) held after state from is same = unhanded (lines.Run step) held after state (from step refl) is same
-
-pub no_judge_step : (passed : Option RunStep) (step : RunStep) (held after : HeldRunJudge) → IsStepFrom passed (Some step) → held ≡ None → after ≡ None
-    → HandsOverRunStep passed held after 4
-no_judge_step passed step held after from none still =
-    subst (λ (p : Option RunStep). HandsOverRunStep p held after 4) (sym from.0) (no_judge_handed (lines.Run step) held after none still)
 
 -- the first place that an object owns, as C gets it
 pub holder_told : (run : Run) (number : ℕ) (found : Option RunPlace) (told : PassedPlace) → IfSome found (IsFirstHolder run number)

@@ -7,7 +7,7 @@ use Rattle.cap_judge.specs.declared.judges.Stop.{Stop, TheVariants.{Cut, Fault, 
 use Rattle.cap_run.specs.declared.{asks.Asks.Asks, ends.RunRefusal.RunRefusal}
 use Rattle.cap_run_judge.specs.declared.{faults.RefusedRunLine.RefusedRunLine, verdict.RunVerdict.{RunVerdict, TheVariants.{Yes, No}}}
 use Rattle.cap_run_judge.specs.Turns.{Goes, Refused, Stage, unread}
-use Rattle.cap_run_judge.specs.Readings.{EndsAs, EndsIn, Follows, StopsAt, stage_of}
+use Rattle.cap_run_judge.specs.Readings.{AnswerAtEnd, VerdictAtEnd, Follows, StopsAt, stage_of}
 use Rattle.cap_run_judge.specs.Verdicts.{Lacks, MayLackMemory}
 use Rattle.cap_run_judge.proofs.FollowLemmas.{all_ends, clear_goes, fault_allows, fault_stays, faults_at, follows_on, never_faulty, no_stands, refused_in}
 use Rattle.cap_run_judge.proofs.FollowLemmas.{stop_follows}
@@ -132,7 +132,7 @@ answered_no held judge asks_are bytes n refusal text answer is due numbers holds
 
 -- the verdict on them
 pub answered_end : (held : HeldRunJudge) (judge : RunJudgeIn) (asks_are : Asks) (bytes : List ℕ) (verdict : RunVerdict) (text : List ℕ)
-    (answer : RunAnswer) → held ≡ Some judge → EndsIn (stage_of judge) [] verdict text → answer ≡ run_numbers_of verdict
+    (answer : RunAnswer) → held ≡ Some judge → VerdictAtEnd (stage_of judge) [] verdict text → answer ≡ run_numbers_of verdict
     → HoldsRun held asks_are bytes → AnswersRunEnd asks_are bytes answer
 answered_end held judge asks_are bytes verdict text answer is ends numbers holds = record {
   verdict = verdict;
@@ -142,13 +142,13 @@ answered_end held judge asks_are bytes verdict text answer is ends numbers holds
 
 -- a yes, and a no
 pub ended_yes : (held : HeldRunJudge) (judge : RunJudgeIn) (asks_are : Asks) (bytes : List ℕ) (verdict : RunVerdict) (answer : RunAnswer)
-    → held ≡ Some judge → EndsAs (stage_of judge) [] (Ok verdict) → answer ≡ run_numbers_of verdict → HoldsRun held asks_are bytes
+    → held ≡ Some judge → AnswerAtEnd (stage_of judge) [] (Ok verdict) → answer ≡ run_numbers_of verdict → HoldsRun held asks_are bytes
     → AnswersRunEnd asks_are bytes answer
 ended_yes held judge asks_are bytes (Yes steps roots objects) answer is ends = answered_end held judge asks_are bytes (Yes steps roots objects) [] answer is ends
 ended_yes held judge asks_are bytes (No line refusal) answer is ends = absurd ends
 
 pub ended_no : (held : HeldRunJudge) (judge : RunJudgeIn) (asks_are : Asks) (bytes : List ℕ) (fault : RefusedRunLine) (answer : RunAnswer)
-    → held ≡ Some judge → EndsAs (stage_of judge) [] (Err fault) → answer ≡ run_numbers_of (No fault.line fault.refusal)
+    → held ≡ Some judge → AnswerAtEnd (stage_of judge) [] (Err fault) → answer ≡ run_numbers_of (No fault.line fault.refusal)
     → HoldsRun held asks_are bytes → AnswersRunEnd asks_are bytes answer
 ended_no held judge asks_are bytes fault answer is ends =
     answered_end held judge asks_are bytes (No fault.line fault.refusal) (bytes_of fault.text) answer is ends

@@ -6,9 +6,9 @@ use cap_halves::values::Capability;
 #[repr(C)]
 #[derive(Debug, Clone, Copy, PartialEq, Eq)]
 pub struct OptionalCap {
-    /// The capability; NULL without a tag where there is none.
+    /// The capability; NULL without a tag if there is none.
     pub cap: Capability,
-    /// 1 where there is a capability, else 0.
+    /// 1 if there is a capability, else 0.
     pub present: u8,
 }
 
@@ -26,12 +26,12 @@ pub struct LinesTaken {
 #[repr(C)]
 #[derive(Debug, Clone, Copy, PartialEq, Eq)]
 pub struct PassedExpected {
-    /// The capability that the step's register gets; NULL without a tag where there is none.
+    /// The capability that the step's register gets; NULL without a tag if there is none.
     pub cap: Capability,
     /// The number that the step loads, else 0.
     pub number: u64,
     /// How many bytes this number has in memory, else 0.
     pub size: u8,
-    /// 1 where it is the capability, 2 where it is the number, and 0 where there is none.
+    /// 1 if it is the capability, 2 if it is the number, and 0 if there is none.
     pub kind: u8,
 }

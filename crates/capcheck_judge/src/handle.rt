@@ -29,7 +29,7 @@ impl Model for Handle {
 }
 
 impl Handle {
-    /// Takes the judge out, where there is one, and leaves none.
+    /// Takes the judge out, if there is one, and leaves none.
     pub(crate) fn take(&mut self, alloc: Global) -> Option<Box<Judge<PageStore>>>
         ensures taken { MatchOption result (self.old.judge ≡ None) (λ judge. self.old.judge ≡ Some judge.value) }
         ensures left { self.new.judge ≡ None }
@@ -40,7 +40,7 @@ impl Handle {
         }
     }
 
-    /// Puts a judge in where there is none.
+    /// Puts a judge in if there is none.
     pub(crate) fn put(&mut self, judge: Box<Judge<PageStore>>)
         requires empty { self.old.judge ≡ None }
         ensures { self.new.judge ≡ Some judge.value }
@@ -71,7 +71,7 @@ impl Handle {
         }
     }
 
-    // The judge of a handle, where there is one.
+    // The judge of a handle, if there is one.
     fn into_held(self) -> Option<KeptBox<Judge<PageStore>, Global>>
         ensures { MatchOption result (self.judge ≡ None) (λ judge. self.judge ≡ Some judge.value) }
     {

@@ -7,7 +7,7 @@ use std::alloc::Global;
 use tagmem::PageStore;
 
 /// Judges the bytes of a log, as `capcheck judge` does: it is a `yes` exactly for a log whose steps have a run from
-/// its roots, and otherwise a `no` with the first fault. Memory is taken only where a line names a granule for the
+/// its roots, and otherwise a `no` with the first fault. Memory is taken only if a line names a granule for the
 /// first time, and given back before the call ends.
 #[unsafe(no_mangle)]
 pub extern "C" fn capcheck_judge_bytes(alloc: Global, bytes: &[u8]) -> Answer

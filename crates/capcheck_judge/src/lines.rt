@@ -16,7 +16,7 @@ use cap_report::answers::{
 use std::alloc::Global;
 use tagmem::{PageStore, TaggedStore};
 
-/// Opens a judge that has taken no line. What the handle held is closed. 0, or 3 where memory for the judge was
+/// Opens a judge that has taken no line. What the handle held is closed. 0, or 3 if memory for the judge was
 /// refused; then the handle holds none.
 #[unsafe(no_mangle)]
 pub extern "C" fn capcheck_judge_open(alloc: Global, judge: &mut Handle) -> u8
@@ -50,7 +50,7 @@ pub extern "C" fn capcheck_judge_line(alloc: Global, judge: &mut Handle, line: &
     ensures unchanged { 2 < result → known_in (held_in judge.new) ≡ known_in (held_in judge.old) }
     ensures still_holds { 2 < result → (bytes : List ℕ) → Holds (held_in judge.old) bytes → Holds (held_in judge.new) bytes }
 
-    // Memory is wanted only where this very line, which no check refuses, names a granule for the first time.
+    // Memory is wanted only if this very line, which no check refuses, names a granule for the first time.
     ensures no_memory { result ≡ 3 → (bytes : List ℕ) → Holds (held_in judge.old) bytes → MayLackMemory (bytes ++ line.now) [] }
     ensures no_judge { (result ≡ 4) ↔ (held_in judge.old ≡ None) }
     ensures no_line { (result ≡ 5) ↔ ((held_in judge.old ≢ None) × IsNoLine line.now) }
@@ -92,7 +92,7 @@ pub extern "C" fn capcheck_judge_lines(
 }
 
 /// How the lines so far stand: the state is 0 while none of them is faulty, and else 2 with the `no` that stays
-/// whatever lines follow. It is 4 where the handle holds no judge.
+/// whatever lines follow. It is 4 if the handle holds no judge.
 #[unsafe(no_mangle)]
 pub extern "C" fn capcheck_judge_answer(alloc: Global, judge: &mut Handle) -> Answer
     ensures answer { (bytes : List ℕ) → Holds (held_in judge.old) bytes → AnswersSoFar bytes result }
@@ -113,7 +113,7 @@ pub extern "C" fn capcheck_judge_answer(alloc: Global, judge: &mut Handle) -> An
     }
 }
 
-/// The verdict on the lines so far as a whole log: the state is 1 for a `yes` and 2 for a `no`, and 4 where the handle
+/// The verdict on the lines so far as a whole log: the state is 1 for a `yes` and 2 for a `no`, and 4 if the handle
 /// holds no judge. Further lines may be handed over after it.
 #[unsafe(no_mangle)]
 pub extern "C" fn capcheck_judge_end(alloc: Global, judge: &mut Handle) -> Answer

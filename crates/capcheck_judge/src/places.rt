@@ -22,7 +22,7 @@ const REGISTER: u8 = 1;
 const GRANULE: u8 = 2;
 
 /// What a register holds after the lines so far, or before the faulty line: 0 to 31, of which 0 is c0. There is
-/// none above 31, and none where the handle holds no judge.
+/// none above 31, and none if the handle holds no judge.
 #[unsafe(no_mangle)]
 pub extern "C" fn capcheck_judge_register(
     alloc: Global,
@@ -50,7 +50,7 @@ pub extern "C" fn capcheck_judge_register(
 }
 
 /// What the sixteen bytes of memory in which an address lies hold after the lines so far, or before the
-/// faulty line. There is none where the handle holds no judge.
+/// faulty line. There is none if the handle holds no judge.
 #[unsafe(no_mangle)]
 pub extern "C" fn capcheck_judge_granule(
     alloc: Global,
@@ -145,8 +145,8 @@ fn passed(place: Option<Place>) -> PassedPlace
     }
 }
 
-/// What the rules give for the faulty step, where its line records another result. There is none after any other
-/// fault, where no line is faulty so far, and where the handle holds no judge.
+/// What the rules give for the faulty step, if its line records another result. There is none after any other
+/// fault, if no line is faulty so far, and if the handle holds no judge.
 #[unsafe(no_mangle)]
 pub extern "C" fn capcheck_judge_expected(alloc: Global, judge: &mut Handle) -> PassedExpected
     ensures expected { (bytes : List ℕ) → Holds (held_in judge.old) bytes → AnswersExpected bytes result }

@@ -12,9 +12,9 @@ use cap_report::{push_ending, push_refused};
 use std::alloc::Global;
 use tagmem::{PageStore, TaggedStore};
 
-/// Writes what `capdiag why` prints of the lines so far, where one of them is faulty: the line of the `no`, and the
-/// report of the first fault. It answers how many bytes the text has: none where no line is faulty, or where the
-/// handle holds no judge, and never more than 3,136. The text stands at the front of its room where it fits. Where it
+/// Writes what `capdiag why` prints of the lines so far, if one of them is faulty: the line of the `no`, and the
+/// report of the first fault. It answers how many bytes the text has: none if no line is faulty, or if the
+/// handle holds no judge, and never more than 3,136. The text stands at the front of its room if it fits. If it
 /// doesn't, the room holds anything, and the answer says what is needed.
 #[unsafe(no_mangle)]
 pub extern "C" fn capcheck_judge_report(alloc: Global, judge: &mut Handle, text: &mut [u8]) -> u64
@@ -34,8 +34,8 @@ pub extern "C" fn capcheck_judge_report(alloc: Global, judge: &mut Handle, text:
 }
 
 /// Writes what `capdiag why` prints of the lines so far as a whole log: the line of the verdict, and after a `no` the
-/// diagnosis of the faulty line. It answers how many bytes the text has, never more than 3,136, and none where the
-/// handle holds no judge. The text stands at the front of its room where it fits. Where it doesn't, the room holds
+/// diagnosis of the faulty line. It answers how many bytes the text has, never more than 3,136, and none if the
+/// handle holds no judge. The text stands at the front of its room if it fits. If it doesn't, the room holds
 /// anything. Further lines may be handed over after it.
 #[unsafe(no_mangle)]
 pub extern "C" fn capcheck_judge_end_report(

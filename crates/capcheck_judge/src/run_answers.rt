@@ -52,7 +52,7 @@ pub struct PassedObject {
     pub held: u64,
     /// The number of the line that handed it out.
     pub line: u64,
-    /// 1 if it is live, 2 if it was freed and a place still holds it, and 0 where there is none.
+    /// 1 if it is live, 2 if it was freed and a place still holds it, and 0 if there is none.
     pub state: u8,
 }
 

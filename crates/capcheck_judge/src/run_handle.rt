@@ -29,7 +29,7 @@ impl Model for RunHandle {
 }
 
 impl RunHandle {
-    /// Takes the judge out, where there is one, and leaves none.
+    /// Takes the judge out, if there is one, and leaves none.
     pub(crate) fn take(&mut self, alloc: Global) -> Option<Box<RunJudge<PageStore>>>
         ensures taken { MatchOption result (self.old.judge ≡ None) (λ judge. self.old.judge ≡ Some judge.value) }
         ensures left { self.new.judge ≡ None }
@@ -40,7 +40,7 @@ impl RunHandle {
         }
     }
 
-    /// Puts a judge in where there is none.
+    /// Puts a judge in if there is none.
     pub(crate) fn put(&mut self, judge: Box<RunJudge<PageStore>>)
         requires empty { self.old.judge ≡ None }
         ensures { self.new.judge ≡ Some judge.value }
@@ -71,7 +71,7 @@ impl RunHandle {
         }
     }
 
-    // The judge of a handle, where there is one.
+    // The judge of a handle, if there is one.
     fn into_held(self) -> Option<KeptBox<RunJudge<PageStore>, Global>>
         ensures { MatchOption result (self.judge ≡ None) (λ judge. self.judge ≡ Some judge.value) }
     {

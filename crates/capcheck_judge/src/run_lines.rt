@@ -32,7 +32,7 @@ pub extern "C" fn capcheck_run_judge_bytes(
     }
 }
 
-/// Opens a judge of run logs that has taken no line. What the handle held is closed. 0, or 3 where memory for the judge
+/// Opens a judge of run logs that has taken no line. What the handle held is closed. 0, or 3 if memory for the judge
 /// was refused; then the handle holds none.
 #[unsafe(no_mangle)]
 pub extern "C" fn capcheck_run_judge_open(
@@ -100,7 +100,7 @@ pub extern "C" fn capcheck_run_judge_lines(
 }
 
 /// How the lines so far stand: the state is 0 while none of them is faulty, and else 2 with the `no` that stays
-/// whatever lines follow. It is 4 where the handle holds no judge.
+/// whatever lines follow. It is 4 if the handle holds no judge.
 #[unsafe(no_mangle)]
 pub extern "C" fn capcheck_run_judge_answer(alloc: Global, judge: &mut RunHandle) -> RunAnswer
     ensures answer { (asks : AsksIn) (bytes : List ℕ) → HoldsRun (run_held_in judge.old) asks bytes → AnswersRunSoFar asks bytes result }
@@ -120,7 +120,7 @@ pub extern "C" fn capcheck_run_judge_answer(alloc: Global, judge: &mut RunHandle
     }
 }
 
-/// The verdict on the lines so far as a whole run log: the state is 1 for a `yes` and 2 for a `no`, and 4 where the handle
+/// The verdict on the lines so far as a whole run log: the state is 1 for a `yes` and 2 for a `no`, and 4 if the handle
 /// holds no judge. Further lines may be handed over after it.
 #[unsafe(no_mangle)]
 pub extern "C" fn capcheck_run_judge_end(alloc: Global, judge: &mut RunHandle) -> RunAnswer

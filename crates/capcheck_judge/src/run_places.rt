@@ -20,7 +20,7 @@ use cap_run_report::holder;
 use std::alloc::Global;
 
 /// What a place holds after the lines so far, or before the faulty line: a register, 1 to 31, a special register, 0 to 31,
-/// or the granule that an address lies in. There is none where the numbers name no place, and where the handle holds no
+/// or the granule that an address lies in. There is none if the numbers name no place, and if the handle holds no
 /// judge.
 #[unsafe(no_mangle)]
 pub extern "C" fn capcheck_run_judge_held(
@@ -50,8 +50,8 @@ pub extern "C" fn capcheck_run_judge_held(
     }
 }
 
-/// The number of the object that owns a place after the lines so far, or before the faulty line; 0 where no object owns it,
-/// where the numbers name no place, and where the handle holds no judge. The place is named as in
+/// The number of the object that owns a place after the lines so far, or before the faulty line; 0 if no object owns it,
+/// if the numbers name no place, and if the handle holds no judge. The place is named as in
 /// [`capcheck_run_judge_held`].
 #[unsafe(no_mangle)]
 pub extern "C" fn capcheck_run_judge_owner(
@@ -80,8 +80,8 @@ pub extern "C" fn capcheck_run_judge_owner(
 }
 
 /// The object with a number after the lines so far, or before the faulty line: its extent, how many places it owns, the
-/// line that handed it out, and whether it is live. There is none where no object with this number was handed out, where it
-/// was freed and no place holds it, and where the handle holds no judge.
+/// line that handed it out, and whether it is live. There is none if no object with this number was handed out, if it
+/// was freed and no place holds it, and if the handle holds no judge.
 #[unsafe(no_mangle)]
 pub extern "C" fn capcheck_run_judge_object(
     alloc: Global,
@@ -105,8 +105,8 @@ pub extern "C" fn capcheck_run_judge_object(
 }
 
 /// The first place that the object with a number owns after the lines so far, or before the faulty line: c1 to c31, scr0 to
-/// scr31, and the granules, of which the one of the least address; no place where it owns none, where no object with this
-/// number was handed out, and where the handle holds no judge.
+/// scr31, and the granules, of which the one of the least address; no place if it owns none, if no object with this
+/// number was handed out, and if the handle holds no judge.
 #[unsafe(no_mangle)]
 pub extern "C" fn capcheck_run_judge_holder(
     alloc: Global,
@@ -129,7 +129,7 @@ pub extern "C" fn capcheck_run_judge_holder(
 }
 
 /// The least number, from a number on, of an object that is live or that a place holds, after the lines so far, or before the
-/// faulty line; 0 where there is none, and where the handle holds no judge.
+/// faulty line; 0 if there is none, and if the handle holds no judge.
 #[unsafe(no_mangle)]
 pub extern "C" fn capcheck_run_judge_next_object(
     alloc: Global,

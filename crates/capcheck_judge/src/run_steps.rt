@@ -1,6 +1,6 @@
 //! Steps handed over to a judge of run logs that C holds, without their lines.
 //!
-//! Each call answers as `capcheck_run_judge_line` does on the line that spells the step. Where a number is out of its
+//! Each call answers as `capcheck_run_judge_line` does on the line that spells the step. If a number is out of its
 //! range no line spells it: it answers 5, and nothing has changed.
 
 ghost use Rattle.std.specs.Prelude.{◌≡◌, ◌⊎◌, [], ◌∷◌, ◌++◌, IfSome, Option, Some};
@@ -289,7 +289,7 @@ pub extern "C" fn capcheck_run_step_fill(
     hand_over_run(alloc, judge, fill_from(address, word))
 }
 
-/// Hands over a step `object`: a register 1 to 31, and the number of an object, below 2^32; or 0, where what the register
+/// Hands over a step `object`: a register 1 to 31, and the number of an object, below 2^32; or 0, if what the register
 /// holds is a new object's.
 #[unsafe(no_mangle)]
 pub extern "C" fn capcheck_run_step_object(
@@ -355,7 +355,7 @@ fn hand_over_run(alloc: Global, judge: &mut RunHandle, step: Option<RunStep>) ->
     }
 }
 
-// Whether a handle holds a judge, where no step is handed over: 5, or 4 where it holds none.
+// Whether a handle holds a judge, if no step is handed over: 5, or 4 if it holds none.
 fn hand_over_none(alloc: Global, judge: &mut RunHandle) -> u8
     ensures state { IsNoStep (run_held_in judge.old) result }
     ensures kept { run_held_in judge.new ≡ run_held_in judge.old }

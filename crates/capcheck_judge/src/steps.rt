@@ -1,6 +1,6 @@
 //! Steps handed over to a judge that C holds, without their lines.
 //!
-//! Each call answers as `capcheck_judge_line` does on the line that spells the step. Where a number is out of its
+//! Each call answers as `capcheck_judge_line` does on the line that spells the step. If a number is out of its
 //! range no line spells it: it answers 5, and nothing has changed.
 
 ghost use Rattle.std.specs.Prelude.{◌≡◌, ◌⊎◌, [], ◌∷◌, ◌++◌, IfSome};

@@ -19,7 +19,7 @@ pub struct BoundsRequest {
 }
 
 /// Reads a request for bounds from its two words, each of sixteen lower-case hexadecimal digits. It is
-/// refused as a bad word where one of them is not of this form, and as a bad request where the request
+/// refused as a bad word if one of them is not of this form, and as a bad request if the request
 /// ends above 2^64.
 pub fn read_request(base: &str, length: &str) -> Result<BoundsRequest, Fault>
     ensures ok { IfOk result (λ request. SpellsRequest base.now length.now request.base request.length

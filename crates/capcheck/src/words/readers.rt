@@ -6,7 +6,7 @@ ghost use Rattle.capcheck.specs.{declared.words.Order.Order, Orders.Asks};
 use crate::words::Order;
 use cap_program::{is_operand, take_option};
 
-/// Reads the words after the program's name: the order that they spell, and `None` where they have
+/// Reads the words after the program's name: the order that they spell, and `None` if they have
 /// none of the program's forms.
 pub fn read_words<'a>(words: &[&'a str]) -> Option<Order<'a>>
     ensures some { IfSome result (λ order. Asks (map (λ word. word.now) words.now) order) }
