@@ -7,10 +7,7 @@ use Rattle.cap_run_log.proofs.Rows.{Value, is_made, run_text}
 
 -- what an exchange line says, as the operands of its head
 abbrev operands : ExchangeLine → Value RunHead.Exchange
-operands x = (
-  x.target,
-  (x.source, (record { 0 = x.special }, (record {}, (record { 0 = x.result.tag }, (x.result.word, (record { 0 = x.special_result.tag }, x.special_result.word)))))),
-)
+operands x = (x.target, (x.source, (record { 0 = x.special }, record { general = x.result; special = x.special_result })))
 
 pub none_after_exchange : {A : Type 0} (found : Option A) (bytes operands : List ℕ) → bytes ≡ run_head_spelling RunHead.Exchange ++ 32 ∷ operands
     → IfNone found (BeginsWithNone IsRunLineInRange run_spelling 10 (run_head_spelling RunHead.Exchange ++ 32 ∷ operands))

@@ -1,7 +1,8 @@
 -- Lines that only run logs have, by their heads: what stands behind each head, and the line that head and operands make.
-use Rattle.std.proofs.Common.{append_assoc, ◌≡◌, ℕ, ◌+◌, ◌≤◌, List, ◌∷◌, ◌++◌, sym, ap, subst, ◌∙◌, refl, Bool, false}
+use Rattle.std.proofs.Common.{append_assoc, ◌≡◌, ℕ, ◌+◌, ◌≤◌, List, ◌∷◌, ◌++◌, sym, ap, subst, ◌∙◌, refl, arith, length, length-append, Bool, true, false}
 use Rattle.std.proofs.{Common.{codes, if◌then◌else◌, bytes_eq, lit≤}, lemmas.Bool.false≢true}
 use Rattle.cap_word.specs.{declared.word.{Cap.Cap, Word.Word}, Digits.hex_digits}
+use Rattle.cap_word.proofs.DigitLemmas.{length-hex_digits}
 use Rattle.cap_log.specs.declared.{kinds.{Head.Head, Step.Step}, lines.Line.Line}
 use Rattle.cap_log.specs.{Heads.head_spelling, Lines.{IsInRange, IsRegister, IsTarget, IsWord, register_spelling, spelling, tag_spelling}}
 use Rattle.cap_log.specs.Parts.{Begins, BeginsWithNone, FitBoth, result_spelling, spaced}
@@ -16,7 +17,7 @@ use Rattle.cap_run_log.proofs.Operands.{special-operand, tag-operand}
 use Rattle.cap_log.proofs.{Cuts.same_cut, Shapes.{head_of, operands_of, spelling-of, text}}
 use Rattle.cap_run_log.specs.declared.{heads.RunHead.RunHead, lines.{RunLine.RunLine, RunStep.RunStep}}
 use Rattle.cap_run_log.specs.declared.parts.{Equals.Equals, Freed.Freed, Granule.Granule, Handed.Handed, Source.Source}
-use Rattle.cap_run_log.specs.declared.parts.{One.One, Special.Special, Tag.Tag, Written.Written}
+use Rattle.cap_run_log.specs.declared.{parts.{One.One, Special.Special, Tag.Tag, Written.Written}, results.Results.Results}
 use Rattle.cap_run_log.specs.RunHeads.{IsRunHead, run_head_spelling}
 use Rattle.cap_run_log.specs.RunLines.{IsGranule, IsRunLineInRange, IsRunPlace, IsRunRegister, granule_spelling}
 use Rattle.cap_run_log.specs.RunLines.{run_place_spelling, run_register_spelling, run_spelling, special_spelling}
@@ -87,12 +88,66 @@ a_place = one IsRunPlace run_place_spelling 17 run_place-operand
 pub one-operand : IsOperand (λ (version : One). Unit {0}) (λ version. codes "1") 1
 one-operand = record { one = λ a b fits fits' e. refl; plain = λ a fits. Lacks-by_test 10 (codes "1") refl; short = λ a fits. lit≤ tt }
 
+-- what an exchange records, as its words
+abbrev pub recorded_words : Row
+recorded_words = equals (tag (word (tag a_word)))
+
+abbrev pub words_of : Results → recorded_words.Value_is
+words_of x = (record {}, (record { 0 = x.general.tag }, (x.general.word, (record { 0 = x.special.tag }, x.special.word))))
+
+abbrev recorded_by : recorded_words.Value_is → Results
+recorded_by x = record { general = record { tag = (x.1.0).0; word = x.1.1.0 }; special = record { tag = (x.1.1.1.0).0; word = x.1.1.1.1 } }
+
+abbrev pub FitsResults : Results → Type 0
+FitsResults x = IsWord x.general.word.0 × IsWord x.special.word.0
+
+pub words_fit : (x : Results) → FitsResults x → recorded_words.Fits_is (words_of x)
+words_fit x fits = (tt, (tt, (fits.0, (tt, fits.1))))
+
+abbrev pub results_text : Results → List ℕ
+results_text x = recorded_words.text_is (words_of x)
+
+pub results-operand : IsOperand FitsResults results_text 71
+results-operand =
+    let words = mapped recorded_words.Fits_is recorded_words.text_is 71 recorded_words.operand words_of recorded_by (λ x. refl) in
+    record {
+      one = λ a b fits fits' e. words.one a b (words_fit a fits) (words_fit b fits') e;
+      plain = λ a fits. words.plain a (words_fit a fits);
+      short = λ a fits. words.short a (words_fit a fits);
+    }
+
+length-tag : (tag_is : Bool) → length (tag_spelling tag_is) ≡ 1
+length-tag true = refl
+length-tag false = refl
+
+length-results : (x : Results) → length (results_text x) ≡ 71
+length-results x =
+    let general = tag_spelling x.general.tag in
+    let special = tag_spelling x.special.tag in
+    let last = 32 ∷ hex_digits 32 x.special.word.0 in
+    let word = hex_digits 32 x.general.word.0 in
+    omega (
+      arith,
+      length-tag x.general.tag,
+      length-tag x.special.tag,
+      length-hex_digits 32 x.general.word.0,
+      length-hex_digits 32 x.special.word.0,
+      length-append special last,
+      length-append word (32 ∷ (special ++ last)),
+      length-append general (32 ∷ (word ++ 32 ∷ (special ++ last))),
+    )
+
+-- fewer bytes are none
+pub no_results : (end : ℕ) (bytes : List ℕ) → length bytes ≤ 71 → BeginsWithNone FitsResults results_text end bytes
+no_results end bytes few x rest begins =
+    omega (arith, few, length-results x, ap length begins.1, length-append (results_text x) (end ∷ rest))
+
 -- what stands behind a head
 abbrev pub row : RunHead → Row
 row RunHead.Version = one (λ (version : One). Unit {0}) (λ version. codes "1") 1 one-operand
 row RunHead.Root = then_ a_place place-spaceless a_word
 row RunHead.Derive = written (source (one (λ (cap : Cap). IsWord cap.word.0) result_spelling 36 result-operand))
-row RunHead.Exchange = target (register (special (equals (tag (word (tag a_word))))))
+row RunHead.Exchange = target (register (special (one FitsResults results_text 71 results-operand)))
 row RunHead.Invoke = register (register (equals (word a_word)))
 row RunHead.Drop = a_place
 row RunHead.Fill = then_ (one (λ (g : Granule). IsGranule g.0) (λ g. granule_spelling g.0) 17
@@ -126,8 +181,7 @@ abbrev pub made : (h : RunHead) → Value h → RunLine
 made RunHead.Version x = RunLine.Version
 made RunHead.Root x = RunLine.Root x.0 x.1
 made RunHead.Derive x = RunLine.Run (RunStep.Derive (x.0).0 (x.1.0).0 x.1.1)
-made RunHead.Exchange x = RunLine.Run (RunStep.Exchange x.0 x.1.0 (x.1.1.0).0
-    (record { tag = (x.1.1.1.1.0).0; word = x.1.1.1.1.1.0 }) (record { tag = (x.1.1.1.1.1.1.0).0; word = x.1.1.1.1.1.1.1 }))
+made RunHead.Exchange x = RunLine.Run (RunStep.Exchange x.0 x.1.0 (x.1.1.0).0 (x.1.1.1).general (x.1.1.1).special)
 made RunHead.Invoke x = RunLine.Run (RunStep.Invoke x.0 x.1.0 x.1.1.1.0 x.1.1.1.1)
 made RunHead.Drop x = RunLine.Run (RunStep.Drop x)
 made RunHead.Fill x = RunLine.Run (RunStep.Fill (x.0).0 x.1)
@@ -156,8 +210,8 @@ is_made RunHead.Version x = record { in_range = λ f. f; fits = λ f. f; spellin
 is_made RunHead.Root x = record { in_range = λ f. f; fits = λ f. f; spelling_is = refl }
 is_made RunHead.Derive x = record { in_range = λ f. (f.0, f.1.0, f.1.1); fits = λ f. (f.0, (f.1, f.2)); spelling_is = refl }
 is_made RunHead.Exchange x = record {
-  in_range = λ f. (f.0, f.1.0, f.1.1.0, f.1.1.1.1.1.0, f.1.1.1.1.1.1.1);
-  fits = λ f. (f.0, (f.1, (f.2, (tt, (tt, (f.3, (tt, f.4)))))));
+  in_range = λ f. (f.0, f.1.0, f.1.1.0, f.1.1.1.0, f.1.1.1.1);
+  fits = λ f. (f.0, (f.1, (f.2, (f.3, f.4))));
   spelling_is = refl;
 }
 is_made RunHead.Invoke x = record {
@@ -198,25 +252,7 @@ kind_of (RunLine.Step step) = Usual (Line.Step step) (λ f. f) refl (step_not_ro
 kind_of (RunLine.Run (RunStep.Derive target source result)) =
     Own RunHead.Derive (record { 0 = target }, (record { 0 = source }, result)) refl
 kind_of (RunLine.Run (RunStep.Exchange target source special result special_result)) =
-    Own RunHead.Exchange (
-      target,
-      (
-        source,
-        (
-          record { 0 = special },
-          (
-            record {},
-            (
-              record { 0 = result.tag },
-              (
-                result.word,
-                (record { 0 = special_result.tag }, special_result.word),
-              ),
-            ),
-          ),
-        ),
-      ),
-    ) refl
+    Own RunHead.Exchange (target, (source, (record { 0 = special }, record { general = result; special = special_result }))) refl
 kind_of (RunLine.Run (RunStep.Invoke code datum code_word datum_word)) =
     Own RunHead.Invoke (code, (datum, (record {}, (code_word, datum_word)))) refl
 kind_of (RunLine.Run (RunStep.Drop place)) = Own RunHead.Drop place refl

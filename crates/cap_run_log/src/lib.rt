@@ -9,6 +9,7 @@ mod laws;
 mod lines;
 mod parts;
 mod readers;
+mod results;
 mod writers;
 
 pub use crate::heads::RunHead;

@@ -24,6 +24,13 @@ impl Part for Special {
 
     #[inline(always)]
     fn take(bytes: &[u8], end: u8) -> Option<(Special, &[u8])> {
+        // One digit is the most usual: it and the letters before it are compared as one number.
+        if let Some((front, others)) = bytes.split_first_chunk::<4>() {
+            let digit = digit_of(front);
+            if digit < 10 && !others.is_empty() && others[0] == end {
+                return Some((Special(digit as u8), &others[1..]));
+            }
+        }
         let digits = bytes.strip_prefix(b"scr")?;
         let (number, rest) = take_decimal::<2, 0, 32>(digits, end)?;
         Some((Special(number as u8), rest))
@@ -323,6 +330,16 @@ impl Part for Freed {
             Freed::Number(number) => put_decimal(buffer, at, u64::from(number)),
         }
     }
+}
+
+// The special register whose name of one digit these bytes are, or a number above 9 if they are none.
+#[inline(always)]
+fn digit_of(name: &[u8; 4]) -> u32
+    ensures { result < 10 → name.now ≡ special_spelling result }
+{
+    let word = u32::from_le_bytes(*name);
+    let apart = word.wrapping_sub(u32::from_le_bytes(*b"scr0"));
+    (apart >> 24) + (apart << 8)
 }
 
 // Writes the name of a register.

@@ -14,7 +14,8 @@ ghost use Rattle.cap_run_log.specs.declared.heads.RunHead.TheVariants as heads;
 
 use crate::heads::RunHead;
 use crate::lines::{DeriveLine, ExchangeLine, RunLine, RunPlace, RunStep};
-use crate::parts::{Equals, Freed, Granule, Handed, One, Source, Special, Tag, Written};
+use crate::parts::{Equals, Freed, Granule, Handed, One, Source, Special, Written};
+use crate::results::Results;
 use cap_log::buffers::put;
 use cap_log::{Line, Part, Register, Target, strip_word, take_line};
 use cap_streams::LINE_LIMIT;
@@ -24,10 +25,7 @@ use cap_word::{Cap, Word};
 type DeriveParts = (Written, (Source, Cap));
 
 // What follows `exchange`.
-type ExchangeParts = (
-    Target,
-    (Register, (Special, (Equals, (Tag, (Word, (Tag, Word)))))),
-);
+type ExchangeParts = (Target, (Register, (Special, Results)));
 
 // What follows `invoke`.
 type InvokeParts = (Register, (Register, (Equals, (Word, Word))));
@@ -207,19 +205,13 @@ fn take_exchanged(bytes: &[u8]) -> Option<(ExchangeLine, &[u8])>
     let Some((parts, rest)) = take_run_parts(RunHead::Exchange, bytes) else {
         return None;
     };
-    let (
-        target,
-        (source, (special, (_equals, (tag, (word, (special_tag, special_word)))))),
-    ): ExchangeParts = parts;
+    let (target, (source, (special, results))): ExchangeParts = parts;
     let exchange = ExchangeLine {
         target: target.number(),
         source: source.number(),
         special: special.0,
-        result: Cap { tag: tag.0, word },
-        special_result: Cap {
-            tag: special_tag.0,
-            word: special_word,
-        },
+        result: results.general,
+        special_result: results.special,
     };
     Some((exchange, rest))
 }
