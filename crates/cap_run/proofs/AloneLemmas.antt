@@ -1,13 +1,15 @@
 -- Steps of version 2 where no object was handed out.
 use Rattle.std.specs.Prelude.{Result, Ok, Err, MatchResult}
-use Rattle.std.proofs.Common.{◌≡◌, ◌≤◌, ◌+◌, ℕ, Some, None, Option, inl, inr, length, option_and_then, refl, sym, ap, subst, ◌∙◌, arith}
+use Rattle.std.proofs.Common.{◌≡◌, ◌≤◌, ◌+◌, ◌==◌, ◌&&◌, not, if◌then◌else◌, Bool, true, false, ℕ, Some, None, Option, inl, inr, length, option_and_then}
+use Rattle.std.proofs.Common.{refl, sym, ap, subst, ◌∙◌, arith}
+use Rattle.cap_word.specs.declared.word.Cap.{Cap}
 use Rattle.std.proofs.Math.Path.{fun_ext}
 use Rattle.std.proofs.lemmas.{Bool.cases_lt, Option.{none-some}}
 use Rattle.cap_log.specs.declared.{kinds.Step.Step}
 use Rattle.tagmem.specs.Granules.{AreStored}
 use Rattle.cap_machine.specs.{Accounts.{Account, with_step}, declared.ends.StepEnd.StepEnd, Helds.{EndsStep, Held, Makes, account_of, state_of}, Runs.parent_of, Steps.written_by}
-use Rattle.cap_objects.specs.{Counts.{CountsAre, Owners}, declared.{handouts.Handouts.Handouts}, Handed.held_of, HandoutsIn.objects_of}
-use Rattle.cap_run.specs.{declared.specials.Specials.Specials, Owned.{AreWithin, object_by}, Run.first_special, RunOf.{run_owners, run_state}, UsualSteps.{MakesUsual, disowned, main_owners}}
+use Rattle.cap_objects.specs.{Counts.{CountsAre, Owners, at_key}, declared.{handouts.Handouts.Handouts}, Handed.held_of, HandoutsIn.objects_of}
+use Rattle.cap_run.specs.{declared.specials.Specials.Specials, Owned.{AreWithin, is_empty, object_by, owner_for}, Run.first_special, RunOf.{run_owners, run_state}, UsualSteps.{MakesUsual, disowned, main_owners}}
 use Rattle.cap_run.proofs.{GranuleLemmas.recounted-same, ObjectLemmas.owner-there}
 use Rattle.cap_run.proofs.UsualLemmas.{disowned-some, main-far, owners-main, owners-special, under_then, usual-ended}
 
@@ -98,3 +100,27 @@ module _ (held new : Held) (specials : Specials) (h : Handouts) (step : Step) (s
       → MatchResult result (λ _. MakesUsual held (objects_of h) step new (objects_of h)) (λ end. EndsStep held step end new)
   answers-alone (Ok done) makes = makes-alone makes
   answers-alone (Err end) is = is
+
+-- what is written has no owner either
+pub at_none : (owners : Owners) (key : ℕ) (owner : Option ℕ) → ((k : ℕ) → owners k ≡ None) → owner ≡ None
+    → (other : ℕ) → at_key owners key owner other ≡ None
+at_none owners key owner none is other = choice (key == other) where
+  choice : (same : Bool) → (if same then owner else owners other) ≡ None
+  choice true = is
+  choice false = none other
+
+pub none-for : (cap : Cap) (owner : Option ℕ) → owner ≡ None → owner_for cap owner ≡ None
+none-for cap owner is = choice (cap.tag && not (is_empty cap.word.0)) where
+  choice : (same : Bool) → (if same then owner else None) ≡ None
+  choice true = is
+  choice false = refl
+
+module _ (held new : Held) (specials sp : Specials) (h : Handouts) (sized : length specials.labels ≡ 32)
+    (counts : CountsAre (run_owners held specials) (λ n. held_of (objects_of h n))) (alone : h.count ≡ 0)
+    (none : (key : ℕ) → run_owners new sp key ≡ None) where
+  pub counted-alone : CountsAre (run_owners new sp) (λ n. held_of (objects_of h n))
+  counted-alone = subst (λ (o : Owners). CountsAre o (λ n. held_of (objects_of h n)))
+      (sym (fun_ext (λ key. none key ∙ sym (unowned held specials h sized counts alone key)))) counts
+
+  pub within-alone : AreWithin (run_state new sp) (run_owners new sp) (objects_of h)
+  within-alone key slot o owned there = absurd (none-some slot (sym (none key) ∙ owned))

@@ -1,13 +1,13 @@
 -- Words with the bounds and the permissions of a source that is sound: no check of a derivation refuses them.
-use Rattle.std.proofs.Common.{◌≡◌, ◌⊎◌, inl, inr, ℕ, ◌+◌, ◌*◌, ◌/◌, ◌%◌, ◌^◌, ◌<◌, ◌==◌, ◌||◌, Bool, true, false, None}
-use Rattle.std.proofs.Common.{refl, sym, ap, ◌∙◌, arith, bit_and, eq-eqb}
-use Rattle.std.proofs.lemmas.Bool.{and_from}
+use Rattle.std.proofs.Common.{◌≡◌, ◌⊎◌, inl, inr, ℕ, ◌+◌, ◌-◌, ◌*◌, ◌/◌, ◌%◌, ◌^◌, ◌<◌, ◌==◌, ◌||◌, ◌&&◌, not, Bool, true, false, None}
+use Rattle.std.proofs.Common.{refl, sym, ap, ◌∙◌, arith, bit_and, eq-eqb, pow-add}
+use Rattle.std.proofs.{Math.Nat.div-div-eq-div-mul, lemmas.Bool.{and_from, false≢true}}
 use Rattle.std.specs.Int.Bits.{and_self}
-use Rattle.cap_word.specs.{declared.word.{Cap.Cap, Word.Word}, Fields.{address_of, otype_of, perms_of}}
-use Rattle.cap_bounds.specs.Bounds.{IsSound, base_of, length_of, top_of}
+use Rattle.cap_word.specs.{declared.word.{Cap.Cap, Word.Word}, Fields.{address_of, b_of, otype_of, perms_of}}
+use Rattle.cap_bounds.specs.{Bounds.{IsSound, base_of, cut_exponent_of, length_of, raw_base_at, top_at, top_of}, Range.KeepsBounds}
 use Rattle.cap_bounds.proofs.SameFields.{base_of-low, base_of-same, base_of-with_address, length_of-low, length_of-same, top_of-low, top_of-same, top_of-with_address}
 use Rattle.cap_bounds.proofs.SoundTests.{is_sound-from}
-use Rattle.cap_ops.specs.{Authority.StaysWithin, Checks.first_of, DerivedWords.{derive_checks, keeps_seal, reaches_no_more, sentry_type}}
+use Rattle.cap_ops.specs.{Authority.StaysWithin, Checks.first_of, DerivedWords.{derive_checks, is_opened, keeps_seal, reaches_no_more, sentry_type}}
 use Rattle.cap_ops.specs.{Operations.covers, Permissions.{is_sealed, perm_view_of, unsealed_type, with_type}}
 use Rattle.cap_ops.proofs.{DerivedLemmas.derived_within, TestLemmas.covers-inside}
 use Rattle.cap_run.specs.Moved.{IsMoved, IsOpenSentry}
@@ -75,6 +75,41 @@ module _ (s w : ℕ) (moved : IsMoved s w) where
   unfolding is_sealed
   moved_keeps opens = rw (moved.unsealed, type_kept) refl
 
+-- an address of the same 2048 aligned bytes: it lies in the same window, whatever the unit is
+same_units : (e a b : ℕ) → a / 2 ^ 11 ≡ b / 2 ^ 11 → (a + 2 ^ 66) / 2 ^ (e + 11) ≡ (b + 2 ^ 66) / 2 ^ (e + 11)
+same_units e a b near =
+    let split : 2 ^ (e + 11) ≡ 2 ^ 11 * 2 ^ e = ap (λ (n : ℕ). 2 ^ n) (let same : e + 11 ≡ 11 + e = omega arith in same) ∙ pow-add 2 11 e in
+    let raised : (a + 2 ^ 66) / 2 ^ 11 ≡ (b + 2 ^ 66) / 2 ^ 11 = omega (arith, near) in
+    ap (λ (d : ℕ). (a + 2 ^ 66) / d) split ∙ sym (div-div-eq-div-mul (a + 2 ^ 66) (2 ^ 11) (2 ^ e))
+    ∙ ap (λ (n : ℕ). n / 2 ^ e) raised
+    ∙ div-div-eq-div-mul (b + 2 ^ 66) (2 ^ 11) (2 ^ e) ∙ ap (λ (d : ℕ). (b + 2 ^ 66) / d) (sym split)
+
+same_raw : (e b a s : ℕ) → a / 2 ^ 11 ≡ s / 2 ^ 11 → raw_base_at e b a ≡ raw_base_at e b s
+unfolding raw_base_at
+same_raw e b a s near = ap (λ (units : ℕ). (2 ^ 14 * ((units + 1 - b / 2 ^ 11) / 8) + b) * 2 ^ e) (same_units e a s near)
+
+pub near_keeps : (s a : ℕ) → a < 2 ^ 64 → a / 2 ^ 11 ≡ address_of s / 2 ^ 11 → KeepsBounds s a
+unfolding base_of top_of
+near_keeps s a fits near =
+    let same = same_raw (cut_exponent_of s) (b_of s) a (address_of s) near in (
+      base_of-with_address s a fits ∙ ap (λ (raw : ℕ). raw % 2 ^ 64) same,
+      top_of-with_address s a fits ∙ ap (λ (raw : ℕ). top_at (cut_exponent_of s) raw (length_of s)) same,
+    )
+
+-- the word itself
+same_alike : (s w : ℕ) → w ≡ s → IsAlike s w
+same_alike s w is = record { base = ap base_of is; top = ap top_of is; length = ap length_of is; perms = ap perms_of is }
+
+same_keeps : (s w : ℕ) (opens : Bool) → w ≡ s → keeps_seal s w opens ≡ true
+unfolding is_sealed
+same_keeps s w opens is = rw is (by_type (otype_of s == unsealed_type) (otype_of s == sentry_type) (s == s) (opens && is_opened s s) (eq-eqb s s refl))
+  where
+    by_type : (unsealed sentry same opened : Bool) → same ≡ true
+        → (((not (not unsealed) && (unsealed || sentry)) || (not unsealed && same)) || (sentry && opened)) ≡ true
+    by_type true sentry same opened is = refl
+    by_type false sentry true opened is = refl
+    by_type false sentry false opened is = absurd (false≢true is)
+
 or_true : (b : Bool) → (b || true) ≡ true
 or_true true = refl
 or_true false = refl
@@ -123,3 +158,10 @@ opened_passes source word tagged sound opened =
     let alike = opened_alike source.word.0 word.0 opened in
     let keeps = opened_keeps source.word.0 word.0 opened in
     (alike_passes source word true tagged sound alike keeps, alike_within source word true tagged sound alike keeps)
+
+pub same_passes : (source : Cap) (word : Word) (opens : Bool) → source.tag ≡ true → IsSound source.word.0 → word.0 ≡ source.word.0
+    → (first_of (derive_checks source word.0 opens) ≡ None) × StaysWithin (record { tag = true; word = word }) source
+same_passes source word opens tagged sound is =
+    let alike = same_alike source.word.0 word.0 is in
+    let keeps = same_keeps source.word.0 word.0 opens is in
+    (alike_passes source word opens tagged sound alike keeps, alike_within source word opens tagged sound alike keeps)

@@ -1,6 +1,8 @@
 //! Derivations that no check refuses, told without decoding bounds.
 
 ghost use Rattle.std.specs.Prelude.{◌≡◌, ◌/◌, ◌^◌, None, true};
+ghost use Rattle.cap_word.specs.Fields.{address_of};
+ghost use Rattle.cap_bounds.specs.Range.{KeepsBounds};
 ghost use Rattle.cap_machine.specs.Parents.{IsSoundCap};
 ghost use Rattle.cap_ops.specs.{Authority.StaysWithin, Checks.first_of, DerivedWords.derive_checks};
 ghost use Rattle.cap_run.specs.Moved.{IsMoved, IsOpenSentry};
@@ -20,16 +22,25 @@ fn high_half(word: Word) -> u64
     (word.0 >> 64) as u64
 }
 
-// Whether a word is an unsealed one at an address that keeps its bounds, unsealed too or as a sentry.
+// Whether two addresses lie in the same 2048 aligned bytes: there a word keeps its bounds, whatever they are.
 #[inline(always)]
-fn is_moved(source: Word, word: Word) -> bool
+fn is_near(source: Word, word: Word) -> bool
+    ensures { result ≡ true → KeepsBounds source.0 (address_of word.0) }
+{
+    word.address() >> 11 == source.address() >> 11
+}
+
+// Whether a word is an unsealed one at an address that keeps its bounds, unsealed too or as a sentry. Only if it may be `FAR`,
+// an address is looked for that isn't near.
+#[inline(always)]
+fn is_moved<const FAR: bool>(source: Word, word: Word) -> bool
     ensures { result ≡ true → IsMoved source.0 word.0 }
 {
     let high = high_half(word);
     let source_high = high_half(source);
     source.object_type() == UNSEALED_TYPE
         && (high == source_high || high == source_high.wrapping_sub(SENTRY_BELOW))
-        && keeps_bounds(source, word.address())
+        && (is_near(source, word) || (FAR && keeps_bounds(source, word.address())))
 }
 
 // Whether a word is a sentry without its seal.
@@ -43,12 +54,15 @@ fn is_open_sentry(source: Word, word: Word) -> bool
 }
 
 /// Whether a word is derived from a capability, where it has the same bounds and permissions: no check then refuses it.
-/// `false` says nothing.
+/// `false` says nothing. Unless an address may be `FAR`, it takes no call.
 #[inline(always)]
-pub(crate) fn is_plainly_derived(source: Cap, word: Word, opens: bool) -> bool
+pub(crate) fn is_plainly_derived<const FAR: bool>(source: Cap, word: Word, opens: bool) -> bool
     requires sound { IsSoundCap source }
     ensures checks { result ≡ true → first_of (derive_checks source word.0 opens) ≡ None }
     ensures within { result ≡ true → StaysWithin (record { tag = true; word = word }) source }
 {
-    source.tag && (is_moved(source.word, word) || (opens && is_open_sentry(source.word, word)))
+    source.tag
+        && (is_moved::<FAR>(source.word, word)
+            || (opens && is_open_sentry(source.word, word))
+            || word.0 == source.word.0)
 }

@@ -7,6 +7,7 @@
 //! ([`RunMachine::kept`]).
 #![tactic(auto)]
 
+mod alone_puts;
 mod asked_steps;
 mod asks;
 mod derivations;

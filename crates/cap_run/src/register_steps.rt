@@ -92,10 +92,26 @@ impl<M: TaggedStore> RunMachine<M> {
     {
         let cap = self.register(source);
         let is_pcc = matches!(target, RunRegister::Special(0));
-        if is_plainly_derived(cap, recorded.word, is_pcc) {
+        if is_plainly_derived::<true>(cap, recorded.word, is_pcc) {
             return None;
         }
         derived_refusal(target, cap, recorded)
+    }
+
+    // Whether a register can get what is derived from another one, as is told at once: it has no tag, or the same bounds and
+    // permissions. `false` says nothing.
+    #[inline(always)]
+    fn gets<const FAR: bool>(&self, target: RunRegister, source: RunRegister, recorded: Cap) -> bool
+        requires target { IsTargetOf target }
+        requires source { IsSource source }
+        ensures value { result ≡ true → derived_refusal target (run_state self.now.machine self.now.specials (register_key source)) recorded ≡ None }
+        ensures within { result ≡ true → IsTrue recorded.tag
+            → StaysWithin recorded (run_state self.now.machine self.now.specials (register_key source)) }
+        ensures sound { IsSoundCap (run_state self.now.machine self.now.specials (register_key source)) }
+    {
+        let cap = self.register(source);
+        let is_pcc = matches!(target, RunRegister::Special(0));
+        !recorded.tag || is_plainly_derived::<FAR>(cap, recorded.word, is_pcc)
     }
 
     /// A register gets what is derived from another one, with its owner, or without a tag from any. It is refused for the
@@ -104,6 +120,34 @@ impl<M: TaggedStore> RunMachine<M> {
     /// kept (`SealChanged`). And of any: there are 4,294,967,295 steps (`LimitPassed`). Then nothing has changed.
     #[inline(always)]
     pub(crate) fn derive(
+        &mut self,
+        target: RunRegister,
+        source: RunRegister,
+        recorded: Cap,
+    ) -> Result<(), RunEnd>
+        requires target { IsTargetOf target }
+        requires source { IsSource source }
+        ensures outcome { let old = run_of self.old.machine self.old.specials self.old.objects in MatchResult result
+            (λ _. (derive_end old target source recorded ≡ None) × Derived old target source recorded
+            (run_of self.new.machine self.new.specials self.new.objects))
+            (IsRefusedAs (derive_end old target source recorded)) }
+        ensures err { OnErr result (run_of self.new.machine self.new.specials self.new.objects
+            ≡ run_of self.old.machine self.old.specials self.old.objects) }
+        ensures asks { self.new.asks ≡ self.old.asks }
+    {
+        if self.objects.count() == 0
+            && self.step_limit().is_none()
+            && self.gets::<true>(target, source, recorded)
+        {
+            self.write_alone(target, source, recorded);
+            return Ok(());
+        }
+        self.derive_apart(target, source, recorded)
+    }
+
+    // The same of any derivation, in a function of its own.
+    #[inline(never)]
+    fn derive_apart(
         &mut self,
         target: RunRegister,
         source: RunRegister,
@@ -133,6 +177,48 @@ impl<M: TaggedStore> RunMachine<M> {
     /// before: a jump and link, or CSpecialRW. The checks of the first come first.
     #[inline(always)]
     pub(crate) fn exchange(
+        &mut self,
+        target: u8,
+        source: u8,
+        number: u8,
+        recorded: Cap,
+        special_recorded: Cap,
+    ) -> Result<(), RunEnd>
+        requires target { IsTarget target }
+        requires source { source ≤ 31 }
+        requires number { number ≤ 31 }
+        ensures outcome { let old = run_of self.old.machine self.old.specials self.old.objects in MatchResult result
+            (λ _. (exchange_end old target source number recorded special_recorded ≡ None)
+            × Exchanged old target source number recorded special_recorded (run_of self.new.machine self.new.specials self.new.objects))
+            (IsRefusedAs (exchange_end old target source number recorded special_recorded)) }
+        ensures err { OnErr result (run_of self.new.machine self.new.specials self.new.objects
+            ≡ run_of self.old.machine self.old.specials self.old.objects) }
+        ensures asks { self.new.asks ≡ self.old.asks }
+    {
+        let general = RunRegister::General(target);
+        let special = RunRegister::Special(number);
+        let general_source = RunRegister::General(source);
+        if self.objects.count() == 0
+            && self.step_limit().is_none()
+            && self.gets::<false>(general, special, recorded)
+            && self.gets::<false>(special, general_source, special_recorded)
+        {
+            self.write_both_alone(
+                general,
+                special,
+                recorded,
+                special,
+                general_source,
+                special_recorded,
+            );
+            return Ok(());
+        }
+        self.exchange_apart(target, source, number, recorded, special_recorded)
+    }
+
+    // The same of any exchange, in a function of its own.
+    #[inline(never)]
+    fn exchange_apart(
         &mut self,
         target: u8,
         source: u8,
