@@ -125,18 +125,34 @@ impl<M: TaggedStore> RunJudge<M> {
         }
     }
 
-    // Takes the lines of derivations and exchanges at the front of some bytes and the lines of steps of version 2 after them,
-    // where they may come next: what follows them.
+    // Takes the lines of derivations, exchanges and steps of version 2 at the front of some bytes, where they may come next: what
+    // follows them.
     #[inline(always)]
     fn take_front<'a>(&mut self, bytes: &'a [u8]) -> &'a [u8]
         ensures { (front : List ℕ) × (bytes.now ≡ front ++ result.now)
             × Goes (stage_of self.old) front (stage_of self.new) }
     {
         if let NextRunLine::Body = self.stage {
-            let behind = self.take_derivations(bytes);
-            return self.machine.take_steps(behind);
+            return self.take_often(bytes);
         }
         bytes
+    }
+
+    // Takes such lines, as long as a line of any length has room: what follows them.
+    #[inline(always)]
+    fn take_often<'a>(&mut self, bytes: &'a [u8]) -> &'a [u8]
+        requires { self.old.stage ≡ Body }
+        ensures taken { (front : List ℕ) × (bytes.now ≡ front ++ result.now) × Goes (stage_of self.old) front (stage_of self.new) }
+    {
+        let mut rest = bytes;
+        'lines: loop {
+            let before = self.take_derivations(rest);
+            let behind = self.machine.take_steps(before);
+            if behind.len() == before.len() {
+                return behind;
+            }
+            rest = behind;
+        }
     }
 
     // Takes the lines of derivations and exchanges at the front of some bytes, as long as a line of any length has room: what
