@@ -1,10 +1,10 @@
 -- Lines of steps of version 2, made one after another (this profile's own).
-use Rattle.std.specs.Prelude.{◌≡◌, ℕ, List, [], ◌∷◌, ◌++◌, flat_map, Option, Some, None}
+use Rattle.std.specs.Prelude.{◌≡◌, ℕ, List, [], ◌∷◌, ◌++◌, flat_map, Option, Some, None, Result}
 use Rattle.std.specs.{Borrow.Bor, List.AllByRecursion}
 use Rattle.cap_log.specs.{declared.kinds.Step.Step, Lines.IsStepInRange, Parts.Begins}
 use Rattle.cap_run_log.specs.RunLines.{IsRunLineInRange, run_spelling}
 use Rattle.cap_run_log.specs.declared.lines.RunLine.TheVariants as lines
-use Rattle.cap_run.specs.{declared.asks.Asks.Asks, Run.Run, RunChanges.usual_after, RunChecks.usual_end}
+use Rattle.cap_run.specs.{declared.{asks.Asks.Asks, ends.RunEnd.RunEnd}, Run.Run, RunChanges.usual_after, RunChecks.{Answers, usual_end, usual_wants}}
 
 -- steps that no check refuses lead from a run to a run
 abbrev pub LeadBy : Asks → Run → List Step → Run → Type 0
@@ -29,3 +29,10 @@ TakesStep asks old bytes (Some rest) asks_then new =
     (step : Step) × Begins IsRunLineInRange run_spelling 10 bytes (lines.Step step) rest.now × (usual_end asks old step ≡ None)
     × (new ≡ usual_after old step) × (asks_then ≡ asks)
 TakesStep asks old bytes None asks_then new = (new ≡ old) × (asks_then ≡ asks)
+
+-- the bytes are the line of a step, and this is its answer; or they are none, and nothing has changed
+abbrev pub TakesAlone : Asks → Run → List ℕ → Option (Result (Unit {0}) RunEnd) → Asks → Run → Type 0
+TakesAlone asks old bytes (Some result) asks_then new =
+    (step : Step) × Begins IsRunLineInRange run_spelling 10 bytes (lines.Step step) []
+    × Answers (usual_end asks old step) (usual_after old step) (usual_wants old step) old result new × (asks_then ≡ asks)
+TakesAlone asks old bytes None asks_then new = (new ≡ old) × (asks_then ≡ asks)

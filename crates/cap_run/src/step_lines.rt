@@ -2,10 +2,11 @@
 
 ghost use Rattle.std.specs.Prelude.{◌≡◌, ℕ, List, ◌∷◌, ◌++◌};
 ghost use Rattle.cap_log.specs.{Heads.head_spelling};
-ghost use Rattle.cap_run.specs.{Numbers.numbered_run, StepLines.{MakesUsualSteps, TakesStep}};
+ghost use Rattle.cap_run.specs.{Numbers.numbered_run, StepLines.{MakesUsualSteps, TakesAlone, TakesStep}};
 
+use crate::ends::RunEnd;
 use crate::run_machine::RunMachine;
-use cap_log::Head;
+use cap_log::{Head, Part};
 use cap_machine::{ByKind, Instruction, by_head};
 use tagmem::TaggedStore;
 
@@ -27,6 +28,17 @@ impl<M: TaggedStore> RunMachine<M> {
         self.machine.kept();
         let (rest, _) = cap_judge::take_steps(&mut self.machine, bytes);
         rest
+    }
+
+    /// Takes bytes that are the line of a step of version 2, with its line feed, and no more: how that step ends, as
+    /// [`RunMachine::make_usual`] says. `None`, and nothing has changed, where they are not.
+    #[inline(always)]
+    pub fn take_alone(&mut self, line: &[u8]) -> Option<Result<(), RunEnd>>
+        ensures taken { TakesAlone self.old.asks (numbered_run self.old.machine self.old.specials self.old.objects) line.now result
+            self.new.asks (numbered_run self.new.machine self.new.specials self.new.objects) }
+    {
+        let (head, operands) = Head::take(line, b' ')?;
+        by_head::<RunMachine<M>, Alone>(self, head, operands)
     }
 
     // The same where objects were handed out.
@@ -98,6 +110,34 @@ impl<'a, M: TaggedStore> ByKind<'a, RunMachine<M>> for Owned {
 
     #[inline(always)]
     fn with_none(_run: &mut RunMachine<M>) -> Option<&'a [u8]> {
+        None
+    }
+}
+
+// A step whose line is all that stands there. It is made as one of any kind: if it were made by its kind, the functions that
+// make a step by its numbers would no longer be inlined, and take 30 instructions more.
+pub(crate) struct Alone;
+
+impl<'a, M: TaggedStore> ByKind<'a, RunMachine<M>> for Alone {
+    type Answer = Option<Result<(), RunEnd>>;
+
+    ghost does = { λ old bytes result new. TakesAlone old.asks (numbered_run old.machine old.specials old.objects) bytes result
+        new.asks (numbered_run new.machine new.specials new.objects) };
+
+    #[inline(always)]
+    fn with_kind<I: Instruction>(
+        run: &mut RunMachine<M>,
+        operands: &'a [u8],
+    ) -> Option<Result<(), RunEnd>> {
+        let (step, rest) = I::take(operands)?;
+        if !rest.is_empty() {
+            return None;
+        }
+        Some(run.make_usual(&step.into_step()))
+    }
+
+    #[inline(always)]
+    fn with_none(_run: &mut RunMachine<M>) -> Option<Result<(), RunEnd>> {
         None
     }
 }

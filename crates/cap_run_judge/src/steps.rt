@@ -31,6 +31,24 @@ impl<M: TaggedStore> RunJudge<M> {
         // out an object.
         ensures no_memory { result ≡ Err NoMemory → Lacks (stage_of self.old) line.now [] }
     {
+        if let NextRunLine::Body = self.stage {
+            return match self.machine.take_alone(line) {
+                Some(Ok(())) => Ok(()),
+                Some(Err(end)) => self.take_end(end, line),
+                None => self.take_whole(line),
+            };
+        }
+        self.take_whole(line)
+    }
+
+    // Takes bytes of any kind as one line.
+    #[inline(never)]
+    fn take_whole(&mut self, line: &[u8]) -> Result<(), TakeFault>
+        ensures taken { OnOk result (Follows (stage_of self.old) line.now (stage_of self.new)) }
+        ensures unchanged { IfErr result (λ _. stage_of self.new ≡ stage_of self.old) }
+        ensures no_line { (result ≡ Err NoLine) ↔ IsNoLine line.now }
+        ensures no_memory { result ≡ Err NoMemory → Lacks (stage_of self.old) line.now [] }
+    {
         if !is_whole(front(line), line) {
             return Err(TakeFault::NoLine);
         }
@@ -102,6 +120,7 @@ impl<M: TaggedStore> RunJudge<M> {
     }
 
     // Ends a line at a step that was not made.
+    #[inline(never)]
     fn take_end(&mut self, end: RunEnd, text: &[u8]) -> Result<(), TakeFault>
         requires ends { (line : RunLine) × Begins IsRunLineInRange run_spelling 10 text.now line []
             × IsUnmade (stage_of self.old) line end }

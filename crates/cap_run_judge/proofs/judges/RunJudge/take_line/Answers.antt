@@ -1,40 +1,116 @@
-use Rattle.std.proofs.Common.{[], ◌≡◌, ◌∙◌, Err, ap, rules, subst, true}
-use Rattle.cap_run_judge.specs.{Readings.stage_of, Turns.Stage, Verdicts.Lacks}
-use Rattle.cap_judge.proofs.TurnLemmas.{whole_uncut}
-use Rattle.cap_run_judge.proofs.FollowLemmas.{nothing_goes, stop_follows, whole_lacks, whole_taken}
+use Rattle.std.proofs.Common.{◌≡◌, ◌∙◌, [], Some, Result, Ok, Err, OnOk, IfErr, ap, refl, subst, sym}
+use Rattle.cap_judge.specs.declared.verdict.TakeFault.TheVariants.{NoMemory}
+use Rattle.cap_run.specs.{declared.{asks.Asks.Asks, ends.RunEnd.RunEnd}, Run.Run, RunChanges.usual_after, RunChecks.{usual_end, usual_wants}, StepLines.TakesAlone}
+use Rattle.cap_run_log.specs.declared.lines.RunLine.{RunLine}
+use Rattle.cap_run_judge.specs.{Readings.{EndsLine, Follows, due_of, run_in, stage_of}, Turns.{Body, Due, Stage}, Verdicts.Lacks}
+use Rattle.cap_run_judge.proofs.{FollowLemmas.{line_whole, whole_taken}, TurnLemmas.{body_answers, err_same, line_is}}
 use Rattle.cap_run_judge.proofs.judges.RunJudge.take_line.Goals as goal
 
-pub returns-in-Err-NoMemory-clause-unchanged : goal.returns-in-Err-NoMemory-clause-unchanged
-returns-in-Err-NoMemory-clause-unchanged g c =
-    let stop = rw (c.in-Err-NoMemory.is ∙ ap Err c.in-Err-NoMemory.field-0-is) at c.take_next.ensures.err in
-    nothing_goes (stage_of c.args.self.now) (stage_of c.take_next.new.self) stop.0
+-- a machine that changed nothing leads to the same stage
+abbrev stage_by : Asks → Run → Due → Stage
+stage_by asks_are run_is due_is = record { asks = asks_are; run = run_is; due = due_is }
 
-pub returns-in-Err-NoMemory-clause-no_memory : goal.returns-in-Err-NoMemory-clause-no_memory
-returns-in-Err-NoMemory-clause-no_memory g c = λ _.
-    let is : c.is_whole.result ≡ true = search rules in
-    let stop = rw (c.in-Err-NoMemory.is ∙ ap Err c.in-Err-NoMemory.field-0-is) at c.take_next.ensures.err in
-    let same = nothing_goes (stage_of c.args.self.now) (stage_of c.take_next.new.self) stop.0 in
-    whole_lacks (stage_of c.args.self.now) c.args.line.now stop.1 (c.is_whole.ensures.whole is)
-    (subst (λ (s : Stage). Lacks s c.args.line.now stop.1) same stop.2)
+same_stage : (asks_are asks_then : Asks) (old new : Run) (due_is : Due) → asks_then ≡ asks_are → new ≡ old
+    → stage_by asks_then new due_is ≡ stage_by asks_are old due_is
+same_stage asks_are asks_then old new due_is asked same =
+    ap (λ (a : Asks). stage_by a new due_is) asked ∙ ap (λ (r : Run). stage_by asks_are r due_is) same
 
-pub returns-in-Err-Fault-clause-taken : goal.returns-in-Err-Fault-clause-taken
-returns-in-Err-Fault-clause-taken g c =
-    let stop = rw (c.in-Err-Fault.is ∙ ap Err c.in-Err-Fault.field-0-is) at c.take_next.ensures.err in
-    stop_follows (stage_of c.args.self.now) (stage_of c.take_next.new.self) [] c.args.line.now stop
+pub take_end-requires : goal.take_end-requires
+take_end-requires g c =
+    let s = c.args.self.now in
+    let n = c.take_alone.new.self in
+    let old = run_in s.machine in
+    let taken = subst (λ (r : Result (Unit {0}) RunEnd). TakesAlone s.machine.asks (run_in s.machine) c.args.line.now (Some r) n.asks (run_in n))
+    c.in-Some-Err.field-0-is c.in-Some-Err.ensures.taken in
+    let line = RunLine.Step taken.0 in
+    let answer = body_answers s.machine.asks old (run_in n) line (Err c.in-Some-Err.end) refl taken.2 in
+    let same = err_same (usual_end s.machine.asks old taken.0) (usual_after old taken.0) (usual_wants old taken.0) old c.in-Some-Err.end (run_in n) taken.2 in
+    record {
+      ends = (
+        line,
+        taken.1,
+        rw c.in-Body.is
+            (refl, subst (λ (st : Stage). EndsLine st line c.in-Some-Err.end) (sym (same_stage s.machine.asks n.asks old (run_in n) Body taken.3 same)) answer.0),
+      );
+    }
 
-pub returns-in-Err-Cut-clause-unchanged : goal.returns-in-Err-Cut-clause-unchanged
-returns-in-Err-Cut-clause-unchanged g c =
-    let stop = rw (c.in-Err-Cut.is ∙ ap Err c.in-Err-Cut.field-0-is) at c.take_next.ensures.err in
-    nothing_goes (stage_of c.args.self.now) (stage_of c.take_next.new.self) stop.0
+pub returns-in-Some-Ok-clause-taken : goal.returns-in-Some-Ok-clause-taken
+returns-in-Some-Ok-clause-taken g c =
+    let s = c.args.self.now in
+    let n = c.take_alone.new.self in
+    let taken = rw (c.in-Some-Ok.is ∙ ap Some c.in-Some-Ok.field-0-is) at c.take_alone.ensures.taken in
+    let line = RunLine.Step taken.0 in
+    rw (c.in-Body.is, taken.3)
+    (whole_taken _ _ c.args.line.now [] line (line_whole c.args.line.now line taken.1) taken.1
+    (body_answers s.machine.asks (run_in s.machine) (run_in n) line (Ok tt) refl taken.2))
 
-pub returns-in-Err-Cut-clause-no_line : goal.returns-in-Err-Cut-clause-no_line
-returns-in-Err-Cut-clause-no_line g c =
-    let is : c.is_whole.result ≡ true = search rules in
-    let stop = rw (c.in-Err-Cut.is ∙ ap Err c.in-Err-Cut.field-0-is) at c.take_next.ensures.err in
-    absurd (whole_uncut c.args.line.now (c.is_whole.ensures.whole is) stop.1)
+pub returns-in-Some-Ok-clause-no_line : goal.returns-in-Some-Ok-clause-no_line
+returns-in-Some-Ok-clause-no_line g c =
+    let taken = rw (c.in-Some-Ok.is ∙ ap Some c.in-Some-Ok.field-0-is) at c.take_alone.ensures.taken in (
+      λ e. absurd (let never : ⊥ = cc in never),
+      λ none. absurd (none.0 _ (line_is (RunLine.Step taken.0) c.args.line.now [] taken.1)),
+    )
 
-pub returns-in-Ok-clause-taken : goal.returns-in-Ok-clause-taken
-returns-in-Ok-clause-taken g c =
-    let is : c.is_whole.result ≡ true = search rules in
-    let line = c.in-Ok.ensures.ok in
-    whole_taken (stage_of c.args.self.now) (stage_of c.take_next.new.self) c.args.line.now _ line.0 (c.is_whole.ensures.whole is) line.1 line.2
+pub returns-in-Some-Err-clause-taken : goal.returns-in-Some-Err-clause-taken
+returns-in-Some-Err-clause-taken g c =
+    let s = c.args.self.now in
+    let n = c.take_alone.new.self in
+    let old = run_in s.machine in
+    let taken = subst (λ (r : Result (Unit {0}) RunEnd). TakesAlone s.machine.asks (run_in s.machine) c.args.line.now (Some r) n.asks (run_in n))
+    c.in-Some-Err.field-0-is c.in-Some-Err.ensures.taken in
+    let same = err_same (usual_end s.machine.asks old taken.0) (usual_after old taken.0) (usual_wants old taken.0) old c.in-Some-Err.end (run_in n) taken.2 in
+    subst (λ (st : Stage). OnOk c.take_end.result (Follows st c.args.line.now (stage_of c.take_end.new.self)))
+    (same_stage s.machine.asks n.asks old (run_in n) (due_of s.stage) taken.3 same) c.take_end.ensures.taken
+
+pub returns-in-Some-Err-clause-unchanged : goal.returns-in-Some-Err-clause-unchanged
+returns-in-Some-Err-clause-unchanged g c =
+    let s = c.args.self.now in
+    let n = c.take_alone.new.self in
+    let old = run_in s.machine in
+    let taken = subst (λ (r : Result (Unit {0}) RunEnd). TakesAlone s.machine.asks (run_in s.machine) c.args.line.now (Some r) n.asks (run_in n))
+    c.in-Some-Err.field-0-is c.in-Some-Err.ensures.taken in
+    let same = err_same (usual_end s.machine.asks old taken.0) (usual_after old taken.0) (usual_wants old taken.0) old c.in-Some-Err.end (run_in n) taken.2 in
+    subst (λ (st : Stage). IfErr c.take_end.result (λ _. stage_of c.take_end.new.self ≡ st))
+    (same_stage s.machine.asks n.asks old (run_in n) (due_of s.stage) taken.3 same) c.take_end.ensures.unchanged
+
+pub returns-in-Some-Err-clause-no_line : goal.returns-in-Some-Err-clause-no_line
+returns-in-Some-Err-clause-no_line g c =
+    let taken = rw (c.in-Some-Err.is ∙ ap Some c.in-Some-Err.field-0-is) at c.take_alone.ensures.taken in (
+      λ e. absurd (c.take_end.ensures.line e),
+      λ none. absurd (none.0 _ (line_is (RunLine.Step taken.0) c.args.line.now [] taken.1)),
+    )
+
+pub returns-in-Some-Err-clause-no_memory : goal.returns-in-Some-Err-clause-no_memory
+returns-in-Some-Err-clause-no_memory g c =
+    let s = c.args.self.now in
+    let n = c.take_alone.new.self in
+    let old = run_in s.machine in
+    let taken = subst (λ (r : Result (Unit {0}) RunEnd). TakesAlone s.machine.asks (run_in s.machine) c.args.line.now (Some r) n.asks (run_in n))
+    c.in-Some-Err.field-0-is c.in-Some-Err.ensures.taken in
+    let same = err_same (usual_end s.machine.asks old taken.0) (usual_after old taken.0) (usual_wants old taken.0) old c.in-Some-Err.end (run_in n) taken.2 in
+    subst (λ (st : Stage). c.take_end.result ≡ Err NoMemory → Lacks st c.args.line.now [])
+    (same_stage s.machine.asks n.asks old (run_in n) (due_of s.stage) taken.3 same) c.take_end.ensures.no_memory
+
+pub returns-in-None-clause-taken : goal.returns-in-None-clause-taken
+returns-in-None-clause-taken g c =
+    let s = c.args.self.now in
+    let n = c.take_alone.new.self in
+    let same = c.in-None.ensures.taken in
+    subst (λ (st : Stage). OnOk c.take_whole.result (Follows st c.args.line.now (stage_of c.take_whole.new.self)))
+    (same_stage s.machine.asks n.asks (run_in s.machine) (run_in n) (due_of s.stage) same.1 same.0) c.take_whole.ensures.taken
+
+pub returns-in-None-clause-unchanged : goal.returns-in-None-clause-unchanged
+returns-in-None-clause-unchanged g c =
+    let s = c.args.self.now in
+    let n = c.take_alone.new.self in
+    let same = c.in-None.ensures.taken in
+    subst (λ (st : Stage). IfErr c.take_whole.result (λ _. stage_of c.take_whole.new.self ≡ st))
+    (same_stage s.machine.asks n.asks (run_in s.machine) (run_in n) (due_of s.stage) same.1 same.0) c.take_whole.ensures.unchanged
+
+pub returns-in-None-clause-no_memory : goal.returns-in-None-clause-no_memory
+returns-in-None-clause-no_memory g c =
+    let s = c.args.self.now in
+    let n = c.take_alone.new.self in
+    let same = c.in-None.ensures.taken in
+    subst (λ (st : Stage). c.take_whole.result ≡ Err NoMemory → Lacks st c.args.line.now [])
+    (same_stage s.machine.asks n.asks (run_in s.machine) (run_in n) (due_of s.stage) same.1 same.0) c.take_whole.ensures.no_memory
