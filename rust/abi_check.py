@@ -31,6 +31,7 @@ LEFT_OUT = {
        ("move", "cleartag", "setbounds", "setboundsexact", "setaddr", "andperm", "seal", "unseal", "lc", "sc", "load", "store",
         "derive", "exchange", "invoke", "drop", "fill", "object", "free")},
     "capcheck_asks": "run logs", "capcheck_run_answer": "run logs", "capcheck_object": "run logs",
+    **dict.fromkeys(("capcheck_heap_judge_why", "capcheck_heap_answer", "capcheck_heap_why"), "capdiag heap"),
 }
 NUMBERS = {"uint64_t": "u64", "int64_t": "i64", "uint32_t": "u32", "uint16_t": "u16", "size_t": "usize", "int16_t": "i16",
            "uint8_t": "u8", "char": "u8", "bool": "bool", "void": "c_void"}

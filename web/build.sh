@@ -86,8 +86,8 @@ kept_code() {
     "$kit/toolchain/bin/clang" -S -emit-llvm -Xclang -disable-llvm-passes -x ir web/out/kept.ir -o web/out/kept.ll
 }
 
-# What the page calls of the judge of run logs, without capcheck_run_judge_.
-calls='open lines end end_report held owner object next_object holder'
+# What the page calls of the judges of run logs and of allocators' logs, without capcheck_.
+calls="$(printf 'run_judge_%s ' open lines end end_report held owner object next_object holder) heap_judge_why"
 
 # module_with_heap CRATE NAME: web/out/NAME.wasm of a library for C that allocates.
 module_with_heap() {
@@ -95,7 +95,7 @@ module_with_heap() {
     # What x86-64 has for itself goes, and what the page calls is exported.
     sed -e '/^target datalayout/d' -e "s/^target triple.*/target triple = \"$target\"/" \
         -e 's/ "\(probe-stack\|stack-probe-size\|target-cpu\)"="[^"]*"//g' \
-        -e "s/^\(define .*@\(capcheck_run_judge_\($(echo "$calls" | sed 's/ /\\|/g')\)\)(.*)\) #/\1 \"wasm-export-name\"=\"\2\" #/" \
+        -e "s/^\(define .*@\(capcheck_\($(echo "$calls" | sed 's/  */\\|/g')\)\)(.*)\) #/\1 \"wasm-export-name\"=\"\2\" #/" \
         web/out/kept.ll > web/out/wasm.ll
     compiled="$kit/toolchain/bin/clang --target=$target -mcpu=lime1 -mllvm -expand-div-rem-bits=64 -ffunction-sections -Werror -c"
     $compiled -O3 -x ir web/out/wasm.ll -o web/out/wasm.o
@@ -130,8 +130,8 @@ packed() { gzip -9 -n | base64 -w 120; }
 
 for module in capcheck judge runs; do packed < "web/out/$module.wasm" > "web/out/$module.base64"; done
 cd web
-plain words.js lines.js facts.js drawing.js pasting.js vectors.js reports.js formless.js faults.js links.js log.js objects.js stepping.js page.js | packed > out/page.base64
-plain words.js lines.js trace.js judging.js shortest.js runs.js working.js | packed > out/worker.base64
+plain words.js lines.js facts.js drawing.js pasting.js vectors.js reports.js formless.js faults.js allocators.js links.js log.js objects.js stepping.js page.js | packed > out/page.base64
+plain words.js lines.js trace.js judging.js shortest.js runs.js heaps.js working.js | packed > out/worker.base64
 plain style.css > out/style.css
 sh sources.sh > out/sources
 # A line `@NAME@` of page.html is the file NAME, `@pages@` where links lead to, and `@hash@` the hash of all sources.

@@ -1,6 +1,7 @@
 // node check.mjs MODULE JUDGE RUNS FILES..: what the module answers to each line of vector files, by the page's calls, and
 // what the judge's module answers to each log: what examples/README.md says, and byte for byte what CAPDIAG prints, where
-// that program is there. The same of the corpus of run logs and the module that judges them. Then what pasting.js reads in each row of the table of dumps.
+// that program is there. The same of the corpora of run logs and of allocators' logs, and the module that judges them. Then
+// what pasting.js reads in each row of the table of dumps.
 import { spawnSync } from "node:child_process";
 import fs from "node:fs";
 import vm from "node:vm";
@@ -10,8 +11,8 @@ import { differs, dumpsOf, readDump } from "./tests/dumps.mjs";
 const [module, judging, running, ...files] = process.argv.slice(2);
 const here = new URL(".", import.meta.url);
 const script = (...names) => names.map((name) => fs.readFileSync(new URL(name, here), "utf8")).join("\n");
-const { library, Judge, RunJudge } = vm.runInThisContext(
-    `${script("words.js", "lines.js", "judging.js", "runs.js")}; ({ library, Judge, RunJudge })`);
+const { library, Judge, RunJudge, HeapJudge } = vm.runInThisContext(
+    `${script("words.js", "lines.js", "judging.js", "runs.js", "heaps.js")}; ({ library, Judge, RunJudge, HeapJudge })`);
 const c = library(fs.readFileSync(module));
 
 const number = (digits) => BigInt(`0x${digits}`);
@@ -74,6 +75,16 @@ for (const [name, options, answer] of corpus.map((row) => row.split("\t")).filte
     agree(`${name} ${options}`, text, spawnSync(diagnosis, ["run", "--why", ...words], { input: bytes }).stdout.toString(), 0);
 }
 
+const index = fs.readFileSync(new URL("../conformance/INDEX.tsv", here), "utf8").split("\n");
+for (const [name, answer] of index.map((row) => row.split("\t")).filter(([name]) => name.startsWith("heaps/"))) {
+    const bytes = fs.readFileSync(new URL(`../conformance/${name}`, here));
+    const judged = new HeapJudge(runs, bytes.length);
+    judged.bytes(judged.log, bytes.length).set(bytes);
+    const { text } = judged.why();
+    agree(name, text.split("\n")[0], answer, 1);
+    if (fs.existsSync(diagnosis)) agree(name, text, spawnSync(diagnosis, ["heap", "--report", "--why"], { input: bytes }).stdout.toString(), 0);
+}
+
 for (const file of files.filter((it) => it.endsWith(".vectors"))) {
     for (const line of fs.readFileSync(file, "utf8").trimEnd().split("\n")) {
         const [left, right] = line.split(" = ");
@@ -89,7 +100,7 @@ for (const file of files.filter((it) => it.endsWith(".vectors"))) {
 }
 // What the page reads in dumps. Its scripts need a document only once they show something.
 globalThis.document = {};
-const page = ["facts.js", "pasting.js", "vectors.js", "reports.js", "formless.js", "faults.js", "links.js", "log.js", "stepping.js", "page.js"];
+const page = ["facts.js", "pasting.js", "vectors.js", "reports.js", "formless.js", "faults.js", "allocators.js", "links.js", "log.js", "stepping.js", "page.js"];
 const reading = vm.runInThisContext(`${script(...page)}; (module) => { c = module; return ${readDump}; }`)(c);
 for (const row of dumpsOf(fs.readFileSync(new URL("tests/dumps.rows", here), "utf8"))) {
     agree(`the dump ${JSON.stringify(row.text)}`, differs(row, reading(row.text)), "", 1);

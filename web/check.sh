@@ -1,7 +1,7 @@
 #!/bin/sh
-# The modules against the vectors, the example logs, the corpus of run logs and the table of dumps, where an engine that takes them is here: node,
-# with its flag for 64-bit memory or without; where wasm-opt is here the modules have 32-bit memory, and any node takes
-# them. It prints `web: N calls agreed`, or that none were tried, and ends with status 0; where a call disagrees it names
+# The modules against the vectors, the example logs, the corpora of run logs and of allocators' logs, and the table of dumps,
+# where an engine that takes them is here: node, with its flag for 64-bit memory or without; where wasm-opt is here the
+# modules have 32-bit memory, and any node takes them. It prints `web: N calls agreed`, or that none were tried, and ends with status 0; where a call disagrees it names
 # the line, the log or the dump and ends with status 1.
 set -eu
 cd "$(dirname "$0")/.."

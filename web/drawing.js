@@ -214,8 +214,7 @@ function requestDrawing({ base, length, rounded, lost }, width) {
 }
 
 /** Ranges with what of each goes beyond the source's or the authority's bounds, where it asks for some of these. */
-function withExcess(bars) {
-    const owner = { request: "source", rounded: "source", access: "authority" };
+function withExcess(bars, owner = { request: "source", rounded: "source", access: "authority" }) {
     return bars.map((it) => {
         const within = bars.find(({ name }) => name === owner[it.name]);
         if (!within) return it;

@@ -90,7 +90,6 @@ function truncated(text, { line, count, before }) {
 const OTHERS = [
     [/^\\xff\\xfe|^\\xfe\\xff|^(.\\x00)+/, "the text is UTF-16, as a Windows shell writes it; a log is ASCII"],
     [/^\\x1f\\x8b/, "these are bytes that gzip has packed; unpack them first"],
-    [/^(\\xef\\xbb\\xbf)?heap \d/i, "this is a log of an allocator"],
     [/^(bounds|keeps|round|memory) .* = /, "this is a vector file"],
     [/^(yes|no) \d+( |$)/, "this is a verdict or a report; a log is what was judged"],
     [/^capcheck ([03-9]|\d\d)/, "no version of a log but 1 and 2 is known here; a later capcheck may have written it"],

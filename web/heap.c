@@ -1,6 +1,6 @@
 /*
- * How the module of run logs allocates: the three functions through which a proved crate gets and frees memory, over the
- * module's own memory. build.sh links this file to the module. It is not proved.
+ * How the module of run logs and allocators' logs allocates: the three functions through which a proved crate gets and
+ * frees memory, over the module's own memory. build.sh links this file to the module. It is not proved.
  *
  * A block is of one of several sizes, four between a power of two and the next. A freed block is kept in a list of its
  * size, from which the next one of that size is taken. If memory can't grow, the pointer still isn't null, and is never

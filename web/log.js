@@ -126,8 +126,9 @@ function showLog() {
 
 function showVerdict() {
     log.shown = `${log.size} ${widthOf("why")}`;
-    const { state, line, refusal, count, took, text, isRun } = log.judged;
-    log.report = state === 2 ? reportOf(text) : null;
+    const { state, line, refusal, count, took, text, isRun, isHeap } = log.judged;
+    const isOther = isRun || isHeap;
+    log.report = state !== 2 ? null : isHeap ? heapReportOf(text) : reportOf(text);
     log.faulty = log.report?.line ?? "";
     const [first, second] = verdictSaid();
     byId("verdict").className = `verdict ${state === 1 ? "yes" : "no"}`;
@@ -137,15 +138,15 @@ function showVerdict() {
     if (state === 2) faulty.append(...marked(log.faulty, (it) => it));
     byId("verdict").replaceChildren(make("h2", {}, first), " ", make("span", {}, second), " ", ...(state === 2 ? [faulty] : []),
         make("small", {}, facts.join(", ")));
-    byId("allocator").hidden = !(state === 2 && line === 1 && /^(\\xef\\xbb\\xbf)?heap \d/i.test(log.faulty));
     byId("other").hidden = true;
-    if (state === 2 && line === 1 && !isRun) showOther();
-    byId("why").replaceChildren(...(log.report ? reportShown(log.report) : []));
+    if (state === 2 && line === 1 && !isOther) showOther();
+    byId("why").replaceChildren(...(log.report ? reportShown(log.report) : isHeap ? [heapCosts(text)] : []));
     byId("report-text").textContent = text;
-    byId("find-shortest").hidden = state !== 2 || isRun;
+    byId("find-shortest").hidden = state !== 2 || isOther;
     byId("to-fault").hidden = state !== 2;
     byId("log").querySelector(".gloss").hidden = state !== 2 || FORMLESS.includes(refusal);
-    byId("origins").hidden = state !== 1 || isRun;
+    byId("origins").hidden = state !== 1 || isOther;
+    byId("before").hidden = Boolean(isHeap);
     showEvened();
     showWrote();
     showOrigins();
@@ -155,9 +156,10 @@ function showVerdict() {
 /** The verdict, and a sentence. */
 function verdictSaid() {
     const { state, line, refusal, steps, roots } = log.judged;
-    const { isRun, objects } = log.judged;
+    const { isRun, isHeap, objects } = log.judged;
+    const heapSays = isHeap ? heapVerdict(log.judged) : null;
     const handedOut = isRun ? `, with ${counted(objects, "object")} handed out` : "";
-    if (state === 1) return ["Yes: a run of the machine.", `${counted(steps, "step")} from ${counted(roots, "root")}${handedOut}.`];
+    if (state === 1) return heapSays ?? ["Yes: a run of the machine.", `${counted(steps, "step")} from ${counted(roots, "root")}${handedOut}.`];
     if (state !== 2) return ["No verdict.", "There wasn't memory enough."];
     return [`No: line ${decimal(line)} is refused: ${refusal} ${log.report.refusal}.`, faultSentence(log.report, log.faulty)];
 }
@@ -252,7 +254,7 @@ function reportShown(report) {
         ...Object.entries(spans).map(([name, it]) => [name, span(it), SPANS[name]]),
         ...(object ? [[`object ${object.number}`, ...objectSaid(object)]] : []),
         ...(needs ? [["needs", permissionNames(Number(`0x${needs}`)).join(", "), "the permissions that the authority needs"]] : []),
-        ...Object.entries(counts).map(([name, value]) => [name, value, COUNTS[name]]),
+        ...Object.entries(counts).map(([name, value]) => [name, value, (log.judged.isHeap ? HEAP_COUNTS : COUNTS)[name]]),
         ...more.map(([name, ...rest]) => [name, rest.join(" ")]),
     ];
     if (rows.length) shown.push(make("table", {}, make("tbody", {}, ...rows.map(row))));
@@ -264,13 +266,13 @@ function barsOf({ caps, spans, object }, isLoad) {
     const bars = [
         ...Object.entries(caps).filter(([, cap]) => !isData(cap, isLoad)).map(([name, { bounds, tag }]) =>
             ({ name, base: bounds[0], top: bounds[1], kind: tag === "1" ? "bounds" : "untagged" })),
-        ...Object.entries(spans).map(([name, it]) => ({ name, ...it, kind: name === "representable" ? "range" : "asked" })),
+        ...Object.entries(spans).map(([name, it]) => ({ name, ...it, kind: /^(representable|live)/.test(name) ? "range" : "asked" })),
         ...(object ? [{ name: `object ${object.number}, ${stateOf(object)}`, base: object.base, top: object.top, kind: "range" }] : []),
     ].filter(({ base, top }) => base <= top).sort((one, other) => placeInOrder(one) - placeInOrder(other));
-    return withExcess(bars);
+    return withExcess(bars, log.judged.isHeap ? { rounded: "request", "live rounded": "live request" } : undefined);
 }
 
-const placeInOrder = ({ name }) => ORDER.indexOf(name.split(" ")[0]);
+const placeInOrder = ({ name }) => ORDER.indexOf(name in SPANS ? name : name.split(" ")[0]);
 
 /** A capability of the report, or data. What differs between what the rules give and what is recorded is marked. */
 function capabilityCard(name, cap, { differs, cleared, caps }, isPlain) {

@@ -24,6 +24,7 @@ const atFault = () => log.line === log.judged.line;
 /** An object's extent, and who holds it and when it was handed out. */
 function objectSaid(it) {
     const { base, top, line, freed, held, holder } = it;
+    if (log.judged.isHeap) return [`${span({ base, top })}, ${counted(top - base, "byte")}`, make("span", {}, "allocated by ", lineButton(line, undefined, `object ${it.number}`))];
     const holders = held === 0 ? "no place holds it" : `${counted(held, "place")} ${held === 1 ? "holds" : "hold"} it${holder ? `, first ${holder}` : ""}`;
     return [
         `${span({ base, top })}, ${counted(top - base, "byte")}`,
@@ -34,7 +35,7 @@ function objectSaid(it) {
 
 /** The objects cost a judging of the lines before: those of a line that is passed by aren't asked for. */
 async function askObjects(line, passed) {
-    if (!log.judged.isRun) return;
+    if (!log.judged.isRun && !log.judged.isHeap) return;
     const { beside } = log;
     const numbers = log.judged.state === 2 && reportOf(log.judged.text).object ? [reportOf(log.judged.text).object.number] : [];
     const objects = await beside.ask({ ask: "objects", line, numbers });
@@ -46,14 +47,16 @@ async function askObjects(line, passed) {
 function showObjects() {
     byId("objects").hidden = !log.objects;
     if (!log.objects) return;
-    const { objects, isAll } = log.objects;
-    const asked = atFault() ? log.report?.spans.extent : null;
+    const { objects, isAll, here } = log.objects;
+    const { isHeap } = log.judged;
+    const asked = atFault() ? log.report?.spans[isHeap ? "rounded" : "extent"] : null;
     const about = objects.find(({ number }) => atFault() && number === log.report?.object?.number) ?? null;
     const count = (wanted) => counted(objects.filter(wanted).length, "object");
-    byId("objects-say").textContent = objects.length === 0 ? "No object is live, and none that was freed is held."
-        : `${isAll ? "" : `Of the first ${decimal(objects.length)}: `}${count(({ isLive }) => isLive)} live; `
-            + `${count(({ isLive }) => !isLive)} freed that some place still holds.`;
-    const near = nearObjects(objects, about ?? asked ?? objects.at(-1));
+    const some = isAll ? "" : `Of the ${isHeap ? "nearest" : "first"} ${decimal(objects.length)}: `;
+    const none = isHeap ? "No object is live." : "No object is live, and none that was freed is held.";
+    const freed = isHeap ? "." : `; ${count(({ isLive }) => !isLive)} freed that some place still holds.`;
+    byId("objects-say").textContent = objects.length === 0 ? none : `${some}${count(({ isLive }) => isLive)} live${freed}`;
+    const near = nearObjects(objects, about ?? asked ?? (here ? { base: here } : objects.at(-1)));
     byId("extents").hidden = objects.length === 0;
     byId("extents").replaceChildren(...(objects.length ? [extentsDrawing(near, about, asked, widthOf("objects"))] : []));
     const away = objects.length - near.length;

@@ -27,6 +27,7 @@ const SPANS = {
     request: "the requested bounds", rounded: "what they are rounded to", moved: "the bounds at the new address",
     representable: "the addresses that keep the source's bounds", access: "the bytes that the step reaches",
     extent: "what the line asks for",
+    "live request": "the live object's requested bounds", "live rounded": "what they are rounded to",
 };
 const ORDER = [...CAPABILITIES.slice(0, -2), ...Object.keys(SPANS), "object", "gives", "recorded"];
 const COUNTS = {

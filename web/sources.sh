@@ -22,7 +22,7 @@ sources() {
         printf '%s %s\n' "$crate" "$(find "crates/$crate/src" -type f | LC_ALL=C sort | xargs sha256sum | hash)"
     done
     printf 'web %s\n' "$(sha256sum web/*.js web/page.html web/style.css web/build.sh web/heap.c \
-        conformance/runs/36-of-the-second.log examples/escaped_bound.log examples/wrong_result.log examples/memory.log | hash)"
+        conformance/runs/36-of-the-second.log conformance/heaps/24.41-28-by-rounding-of-the-new-object.log examples/escaped_bound.log examples/wrong_result.log examples/memory.log | hash)"
 }
 
 case ${1:-} in

@@ -38,7 +38,7 @@ function showStep() {
     byId("code").replaceChildren(...texts.map((text, k) => codeLine(at.from + k, text)));
     byId("code").setAttribute("aria-activedescendant", `line-${at.line}`);
     const { registers, line } = at;
-    const parts = partsOf(at.texts[line - at.from] ?? "", RUN_FORMS);
+    const parts = judged.isHeap ? null : partsOf(at.texts[line - at.from] ?? "", RUN_FORMS);
     byId("before-says").textContent = registers === null
         ? `The judge stopped at line ${decimal(judged.line)}: nothing is known of the lines after it.`
         : registers.length === 0 ? "No register was written so far."
@@ -72,7 +72,7 @@ const escaped = (text) => text.replace(/[^ -[\]-~]/g, (it) => `\\x${hex(it.charC
 /** The faulty line, with what is wrong in it marked: the digits that differ, or the operand that the refusal is about. */
 function marked(text, shown = escaped) {
     const { refusal, caps, values } = log.report;
-    const parts = partsOf(text, RUN_FORMS);
+    const parts = log.judged.isHeap ? null : partsOf(text, RUN_FORMS);
     const wrong = new Set();
     const markPart = (name) => { for (let k = 0; k < parts[name].length; k++) wrong.add(placeOf(text, name) + k); };
     if (text === "") return [make("mark", {}, "the bytes end here")];

@@ -7,6 +7,7 @@ import { Browser } from "./tests/browser.mjs";
 import * as ease from "./tests/ease.mjs";
 import * as faults from "./tests/faults.mjs";
 import { address, capability, count, file, hash, same, STATES, text, tools } from "./tests/given.mjs";
+import * as heaps from "./tests/heaps.mjs";
 import * as logs from "./tests/logs.mjs";
 import * as module from "./tests/module.mjs";
 import * as pasting from "./tests/pasting.mjs";
@@ -37,12 +38,14 @@ const GROUPS = {
     faultIsSaid: faults.faultIsSaid,
     linksKeepVerdicts: faults.linksKeepVerdicts,
     oddBytesAreSaid: faults.oddBytesAreSaid,
-    allocatorsAreNamed: faults.allocatorsAreNamed,
     linesAreFound: faults.linesAreFound,
     runsAreJudged: runs.runsAreJudged,
     runsHaveOptions: runs.runsHaveOptions,
     objectsAreDrawn: runs.objectsAreDrawn,
     runsAreUsable: runs.runsAreUsable,
+    heapsAreJudged: heaps.heapsAreJudged,
+    liveObjectsAreDrawn: heaps.liveObjectsAreDrawn,
+    heapsAreUsable: heaps.heapsAreUsable,
     formlessIsSaid: ease.formlessIsSaid,
     othersAreKnown: ease.othersAreKnown,
     focusIsKept: ease.focusIsKept,
@@ -88,6 +91,7 @@ const PICTURES = [
     ["log-narrow", 360, "light", logOf("local_stored")],
     ["run", 1280, "light", hash({ show: "log", text: text("conformance/runs/36-of-the-second.log"), line: "" })],
     ["run-dark-narrow", 390, "dark", hash({ show: "log", text: text("conformance/runs/36-of-the-second.log"), line: "" })],
+    ["heap", 1280, "light", hash({ show: "log", text: text("conformance/heaps/24.41-28-by-rounding-of-the-new-object.log"), line: "" })],
     ["log-yes-narrow", 360, "dark", logOf("memory", "9")],
     [
         "dump", 1000, "dark",

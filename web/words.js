@@ -34,6 +34,8 @@ const LAYOUT = {
         size: 24,
         fields: { line: [0, 8], steps: [8, 4], roots: [12, 4], objects: [16, 4], state: [20, 1], refusal: [21, 1] },
     },
+    heap_answer: { size: 24, fields: { line: [0, 8], live: [8, 8], events: [16, 4], state: [20, 1], refusal: [21, 1] } },
+    heap_why: { size: 32, fields: { answer: [0, "heap_answer"], length: [24, 8] } },
     object: { size: 48, fields: { base: [0, 8], top: [8, "wide"], held: [24, 8], line: [32, 8], state: [40, 1] } },
 };
 

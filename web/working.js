@@ -16,14 +16,17 @@ async function opened({ modules, blob, asks }) {
     const began = performance.now();
     const said = judge.why();
     const took = performance.now() - began;
-    const lines = said.isRun ? new RunLines(judge, said) : new Lines(judge, said);
+    const lines = new (said.isRun ? RunLines : said.isHeap ? HeapLines : Lines)(judge, said);
     held = { modules, lines, said, asks };
     const before = said.line > 1 ? lines.text(said.line - 1) : "";
     postMessage({ judged: { ...said, count: lines.count, took, before } });
 }
 
 /** The judge of a log that begins so. */
-const judgeOf = (modules, start, size, asks) => (isRun(start) ? new RunJudge(modules.runs, size, asks) : new Judge(modules.judge, size));
+function judgeOf(modules, start, size, asks) {
+    if (isHeap(start)) return new HeapJudge(modules.runs, size);
+    return isRun(start) ? new RunJudge(modules.runs, size, asks) : new Judge(modules.judge, size);
+}
 
 // What keeps a text from being a log, though it reads like one: what the text has, and the bytes without it.
 const ODD = {

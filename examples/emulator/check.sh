@@ -108,6 +108,22 @@ if command -v valgrind > "$work/found"; then
     quietly valgrind -q --leak-check=full --error-exitcode=9 "$work/runs"
 fi
 
+# The judge of allocators' logs: its verdicts on the conformance corpus, and the program's texts, as C and as C++.
+for log in conformance/heaps/*; do
+    "$diagnosis" heap --report --why "$log" || [ $? = 1 ]
+done > "$work/wanted"
+for compiler in "${CC:-cc} -std=c99" "${CXX:-c++} -std=c++11 -x c++"; do
+    command -v "${compiler%% *}" > "$work/found" || continue
+    quietly $compiler $strict -Wconversion examples/emulator/heaps.c -x none $libraries -o "$work/heaps"
+    quietly "$work/heaps"
+    quietly python3 conformance/run "$work/heaps" heaps
+    "$work/heaps" heap --why conformance/heaps/* > "$work/got"
+    cmp "$work/wanted" "$work/got" || { echo "check.sh: heaps, built by $compiler, prints otherwise" >&2; exit 1; }
+done
+if command -v valgrind > "$work/found"; then
+    quietly valgrind -q --leak-check=full --error-exitcode=9 "$work/heaps"
+fi
+
 # The judge without a heap wants nothing of a C library but three functions, and prints of each log what the program does.
 ${NM:-nm} -u "$lent" | sed -n 's/^ *U //p' | sort -u > "$work/wants"
 ${NM:-nm} --defined-only "$lent" | sed -nE 's/^[0-9a-f]+ [A-Z] //p' | sort -u > "$work/has"

@@ -56,7 +56,6 @@ const FORMLESS = [
     [`${ROOT}move c2 c1 = 2 ${WORD}\n`, "“2” isn't a tag, 0 or 1."],
     [`root c0 ${WORD}\n`, "The first line is neither “capcheck 1” nor “capcheck 2”."],
     [`root c0 ${WORD}`, "The last line has no line feed."],
-    ["heap 1", "This is a log of an allocator."],
     [`capcheck 1\nroot c0 ${WORD}\n`, "“c0” isn't a place, c1 to c31, or @ and 16 digits, the last of them 0."],
     [`${ROOT}capcheck 1\nend 0\n`, "This is a second header; a log has one, its first line."],
     ["capcheck 2\nmode clear\nmode clear\nend 0\n", "A mode line is the second line of a log, and there is one."],
@@ -73,7 +72,6 @@ const FORMLESS = [
     [`\xff\xfe${[..."capcheck 1\nend 0\n"].map((it) => `${it}\0`).join("")}`, "The text is UTF-16, as a Windows shell writes it; a log is ASCII."],
     ["\x1f\x8b\x08\x00\x00", "These are bytes that gzip has packed; unpack them first."],
     ["no 3 11 BoundsEscape\nline x\n", "This is a verdict or a report; a log is what was judged."],
-    ["heap 1\nend 0\n", "This is a log of an allocator."],
     ["capcheck 2\nmode clear \nend 0\n", "The second line is neither “mode strict” nor “mode clear”: it ends with a blank."],
     ["Hello\n", "The first line is neither “capcheck 1” nor “capcheck 2”."],
 ];

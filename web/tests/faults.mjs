@@ -422,16 +422,6 @@ export async function oddBytesAreSaid(page) {
     }
 }
 
-export async function allocatorsAreNamed(page) {
-    for (const [log, wanted] of [["heap 1\nroot 0000000010000000 00000000050000000\nend 0\n", true], ["heap 1\r\nend 0\r\n", true],
-             ["capcheck 3\n", false], [text("examples/moves.log"), false]]) {
-        await withLog(page, log);
-        const got = await page.run(() => [visible(byId("allocator")), seen("allocator").includes("capdiag heap"),
-                                       byId("allocator").querySelector("a").getAttribute("href")]);
-        same(got, [wanted, true, "../../docs/ALLOCATORS.md"], `a log of an allocator: ${log.slice(0, 10)}`);
-    }
-}
-
 /** Operands first, the next use of a register, the line that made it, a text, and marked lines. */
 export async function linesAreFound(page) {
     await withLog(page, text("examples/sealing.log").replace("end 4", "end 5"));

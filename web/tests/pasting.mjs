@@ -337,7 +337,7 @@ export async function putRight(page) {
         [...document.querySelectorAll("#capability p a")].length, [...document.querySelectorAll("[data-log]")].length,
         [...document.querySelectorAll("footer a")].map((it) => it.getAttribute("href")),
     ]);
-    same(links.slice(0, 2), [3, 4], "three words and four logs to click");
+    same(links.slice(0, 2), [3, 5], "three words and five logs to click");
     check(links[2].length > 2, `links to the pages: ${links[2]}`);
     for (const it of await page.run(() => [...document.querySelectorAll("footer a")].map((it) => it.href))) {
         check(it.startsWith("file:") && (await import("node:fs")).existsSync(new URL(it)), `${it} is there`);

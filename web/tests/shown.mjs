@@ -151,7 +151,7 @@ export async function pageIsKept(page) {
     check(before !== null && before.length <= 360 * 1000, "the tree keeps the page");
     await page.go(pathToFileURL(kept).href + capability("003d1ffffc1a13910000000000013c08"));
     await page.run(tools);
-    const opened = await page.run(() => [results(), seen("means").slice(0, 14), [...document.querySelectorAll("footer a, #allocator a")].map((it) => it.href)]);
+    const opened = await page.run(() => [results(), seen("means").slice(0, 14), [...document.querySelectorAll("footer a")].map((it) => it.href)]);
     same(opened.slice(0, 2), [1, "Read and write"], "the page of the tree opens");
     for (const it of opened[2]) check(it.startsWith(pathToFileURL(file("docs/")).href) && fs.existsSync(new URL(it)), `${it} is there`);
 }

@@ -1,4 +1,5 @@
 pub mod Handles
+pub mod HeapAnswers
 pub mod Holding
 pub mod RunAnswers
 pub mod RunHandles

@@ -7,6 +7,7 @@
 
 mod answers;
 mod handle;
+mod heaps;
 mod held;
 mod judges;
 mod lines;
