@@ -127,7 +127,7 @@ ROUNDED = {
     "few hundredths of a second": ["0.023 to 0.058 s"],
 }
 # Sizes that the format, the code or a test fixes: the reach of an offset, a region of the store, a batch, the browser page.
-FIXED = ("2 KB", "256 KiB", "32 KiB", "360 KB", "a quarter of a second")
+FIXED = ("2 KB", "256 KiB", "32 KiB", "400 KB", "a quarter of a second")
 # Commands that need a proof. After one that builds over a library for C no command of its page can run without it.
 BUILT = re.compile(r"install\.sh|libcapcheck_|pkg-config|\brt |^gdb |-m capcheck")
 # Commands that need the kit.

@@ -7,8 +7,6 @@ const HEAP_COUNTS = {
     excess: "bytes by which the bounds of all objects reach beyond them",
     padding: "bytes that would give every object a length that can be exact",
     gaps: "bytes by which all objects would move up, each to where such a length is exact", events: "accepted before it",
-};
-const EXACT = {
     length: "with it the request's bounds would be exact", alignment: "the request's address would be a multiple of it",
     "live length": "with it the live object's bounds would be exact", "live alignment": "the live object's address would be a multiple of it",
 };
@@ -29,7 +27,7 @@ function heapReportOf(text) {
         const [name, ...rest] = word === "live" ? [`live ${words[0]}`, ...words.slice(1)] : [word, ...words];
         if (name === "line") report.line = rest.join(" ");
         else if (name in SPANS) report.spans[name] = { base: BigInt(`0x${rest[0]}`), top: BigInt(`0x${rest[1]}`) };
-        else if (name in EXACT) report.more.push([`${name}: ${EXACT[name]}`, ox(BigInt(`0x${rest[0]}`))]);
+        else if (/(length|alignment)$/.test(name)) report.counts[name] = ox(BigInt(`0x${rest[0]}`));
         else if (name in HEAP_COUNTS) report.counts[name] = decimal(rest[0]);
         else report.more.push([name, ...rest]);
     }

@@ -24,10 +24,11 @@ const atFault = () => log.line === log.judged.line;
 /** An object's extent, and who holds it and when it was handed out. */
 function objectSaid(it) {
     const { base, top, line, freed, held, holder } = it;
-    if (log.judged.isHeap) return [`${span({ base, top })}, ${counted(top - base, "byte")}`, make("span", {}, "allocated by ", lineButton(line, undefined, `object ${it.number}`))];
+    const extent = `${span({ base, top })}, ${counted(top - base, "byte")}`;
+    if (log.judged.isHeap) return [extent, make("span", {}, "allocated by ", lineButton(line, undefined, `object ${it.number}`))];
     const holders = held === 0 ? "no place holds it" : `${counted(held, "place")} ${held === 1 ? "holds" : "hold"} it${holder ? `, first ${holder}` : ""}`;
     return [
-        `${span({ base, top })}, ${counted(top - base, "byte")}`,
+        extent,
         make("span", {}, `${stateOf(it)}; ${holders}; handed out by `, lineButton(line, undefined, `object ${it.number}`),
             ...(freed ? [", freed by ", lineButton(freed, undefined, `freed ${it.number}`)] : [])),
     ];
@@ -37,7 +38,8 @@ function objectSaid(it) {
 async function askObjects(line, passed) {
     if (!log.judged.isRun && !log.judged.isHeap) return;
     const { beside } = log;
-    const numbers = log.judged.state === 2 && reportOf(log.judged.text).object ? [reportOf(log.judged.text).object.number] : [];
+    const about = log.judged.isRun && log.judged.state === 2 ? reportOf(log.judged.text).object : null;
+    const numbers = about ? [about.number] : [];
     const objects = await beside.ask({ ask: "objects", line, numbers });
     if (passed()) return;
     log.objects = objects;
@@ -58,7 +60,8 @@ function showObjects() {
     byId("objects-say").textContent = objects.length === 0 ? none : `${some}${count(({ isLive }) => isLive)} live${freed}`;
     const near = nearObjects(objects, about ?? asked ?? (here ? { base: here } : objects.at(-1)));
     byId("extents").hidden = objects.length === 0;
-    byId("extents").replaceChildren(...(objects.length ? [extentsDrawing(near, about, asked, widthOf("objects"))] : []));
+    const asks = isHeap ? "the bounds of the refused request" : "what the refused line asks for";
+    byId("extents").replaceChildren(...(objects.length ? [extentsDrawing(near, about, asked, asks, widthOf("objects"))] : []));
     const away = objects.length - near.length;
     if (away) byId("objects-say").append(` ${counted(away, "object")} ${away === 1 ? "lies" : "lie"} far from those that are drawn.`);
     byId("extents").setAttribute("aria-label", near.slice(0, LISTED).map((it) => `object ${it.number} ${span(it)}, ${stateOf(it)}`).join("; "));
@@ -87,7 +90,7 @@ function nearObjects(objects, middle) {
 }
 
 /** Extents on one axis, a row for each state, and one for what the refused line asks for. */
-function extentsDrawing(objects, about, asked, width) {
+function extentsDrawing(objects, about, asked, asks, width) {
     const all = [...objects, ...(asked ? [asked] : [])];
     const from = all.reduce((least, { base }) => (base < least ? base : least), all[0].base);
     const end = all.reduce((greatest, { top }) => (top > greatest ? top : greatest), all[0].top);
@@ -96,7 +99,7 @@ function extentsDrawing(objects, about, asked, width) {
     const rows = [
         ["live", "bounds", objects.filter(({ isLive }) => isLive)],
         ["freed, still held", "outside", objects.filter(({ isLive }) => !isLive)],
-        ["what the refused line asks for", "asked", asked ? [asked] : []],
+        [asks, "asked", asked ? [asked] : []],
     ].filter(([, , extents]) => extents.length);
     const nodes = rows.flatMap(([title, kind, extents], row) => [
         words(0, row * 44 + 13, title, "note", "start"),

@@ -79,8 +79,8 @@ function events(count) {
     for (let k = 0; k < count; k++) {
         if (live.length && draw(3) === 0) lines.push(`free ${live.splice(draw(live.length), 1)[0]}`);
         else {
-            live.push(digits(65536 * (k + 1)));
-            lines.push(`malloc ${live.at(-1)} ${digits(16 + draw(4000))}`);
+            live.push(digits(256 * (k + 1)));
+            lines.push(`malloc ${live.at(-1)} ${digits(16 + draw(240))}`);
         }
     }
     return [...lines, `end ${count}`, ""].join("\n");
@@ -99,7 +99,7 @@ export async function liveObjectsAreDrawn(page) {
         const got = shown.rows.map((it) => it.match(/^object \d+ (0x[0-9a-f]+) up to 0x[0-9a-f]+, ([\d,]+) bytes? allocated by line (\d+)$/))
             .map((it) => it && `${it[1]} ${it[2].replace(",", "")} ${it[3]}`).sort();
         same(got, wanted, `live before line ${line}`);
-        same(shown.bars[0], wanted.length, `extents before line ${line}`);
+        same(shown.bars[0] + Number(shown.says.match(/(\d+) objects? lies? far/)?.[1] ?? 0), wanted.length, `extents before line ${line}`);
         const [kind, at, length] = lines[line - 1].split(" ");
         if (kind === "malloc") live.set(at, [Number(`0x${length}`), line]);
         else live.delete(at);

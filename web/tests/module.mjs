@@ -162,7 +162,7 @@ export async function nothingIsFetched(page) {
     }
     const stopped = await page.run(() => fetch("data:,x").then(() => "went through", () => "stopped"));
     same(stopped, "stopped", "a fetch from the page");
-    check(fs.statSync(built).size <= 360 * 1000, `size ${fs.statSync(built).size}`);
+    check(fs.statSync(built).size <= 400 * 1000, `size ${fs.statSync(built).size}`);
     check(!/^@[a-z0-9_./]+@$|@pages@/m.test(html), "no place for a file is left");
 }
 

@@ -148,7 +148,7 @@ export async function pageIsKept(page) {
     await at(page, capability("003d1ffffc1a13910000000000013c08"));
     const foot = await page.run(() => document.querySelector("footer").innerText);
     check(foot.includes(`sources with the hash ${of("--hash")},`), `the foot has the hash: ${foot}`);
-    check(before !== null && before.length <= 360 * 1000, "the tree keeps the page");
+    check(before !== null && before.length <= 400 * 1000, "the tree keeps the page");
     await page.go(pathToFileURL(kept).href + capability("003d1ffffc1a13910000000000013c08"));
     await page.run(tools);
     const opened = await page.run(() => [results(), seen("means").slice(0, 14), [...document.querySelectorAll("footer a")].map((it) => it.href)]);
