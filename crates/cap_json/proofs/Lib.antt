@@ -1,2 +1,2 @@
-mod WordLemmas
+pub mod WordLemmas
 mod MemberLemmas

@@ -53,6 +53,8 @@ lone_rows =
     (codes "access ", Alone, codes "'access':['$','$']") ∷
     (codes "extent ", Alone, codes "'extent':['$','$']") ∷
     (codes "cleared ", Alone, codes "'cleared':{'number':$,'name':'$'}") ∷
+    (codes "before ", Element, codes "{'line':$,'text':'*'}") ∷
+    (codes "wrote ", Element, codes "{'place':'$','line':$,'text':'*'}") ∷
     (codes "origin ", Element, codes "{'place':'$','root':'$'}") ∷
     (codes "owner ", Element, codes "{'place':'$','object':$}") ∷
     (codes "object ", Element, codes "{'number':$,'line':$,'extent':['$','$'],'state':'$','held':$}") ∷ []

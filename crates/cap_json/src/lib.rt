@@ -10,7 +10,7 @@ mod words;
 
 use crate::members::{push_members, push_verdict};
 pub use crate::rows::LogKind;
-use crate::words::cut;
+pub use crate::words::{begins, cut};
 use std::alloc::{AllocError, Global};
 
 /// A report, the lines of a verdict and what follows it, as one object and a line feed.

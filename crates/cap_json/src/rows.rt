@@ -124,6 +124,12 @@ fn lone_rows() -> &'static [Row]
             Place::Alone,
             "'cleared':{'number':$,'name':'$'}",
         ),
+        Row("before ", Place::Element, "{'line':$,'text':'*'}"),
+        Row(
+            "wrote ",
+            Place::Element,
+            "{'place':'$','line':$,'text':'*'}",
+        ),
         Row("origin ", Place::Element, "{'place':'$','root':'$'}"),
         Row("owner ", Place::Element, "{'place':'$','object':$}"),
         Row(

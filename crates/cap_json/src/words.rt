@@ -7,7 +7,7 @@ use std::alloc::AllocError;
 
 /// The bytes before the first of a kind, and those after it; all bytes and none if there is none.
 #[tactic(auto, unfolding(crate::specs::Words::upto, crate::specs::Words::past))]
-pub(crate) fn cut(end: u8, bytes: &[u8]) -> (&[u8], &[u8])
+pub fn cut(end: u8, bytes: &[u8]) -> (&[u8], &[u8])
     ensures before { result.0.now ≡ upto end bytes.now }
     ensures after { result.1.now ≡ past end bytes.now }
     ensures shorter { 0 < length bytes.now → length result.1.now < length bytes.now }
@@ -22,7 +22,7 @@ pub(crate) fn cut(end: u8, bytes: &[u8]) -> (&[u8], &[u8])
 
 /// Whether a line begins with a name.
 #[tactic(auto, unfolding(crate::specs::Words::begins))]
-pub(crate) fn begins(name: &[u8], line: &[u8]) -> bool
+pub fn begins(name: &[u8], line: &[u8]) -> bool
     ensures value { result ≡ begins name.now line.now }
     ensures short { IsTrue result → length name.now ≤ length line.now }
 {

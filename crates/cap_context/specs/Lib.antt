@@ -1,0 +1,4 @@
+pub mod Registers
+pub mod Contexts
+pub mod Recordings
+pub mod Readings

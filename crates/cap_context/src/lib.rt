@@ -1,0 +1,12 @@
+//! The context of a line that a judge refuses: the lines before it, and those that last wrote the registers that it reads.
+//!
+//! A [`Recorder`] is a source that keeps what another gives, and [`push_context`] appends the lines that show the context to a
+//! report.
+#![tactic(auto)]
+
+mod contexts;
+mod recorders;
+mod registers;
+
+pub use crate::contexts::push_context;
+pub use crate::recorders::Recorder;

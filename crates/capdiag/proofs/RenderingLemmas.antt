@@ -1,0 +1,112 @@
+-- Laws of what is shown of a report.
+use Rattle.std.proofs.Common.{◌≡◌, ◌≤◌, ◌↔◌, inl, inr, ℕ, Bool, true, false, ◌||◌, is_some, List, Option, Some, None, IfSome, Result, Ok, Err}
+use Rattle.std.proofs.Common.{refl, sym, ap, subst}
+use Rattle.cap_streams.specs.declared.judging.judge_faults.JudgeFault.{JudgeFault}
+use Rattle.cap_json.specs.declared.rows.LogKind.{LogKind}
+use Rattle.cap_program.specs.declared.faults.Fault.{Fault, TheVariants.{BadWords, BadWord, BadRequest, Read, Write, NoMemory}}
+use Rattle.cap_program.specs.{Doings.{IsCounted, IsDone}, Faults.status_of, Judging.StopsJudging}
+use Rattle.cap_program.proofs.Judgements.{stopped_unfaulty}
+use Rattle.capdiag.specs.{declared.forms.Form.Form, Renderings.{IsPut, Lacks, Renders, in_context, in_object, rendered}}
+
+-- what holds of a value, if there is one
+pub if_some : {A : Type 0} {P Q : A → Type 0} (found : Option A) → IfSome found P → ((a : A) → P a → Q a) → IfSome found Q
+if_some None holds more = tt
+if_some (Some a) holds more = more a holds
+
+-- what was done for an order whose report was kept: what is shown of it was pushed
+module _ (form : Form) (kind : LogKind) (bytes : List ℕ) (shows : Bool → List ℕ → ℕ → Type 0) (stops : Fault → Type 0) (ended : Bool)
+    (report : List ℕ) (kept : List ℕ → Type 0) (is_kept : (text : List ℕ) → kept text → report ≡ text) (took : List ℕ → Type 0) where
+  -- it is what is shown of the report
+  text_is : (text : List ℕ) → kept text → rendered form kind bytes report ≡ rendered form kind bytes text
+  text_is text k = ap (rendered form kind bytes) (is_kept text k)
+
+  -- what was done then
+  abbrev AnswerIs : Result ℕ Fault → Type 0
+  AnswerIs answer = IsDone (Renders form kind bytes (shows ended)) (Lacks true shows stops) took answer
+
+  pub kept_done : (done answer : Result ℕ Fault) → IsDone (shows ended) stops kept done
+      → IsPut (rendered form kind bytes report) took done answer → IsDone (Renders form kind bytes (shows ended)) (Lacks true shows stops) took answer
+  kept_done (Ok status) (Ok other) d o =
+      (rendered form kind bytes report, (d.0, subst (λ (s : ℕ). shows ended d.0 s) (sym o.0) d.1, text_is d.0 d.2), o.1)
+  kept_done (Ok status) (Err Write) d o = (rendered form kind bytes report, status, (d.0, d.1, text_is d.0 d.2), o.0, o.1)
+  kept_done (Ok status) (Err NoMemory) d o = (inr (ended, d.0, status, d.1), o)
+  kept_done (Ok status) (Err BadWords) d o = absurd o
+  kept_done (Ok status) (Err BadWord) d o = absurd o
+  kept_done (Ok status) (Err BadRequest) d o = absurd o
+  kept_done (Ok status) (Err Read) d o = absurd o
+  kept_done (Err Write) answer d o = subst AnswerIs (sym o.0) (inr (ended, d.0, d.1, d.2), o.1)
+  kept_done (Err NoMemory) answer d o = subst AnswerIs (sym o.0) (inl d.0, o.1)
+  kept_done (Err BadWords) answer d o = subst AnswerIs (sym o.0) (d.0, o.1)
+  kept_done (Err BadWord) answer d o = subst AnswerIs (sym o.0) (d.0, o.1)
+  kept_done (Err BadRequest) answer d o = subst AnswerIs (sym o.0) (d.0, o.1)
+  kept_done (Err Read) answer d o = subst AnswerIs (sym o.0) (d.0, o.1)
+
+-- a report that isn't kept is shown as it is
+module _ (kind : LogKind) (bytes : List ℕ) (shows : Bool → List ℕ → ℕ → Type 0) (stops : Fault → Type 0) (ended : Bool)
+    (took : List ℕ → Type 0) where
+  plain_forms : (answer : Result ℕ Fault) → IsDone (shows ended) stops took answer
+      → IsDone (λ text status. (report : List ℕ) × shows ended report status × (text ≡ report)) stops took answer
+  plain_forms (Ok status) d = (d.0, (d.0, d.1, refl), d.2)
+  plain_forms (Err Write) d = (d.0, d.1, (d.0, d.2, refl), d.3, d.4)
+  plain_forms (Err NoMemory) d = d
+  plain_forms (Err BadWords) d = d
+  plain_forms (Err BadWord) d = d
+  plain_forms (Err BadRequest) d = d
+  plain_forms (Err Read) d = d
+
+  pub plain_done : (json : Bool) (context : Option ℕ) (answer : Result ℕ Fault) → (json || is_some context) ≡ false
+      → IsDone (shows ended) stops took answer
+      → IsDone (λ text status. (report : List ℕ) × shows ended report status × (text ≡ in_object json kind (in_context context bytes report)))
+      (Lacks (json || is_some context) shows stops) took answer
+  plain_done true context answer plain d = absurd (cc)
+  plain_done false (Some count) answer plain d = absurd (cc)
+  plain_done false None answer plain d = plain_forms answer d
+
+-- a fault of the input is one of what was done for the order
+pub kept_read : (text : List ℕ) (took : List ℕ → Type 0) (before after : ℕ) (done answer : Result ℕ Fault)
+    → IsPut text took done answer → IsCounted Read done before after → IsCounted Read answer before after
+kept_read text took before after (Ok status) (Ok other) o c =
+    record { counted = λ is. absurd (cc); uncounted = λ other. c.uncounted (λ is. cc) }
+kept_read text took before after (Ok status) (Err Write) o c =
+    record { counted = λ is. absurd (cc); uncounted = λ other. c.uncounted (λ is. cc) }
+kept_read text took before after (Ok status) (Err NoMemory) o c =
+    record { counted = λ is. absurd (cc); uncounted = λ other. c.uncounted (λ is. cc) }
+kept_read text took before after (Ok status) (Err BadWords) o c = absurd o
+kept_read text took before after (Ok status) (Err BadWord) o c = absurd o
+kept_read text took before after (Ok status) (Err BadRequest) o c = absurd o
+kept_read text took before after (Ok status) (Err Read) o c = absurd o
+kept_read text took before after (Err Write) answer o c =
+    subst (λ (a : Result ℕ Fault). IsCounted Read a before after) (sym o.0)
+    (record { counted = λ is. absurd (cc); uncounted = λ other. c.uncounted (λ is. cc) })
+kept_read text took before after (Err NoMemory) answer o c =
+    subst (λ (a : Result ℕ Fault). IsCounted Read a before after) (sym o.0) c
+kept_read text took before after (Err BadWords) answer o c =
+    subst (λ (a : Result ℕ Fault). IsCounted Read a before after) (sym o.0) c
+kept_read text took before after (Err BadWord) answer o c =
+    subst (λ (a : Result ℕ Fault). IsCounted Read a before after) (sym o.0) c
+kept_read text took before after (Err BadRequest) answer o c =
+    subst (λ (a : Result ℕ Fault). IsCounted Read a before after) (sym o.0) c
+kept_read text took before after (Err Read) answer o c =
+    subst (λ (a : Result ℕ Fault). IsCounted Read a before after) (sym o.0) c
+
+-- the status of what is shown is that of the report
+pub renders_few : (form : Form) (kind : LogKind) (bytes : List ℕ) (shows : List ℕ → ℕ → Type 0) (text : List ℕ) (status : ℕ)
+    → ((report : List ℕ) → shows report status → status ≤ 1) → Renders form kind bytes shows text status → status ≤ 1
+renders_few form kind bytes shows text status few renders = few renders.0 renders.1
+
+-- an order that judges is not at fault where there is no text
+pub lacking_unfaulty : {V : Type 0} (kept : Bool) (shows : Bool → List ℕ → ℕ → Type 0) (answers : Result V JudgeFault → Type 0) (fault : Fault)
+    → Lacks kept shows (StopsJudging answers) fault → (status_of fault ≡ 2) ↔ ⊥
+lacking_unfaulty false shows answers fault lacks = stopped_unfaulty answers fault lacks
+lacking_unfaulty true shows answers NoMemory lacks = (λ two. absurd (cc), λ faulty. absurd faulty)
+lacking_unfaulty true shows answers BadWords lacks = stopped_unfaulty answers BadWords lacks
+lacking_unfaulty true shows answers BadWord lacks = stopped_unfaulty answers BadWord lacks
+lacking_unfaulty true shows answers BadRequest lacks = stopped_unfaulty answers BadRequest lacks
+lacking_unfaulty true shows answers Read lacks = stopped_unfaulty answers Read lacks
+lacking_unfaulty true shows answers Write lacks = stopped_unfaulty answers Write lacks
+
+-- there is no text where the input fails
+pub lacks_read : {V : Type 0} (kept : Bool) (shows : Bool → List ℕ → ℕ → Type 0) (answers : Result V JudgeFault → Type 0)
+    → answers (Err JudgeFault.Pull) → Lacks kept shows (StopsJudging answers) Read
+lacks_read false shows answers stops = stops
+lacks_read true shows answers stops = stops
