@@ -5,9 +5,9 @@ _capcheck_options() {
     case $1 in
         'capcheck explain') echo '--memory --tag' ;;
         'capcheck judge') echo '--origins' ;;
-        'capdiag why') echo '--origins --json' ;;
-        'capdiag heap') echo '--report --why --json' ;;
-        'capdiag run') echo '--freed --owned --owners --why --json' ;;
+        'capdiag why') echo '--origins --context --json' ;;
+        'capdiag heap') echo '--report --why --context --json' ;;
+        'capdiag run') echo '--freed --owned --owners --why --context --json' ;;
     esac
 }
 
@@ -23,6 +23,11 @@ _capcheck() {
     fi
     if [ "$program $command ${COMP_WORDS[COMP_CWORD-1]}" = 'capdiag run --freed' ]; then
         mapfile -t COMPREPLY < <(compgen -W 'held used both' -- "$word")
+        return
+    fi
+    # A number of lines is not offered.
+    if [ "$program ${COMP_WORDS[COMP_CWORD-1]}" = 'capdiag --context' ]; then
+        COMPREPLY=()
         return
     fi
     # An option that was given is left out, in capcheck with those that come before it, and after -- each is.

@@ -5,6 +5,7 @@ complete -c capdiag -n __fish_use_subcommand -f -a run -d 'the verdict on a run 
 complete -c capdiag -n __fish_use_subcommand -f -l help -d 'how the program is used'
 complete -c capdiag -n __fish_use_subcommand -f -l version -d 'its version'
 complete -c capdiag -n '__fish_seen_subcommand_from why heap run' -l help -d 'how it is used'
+complete -c capdiag -n '__fish_seen_subcommand_from why heap run' -x -l context -d 'after a no, the lines before, and those that wrote the registers'
 complete -c capdiag -n '__fish_seen_subcommand_from why heap run' -l json -d 'an object of JSON'
 complete -c capdiag -n '__fish_seen_subcommand_from why' -l origins -d 'after a yes, the root of each tagged capability'
 complete -c capdiag -n '__fish_seen_subcommand_from heap' -l report -d 'after a yes, what exact bounds would cost'

@@ -21,21 +21,23 @@ offers() {
 }
 offers 'capdiag ' why heap run --help --version
 offers 'capdiag w' why
-offers 'capdiag why ' --origins --json --help
+offers 'capdiag why ' --origins --context --json --help
 offers 'capdiag why --o' --origins
-offers 'capdiag why --origins -' --json
-offers 'capdiag why --json --origins -'
-offers 'capdiag heap ' --report --why --json --help
-offers 'capdiag heap --report -' --why --json
-offers 'capdiag heap --why -' --report --json
-offers 'capdiag heap --why log --json --' --report
-offers 'capdiag heap --why --report -' --json
+offers 'capdiag why --origins -' --context --json
+offers 'capdiag why --context '
+offers 'capdiag why --context 3 -' --origins --json
+offers 'capdiag why --json --origins -' --context
+offers 'capdiag heap ' --report --why --context --json --help
+offers 'capdiag heap --report -' --why --context --json
+offers 'capdiag heap --why -' --report --context --json
+offers 'capdiag heap --why log --json --' --report --context
+offers 'capdiag heap --why --report -' --context --json
 offers 'capdiag why log --o' --origins
-offers 'capdiag run ' --freed --owned --owners --why --json --help
+offers 'capdiag run ' --freed --owned --owners --why --context --json --help
 offers 'capdiag run --freed ' held used both
 offers 'capdiag run --freed u' used
-offers 'capdiag run --freed used --' --owned --owners --why --json
-offers 'capdiag run log --owned --' --freed --owners --why --json
+offers 'capdiag run --freed used --' --owned --owners --why --context --json
+offers 'capdiag run log --owned --' --freed --owners --why --context --json
 offers 'capdiag why -- -'
 offers 'capcheck ' explain round judge vectors
 offers 'capcheck j' judge
@@ -49,7 +51,7 @@ _capcheck capcheck capcheck.f judge
 ! command -v zsh > /dev/null || zsh -n _capcheck
 if command -v fish > /dev/null; then
     got=$(fish -c 'source capdiag.fish; complete -C "capdiag heap --"' | cut -f 1 | sort | tr '\n' ' ')
-    [ "$got" = '--help --json --report --why ' ] || { echo "completions: fish completes 'capdiag heap --' by $got" >&2; exit 1; }
+    [ "$got" = '--context --help --json --report --why ' ] || { echo "completions: fish completes 'capdiag heap --' by $got" >&2; exit 1; }
     got=$(fish -c 'source capcheck.fish; complete -C "capcheck "' | cut -f 1 | sort | tr '\n' ' ')
     [ "$got" = 'explain judge round vectors ' ] || { echo "completions: fish completes 'capcheck ' by $got" >&2; exit 1; }
 fi

@@ -1,14 +1,17 @@
 #!/usr/bin/env python3
-"""Checks what `capdiag --json` prints, on logs drawn at random, against its schema and against the report without --json.
+"""Checks what `capdiag --json` and `--context` print, on logs drawn at random, against the schema and against the report without
+these options.
 
     python3 conformance/json_logs.py CAPDIAG [LOGS [SEED]]
 
 The logs are those of machines, of allocators and of programs, half of them with a line changed, cut, doubled or left out. Each is
 read from a file and from standard input. What is printed has to be valid by docs/report.schema.json, and exactly the object that
-this script makes of the report by the schema. The status is 1 if anything differs."""
+this script makes of the report by the schema; and the context exactly what this script finds in the log. The status is 1 if
+anything differs."""
 import json
 import os
 import random
+import re
 import subprocess
 import sys
 import tempfile
@@ -35,7 +38,7 @@ def value_of(schema, words):
     if schema.get("type") == "object":
         fields = {}
         for name, field in schema["properties"].items():
-            fields[name], words = value_of(field, words)
+            fields[name], words = (" ".join(words), []) if name == "text" else value_of(field, words)
         return fields, words
     return words[0], words[1:]
 
@@ -79,6 +82,32 @@ def object_of(report, command):
     return it
 
 
+def written_by(words):
+    """Whether a line writes its first operand: a root, a drop, and a step that records a capability, after = by its tag."""
+    results = (words + [""] * 6)[3:6]
+    return words[0] in ("root", "drop") or any(mark == "=" and len(tag) == 1 for mark, tag in zip(results, results[1:]))
+
+
+def context_of(count, log, report):
+    """The lines that --context adds to a report: those before the faulty line, and those that last wrote what it reads."""
+    verdict, number, *_ = report.split("\n")[0].split(" ")
+    if verdict == "yes":
+        return ""
+    lines = [line.decode("latin-1") for line in log.split(b"\n")]
+    at = int(number) - 1
+    text = "".join(f"before {n + 1} {lines[n]}\n" for n in range(max(0, at - count), at))
+    words = lines[at].split(" ") if at < len(lines) else [""]
+    reads = words[2:4] if written_by(words) else words[1:4]
+    for register in dict.fromkeys(word for word in reads if re.fullmatch("(c|scr)[0-9]{1,2}", word)):
+        for n in reversed(range(at)):
+            before = lines[n].split(" ")
+            written = ["scr0", "c31"] if before[0] == "invoke" else [before[1]] if written_by(before) else []
+            if register in written + (before[3:4] if before[0] == "exchange" else []):
+                text += f"wrote {register} {n + 1} {lines[n]}\n"
+                break
+    return text
+
+
 class Valid:
     """Whether an object is valid: by the package jsonschema, or else by the keywords that the schema uses."""
 
@@ -97,7 +126,6 @@ class Valid:
         return all(name in it for name in wanted) and self.holds(SCHEMA, it)
 
     def holds(self, schema, it):
-        import re
         schema = SCHEMA["$defs"]["capability"] if "$ref" in schema else schema
         if "enum" in schema:
             return it in schema["enum"]
@@ -141,13 +169,21 @@ def main():
     with tempfile.TemporaryDirectory() as folder:
         path = os.path.join(folder, "log")
         for number in range(count):
-            command, options, log = drawn(random.Random(seed * 1000003 + number), known)
+            rng = random.Random(seed * 1000003 + number)
+            command, options, log = drawn(rng, known)
+            context = rng.choice([[], ["--context", str(rng.choice([0, 1, 2, 5, 99]))]])
             with open(path, "wb") as it:
                 it.write(log)
             plain = subprocess.run([program, command, *options, path], capture_output=True, check=False)
-            read = subprocess.run([program, command, *options, "--json", path], capture_output=True, check=False)
-            piped = subprocess.run([program, command, "--json", *options], input=log, capture_output=True, check=False)
+            read = subprocess.run([program, command, *options, *context, "--json", path], capture_output=True, check=False)
+            piped = subprocess.run([program, command, "--json", *context, *options], input=log, capture_output=True, check=False)
             report = plain.stdout.decode("ascii")
+            if context:
+                report += context_of(int(context[1]), log, report)
+                shown = subprocess.run([program, command, *context, *options], input=log, capture_output=True, check=False)
+                if shown.stdout.decode("ascii") != report:
+                    wrong += 1
+                    print(f"log {number}, {command} {' '.join(options + context)}: {shown.stdout!r}, and not {report!r}")
             command = "run" if command == "why" and log.startswith(b"run 1\n") else command
             wanted = object_of(report, command)
             names[command + " " + wanted.get("name", "yes")] += 1
@@ -155,8 +191,8 @@ def main():
             same = all((it.stdout, it.stderr, it.returncode) == (printed, plain.stderr, plain.returncode) for it in (read, piped))
             if not (same and valid(wanted)):
                 wrong += 1
-                print(f"log {number}, {command} {' '.join(options)}: {read.stdout!r}, and not {printed!r}")
-    print(f"{count} logs with --json, by the schema and by the reports: {wrong} otherwise")
+                print(f"log {number}, {command} {' '.join(options + context)}: {read.stdout!r}, and not {printed!r}")
+    print(f"{count} logs with --json, half with --context, by the schema and by the reports: {wrong} otherwise")
     print(", ".join(f"{name} {many}" for name, many in sorted(names.items())))
     return 1 if wrong else 0
 

@@ -1,5 +1,5 @@
 mod ComplaintLemmas
 mod HeapLemmas
-mod ObjectLemmas
+mod RenderingLemmas
 mod RunLogLemmas
 mod RunLemmas

@@ -15,8 +15,9 @@ use Rattle.cap_program.specs.{Faults.status_of, Judging.{ShowsVerdict, StopsJudg
 use Rattle.cap_program.proofs.Judgements.{known_of}
 use Rattle.capdiag.specs.declared.words.Order.{Order, TheVariants.{Help, Version, Why, Heap, Run}}
 use Rattle.cap_run_judge.specs.Judgings.{IsAnswerOf as IsRunAnswerOf}
+use Rattle.capdiag.specs.Forms.{is_kept}
 use Rattle.capdiag.specs.Answers.{Fails, IsFaulty, Prints, PrintsWhy, Shows, ShowsHeap, ShowsRun, ShowsWhy, asks_of, order_meaning}
-use Rattle.capdiag.proofs.{HeapLemmas.{heap_few, heap_known}, ObjectLemmas.{lacking_unfaulty, renders_few, renders_more}}
+use Rattle.capdiag.proofs.{HeapLemmas.{heap_few, heap_known}, RenderingLemmas.{lacking_unfaulty, renders_few}}
 use Rattle.capdiag.proofs.RunLogLemmas.{run_few, run_known}
 use Rattle.cap_json.specs.declared.rows.LogKind.{LogKind}
 use Rattle.cap_run.specs.declared.asks.Asks.{Asks}
@@ -79,27 +80,48 @@ shows_known : (order : Option Order) (left rest : Option (List ℕ)) (given : Li
 shows_known None left rest given ended text status gives all shows = absurd shows
 shows_known (Some Help) left rest given ended text status gives all shows = shows
 shows_known (Some Version) left rest given ended text status gives all shows = shows
-shows_known (Some (Why origins json file)) left rest given ended text status gives all shows =
+shows_known (Some (Why origins form file)) left rest given ended text status gives all shows =
     let k = known_of left rest given ended gives all in (
       k.bytes,
       k.are,
-      renders_more json LogKind.Machine (ShowsWhy origins given ended) (PrintsWhy origins k.bytes) text status
-          (λ report is. why_known origins k.bytes given k.more ended report status k.bytes_are k.none_more is) shows,
+      (
+        given,
+        ended,
+        (k.more, k.bytes_are, k.none_more),
+        shows.0,
+        shows.1,
+        why_known origins k.bytes given k.more ended shows.0 status k.bytes_are k.none_more shows.1,
+        shows.2,
+      ),
     )
-shows_known (Some (Heap report why json file)) left rest given ended text status gives all shows =
+shows_known (Some (Heap report why form file)) left rest given ended text status gives all shows =
     let k = known_of left rest given ended gives all in (
       k.bytes,
       k.are,
-      renders_more json LogKind.Heap (ShowsHeap report why given ended) (ShowsHeap report why k.bytes true) text status
-          (λ told is. heap_known report why k.bytes given k.more ended told status k.bytes_are k.none_more is) shows,
+      (
+        given,
+        ended,
+        (k.more, k.bytes_are, k.none_more),
+        shows.0,
+        shows.1,
+        heap_known report why k.bytes given k.more ended shows.0 status k.bytes_are k.none_more shows.1,
+        shows.2,
+      ),
     )
-shows_known (Some (Run freed owned owners why json file)) left rest given ended text status gives all shows =
+shows_known (Some (Run freed owned owners why form file)) left rest given ended text status gives all shows =
     let k = known_of left rest given ended gives all in
     let asks = asks_of freed owned in (
       k.bytes,
       k.are,
-      renders_more json LogKind.Run (ShowsRun asks owners why given ended) (ShowsRun asks owners why k.bytes true) text status
-          (λ report is. run_known asks owners why k.bytes given k.more ended report status k.bytes_are k.none_more is) shows,
+      (
+        given,
+        ended,
+        (k.more, k.bytes_are, k.none_more),
+        shows.0,
+        shows.1,
+        run_known asks owners why k.bytes given k.more ended shows.0 status k.bytes_are k.none_more shows.1,
+        shows.2,
+      ),
     )
 
 -- the status of a text
@@ -108,13 +130,13 @@ few : (order : Option Order) (given : List ℕ) (ended : Bool) (text : List ℕ)
 few None given ended text status shows = absurd shows
 few (Some Help) given ended text status shows = let is = shows.1 in omega arith
 few (Some Version) given ended text status shows = let is = shows.1 in omega arith
-few (Some (Why origins json file)) given ended text status shows =
-    renders_few json LogKind.Machine (ShowsWhy origins given ended) text status (λ report is. why_few origins given ended report status is) shows
-few (Some (Heap report why json file)) given ended text status shows =
-    renders_few json LogKind.Heap (ShowsHeap report why given ended) text status
+few (Some (Why origins form file)) given ended text status shows =
+    renders_few form LogKind.Machine given (ShowsWhy origins given ended) text status (λ report is. why_few origins given ended report status is) shows
+few (Some (Heap report why form file)) given ended text status shows =
+    renders_few form LogKind.Heap given (ShowsHeap report why given ended) text status
     (λ told is. shown_heap_few report why given ended told status is) shows
-few (Some (Run freed owned owners why json file)) given ended text status shows =
-    renders_few json LogKind.Run (ShowsRun (asks_of freed owned) owners why given ended) text status
+few (Some (Run freed owned owners why form file)) given ended text status shows =
+    renders_few form LogKind.Run given (ShowsRun (asks_of freed owned) owners why given ended) text status
     (λ report is. shown_run_few (asks_of freed owned) owners why given ended report status is) shows
 
 -- an order with a text can be followed
@@ -130,12 +152,12 @@ asked_fault None given BadWords fails = (λ two. tt, λ faulty. refl)
 asked_fault None given fault fails = absurd fails
 asked_fault (Some Help) given fault fails = absurd fails
 asked_fault (Some Version) given fault fails = absurd fails
-asked_fault (Some (Why origins json file)) given fault fails =
-    lacking_unfaulty json (ShowsWhy origins given) (IsAnswerOf given true) fault fails
-asked_fault (Some (Heap report why json file)) given fault fails =
-    lacking_unfaulty json (ShowsHeap report why given) (IsHeapAnswerOf given true) fault fails
-asked_fault (Some (Run freed owned owners why json file)) given fault fails =
-    lacking_unfaulty json (ShowsRun (asks_of freed owned) owners why given) (IsRunAnswerOf (asks_of freed owned) given true) fault fails
+asked_fault (Some (Why origins form file)) given fault fails =
+    lacking_unfaulty (is_kept form) (ShowsWhy origins given) (IsAnswerOf given true) fault fails
+asked_fault (Some (Heap report why form file)) given fault fails =
+    lacking_unfaulty (is_kept form) (ShowsHeap report why given) (IsHeapAnswerOf given true) fault fails
+asked_fault (Some (Run freed owned owners why form file)) given fault fails =
+    lacking_unfaulty (is_kept form) (ShowsRun (asks_of freed owned) owners why given) (IsRunAnswerOf (asks_of freed owned) given true) fault fails
 
 -- the meaning of an order, its faults and its status agree
 pub orders_meant : IsMeant order_meaning

@@ -14,7 +14,7 @@ use Rattle.cap_program.specs.{declared.faults.Fault.{Fault, TheVariants.BadWords
 use Rattle.cap_program.specs.Judging.{ShowsVerdict, StopsJudging}
 use Rattle.capdiag.specs.declared.words.Order.{Order, TheVariants.{Help, Version, Why, Heap, Run}}
 use Rattle.capdiag.specs.declared.words.Freed.{Freed, TheVariants.{Held, Used, Both}}
-use Rattle.capdiag.specs.{Renderings.{Lacks, Renders}, Showings.{help_text, version_line}}
+use Rattle.capdiag.specs.{Forms.is_kept, Renderings.{Lacks, Renders, RendersAll}, Showings.{help_text, version_line}}
 
 -- the text of the verdict on the bytes given as the log of a machine, with the origins where they are asked for, and its
 -- status
@@ -57,13 +57,13 @@ abbrev pub Prints : Option Order → Option (List ℕ) → List ℕ → ℕ → 
 Prints None input text status = ⊥
 Prints (Some Help) input text status = (text ≡ help_text) × (status ≡ 0)
 Prints (Some Version) input text status = (text ≡ version_line) × (status ≡ 0)
-Prints (Some (Why origins json file)) input text status =
-    (bytes : List ℕ) × IfSome input (λ known. known ≡ bytes) × Renders json Machine (PrintsWhy origins bytes) text status
-Prints (Some (Heap report why json file)) input text status =
-    (bytes : List ℕ) × IfSome input (λ known. known ≡ bytes) × Renders json OfHeap (ShowsHeap report why bytes true) text status
-Prints (Some (Run freed owned owners why json file)) input text status =
+Prints (Some (Why origins form file)) input text status =
+    (bytes : List ℕ) × IfSome input (λ known. known ≡ bytes) × RendersAll form Machine bytes (ShowsWhy origins) (PrintsWhy origins bytes) text status
+Prints (Some (Heap report why form file)) input text status =
+    (bytes : List ℕ) × IfSome input (λ known. known ≡ bytes) × RendersAll form OfHeap bytes (ShowsHeap report why) (ShowsHeap report why bytes true) text status
+Prints (Some (Run freed owned owners why form file)) input text status =
     (bytes : List ℕ) × IfSome input (λ known. known ≡ bytes)
-    × Renders json OfRun (ShowsRun (asks_of freed owned) owners why bytes true) text status
+    × RendersAll form OfRun bytes (ShowsRun (asks_of freed owned) owners why) (ShowsRun (asks_of freed owned) owners why bytes true) text status
 
 -- an order that cannot be followed: there is none
 abbrev pub IsFaulty : Option Order → Type 0
@@ -72,9 +72,9 @@ IsFaulty (Some order) = ⊥
 
 -- an order that reads an input: each that judges
 abbrev pub ReadsInput : Option Order → Type 0
-ReadsInput (Some (Why origins json file)) = Unit {0}
-ReadsInput (Some (Heap report why json file)) = Unit {0}
-ReadsInput (Some (Run freed owned owners why json file)) = Unit {0}
+ReadsInput (Some (Why origins form file)) = Unit {0}
+ReadsInput (Some (Heap report why form file)) = Unit {0}
+ReadsInput (Some (Run freed owned owners why form file)) = Unit {0}
 ReadsInput order = ⊥
 
 -- the text that belongs to an order and the bytes given for it, and its status
@@ -82,20 +82,20 @@ abbrev pub Shows : Option Order → List ℕ → Bool → List ℕ → ℕ → T
 Shows None given ended text status = ⊥
 Shows (Some Help) given ended text status = (text ≡ help_text) × (status ≡ 0)
 Shows (Some Version) given ended text status = (text ≡ version_line) × (status ≡ 0)
-Shows (Some (Why origins json file)) given ended text status =
-    Renders json Machine (ShowsWhy origins given ended) text status
-Shows (Some (Heap report why json file)) given ended text status = Renders json OfHeap (ShowsHeap report why given ended) text status
-Shows (Some (Run freed owned owners why json file)) given ended text status =
-    Renders json OfRun (ShowsRun (asks_of freed owned) owners why given ended) text status
+Shows (Some (Why origins form file)) given ended text status =
+    Renders form Machine given (ShowsWhy origins given ended) text status
+Shows (Some (Heap report why form file)) given ended text status = Renders form OfHeap given (ShowsHeap report why given ended) text status
+Shows (Some (Run freed owned owners why form file)) given ended text status =
+    Renders form OfRun given (ShowsRun (asks_of freed owned) owners why given ended) text status
 
 -- the fault that belongs to an order and the bytes given for it, but for one of the output
 abbrev pub Fails : Option Order → List ℕ → Fault → Type 0
 Fails None given BadWords = Unit {0}
-Fails (Some (Why origins json file)) given fault = Lacks json (ShowsWhy origins given) (StopsJudging (IsAnswerOf given true)) fault
-Fails (Some (Heap report why json file)) given fault =
-    Lacks json (ShowsHeap report why given) (StopsJudging (IsHeapAnswerOf given true)) fault
-Fails (Some (Run freed owned owners why json file)) given fault =
-    Lacks json (ShowsRun (asks_of freed owned) owners why given) (StopsJudging (IsRunAnswerOf (asks_of freed owned) given true)) fault
+Fails (Some (Why origins form file)) given fault = Lacks (is_kept form) (ShowsWhy origins given) (StopsJudging (IsAnswerOf given true)) fault
+Fails (Some (Heap report why form file)) given fault =
+    Lacks (is_kept form) (ShowsHeap report why given) (StopsJudging (IsHeapAnswerOf given true)) fault
+Fails (Some (Run freed owned owners why form file)) given fault =
+    Lacks (is_kept form) (ShowsRun (asks_of freed owned) owners why given) (StopsJudging (IsRunAnswerOf (asks_of freed owned) given true)) fault
 Fails order given fault = ⊥
 
 -- what the orders of the program mean

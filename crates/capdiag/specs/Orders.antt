@@ -4,10 +4,11 @@ use Rattle.std.specs.Prelude.{Option, Some, None, is_some, option_map, Result, O
 use Rattle.cap_program.specs.Words.{is_operand}
 use Rattle.capdiag.specs.declared.complaints.Complaint.{Complaint}
 use Rattle.capdiag.specs.declared.complaints.Complaint.TheVariants.{NoCommand, UnknownCommand, UnknownOption, NoValue, UnknownValue}
-use Rattle.capdiag.specs.declared.complaints.Complaint.TheVariants.{SecondFile, Twice, Alone}
+use Rattle.capdiag.specs.declared.complaints.Complaint.TheVariants.{NoCount, UnknownCount, SecondFile, Twice, Alone}
+use Rattle.capdiag.specs.Forms.{count_of, plain, with_json, with_lines}
 use Rattle.capdiag.specs.declared.words.Order.{Order, TheVariants.{Help, Version, Why, Heap, Run}}
 use Rattle.capdiag.specs.declared.words.Freed.TheVariants.{Held, Used, Both}
-use Rattle.capdiag.specs.declared.words.Due.{Due, TheVariants.{Any, Value, File}}
+use Rattle.capdiag.specs.declared.words.Due.{Due, TheVariants.{Any, FreedValue, ContextValue, File}}
 
 -- what is asked for: what the next word is, an order that doesn't have its file yet, and the operand
 abbrev pub Asked : Type 0
@@ -24,45 +25,71 @@ once true order = Err Twice
 
 -- an order with one option more
 abbrev pub with_option : Order → List ℕ → Result Order Complaint
-with_option (Why origins json file) word =
-    if bytes_eq word (codes "--origins") then once origins (Why true json file)
-    else if bytes_eq word (codes "--json") then once json (Why origins true file)
+with_option (Why origins form file) word =
+    if bytes_eq word (codes "--origins") then once origins (Why true form file)
+    else if bytes_eq word (codes "--json") then once form.json (Why origins (with_json form) file)
     else Err UnknownOption
-with_option (Heap report why json file) word =
-    if bytes_eq word (codes "--report") then once report (Heap true why json file)
-    else if bytes_eq word (codes "--why") then once why (Heap report true json file)
-    else if bytes_eq word (codes "--json") then once json (Heap report why true file)
+with_option (Heap report why form file) word =
+    if bytes_eq word (codes "--report") then once report (Heap true why form file)
+    else if bytes_eq word (codes "--why") then once why (Heap report true form file)
+    else if bytes_eq word (codes "--json") then once form.json (Heap report why (with_json form) file)
     else Err UnknownOption
-with_option (Run freed owned owners why json file) word =
-    if bytes_eq word (codes "--owned") then once owned (Run freed true owners why json file)
-    else if bytes_eq word (codes "--owners") then once owners (Run freed owned true why json file)
-    else if bytes_eq word (codes "--why") then once why (Run freed owned owners true json file)
-    else if bytes_eq word (codes "--json") then once json (Run freed owned owners why true file)
+with_option (Run freed owned owners why form file) word =
+    if bytes_eq word (codes "--owned") then once owned (Run freed true owners why form file)
+    else if bytes_eq word (codes "--owners") then once owners (Run freed owned true why form file)
+    else if bytes_eq word (codes "--why") then once why (Run freed owned owners true form file)
+    else if bytes_eq word (codes "--json") then once form.json (Run freed owned owners why (with_json form) file)
     else Err UnknownOption
 with_option order word = Err UnknownOption
 
--- whether a word is an option of the order that takes a value, and whether the order has that value
-abbrev pub takes_value : Order → List ℕ → Bool
-takes_value (Run freed owned owners why json file) word = bytes_eq word (codes "--freed")
-takes_value order word = false
+-- the value that is due after a word, if it is an option of the order that takes one
+abbrev pub value_due : Order → List ℕ → Option Due
+value_due (Run freed owned owners why form file) word =
+    if bytes_eq word (codes "--freed") then Some FreedValue else if bytes_eq word (codes "--context") then Some ContextValue else None
+value_due (Why origins form file) word = if bytes_eq word (codes "--context") then Some ContextValue else None
+value_due (Heap report why form file) word = if bytes_eq word (codes "--context") then Some ContextValue else None
+value_due order word = None
 
-abbrev pub has_value : Order → Bool
-has_value (Run freed owned owners why json file) = is_some freed
-has_value order = false
+-- whether the order has that value
+abbrev pub has_value : Order → Due → Bool
+has_value (Run freed owned owners why form file) FreedValue = is_some freed
+has_value (Run freed owned owners why form file) due = is_some form.context
+has_value (Why origins form file) due = is_some form.context
+has_value (Heap report why form file) due = is_some form.context
+has_value order due = false
 
--- an order with the value of its option
-abbrev pub with_value : Order → List ℕ → Result Order Complaint
-with_value (Run freed owned owners why json file) word =
-    if bytes_eq word (codes "held") then Ok (Run (Some Held) owned owners why json file)
-    else if bytes_eq word (codes "used") then Ok (Run (Some Used) owned owners why json file)
-    else if bytes_eq word (codes "both") then Ok (Run (Some Both) owned owners why json file)
+-- an order with the value of --freed
+abbrev pub with_freed : Order → List ℕ → Result Order Complaint
+with_freed (Run freed owned owners why form file) word =
+    if bytes_eq word (codes "held") then Ok (Run (Some Held) owned owners why form file)
+    else if bytes_eq word (codes "used") then Ok (Run (Some Used) owned owners why form file)
+    else if bytes_eq word (codes "both") then Ok (Run (Some Both) owned owners why form file)
     else Err UnknownValue
-with_value order word = Err UnknownValue
+with_freed order word = Err UnknownValue
+
+-- an order with the value of --context
+abbrev pub with_count : Order → ℕ → Result Order Complaint
+with_count (Why origins form file) count = Ok (Why origins (with_lines form count) file)
+with_count (Heap report why form file) count = Ok (Heap report why (with_lines form count) file)
+with_count (Run freed owned owners why form file) count = Ok (Run freed owned owners why (with_lines form count) file)
+with_count order count = Err UnknownCount
+
+abbrev pub counted : Order → Option ℕ → Result Order Complaint
+counted order (Some count) = with_count order count
+counted order None = Err UnknownCount
+
+abbrev pub with_context : Order → List ℕ → Result Order Complaint
+with_context order word = counted order (count_of word)
 
 -- what is asked for after an option
 abbrev pub after_option : Asked → List ℕ → Result Order Complaint → Read
 after_option (due, order, operand) word (Ok more) = Ok (due, more, operand)
 after_option asked word (Err complaint) = Err (complaint, word)
+
+-- what is asked for after an option, by the value that is due then
+abbrev pub after_name : Asked → List ℕ → Option Due → Read
+after_name (any, order, operand) word (Some due) = after_option (due, order, operand) word (once (has_value order due) order)
+after_name (any, order, operand) word None = after_option (any, order, operand) word (with_option order word)
 
 -- what is asked for with one operand more: there is one at most
 abbrev pub with_operand : Asked → List ℕ → Read
@@ -75,18 +102,19 @@ is_taken word = bytes_eq word (codes "-") || is_operand word
 
 -- what is asked for with one word more
 abbrev pub with_word : Asked → List ℕ → Read
-with_word (Value, order, operand) word = after_option (Any, order, operand) word (with_value order word)
+with_word (FreedValue, order, operand) word = after_option (Any, order, operand) word (with_freed order word)
+with_word (ContextValue, order, operand) word = after_option (Any, order, operand) word (with_context order word)
 with_word (File, order, operand) word = with_operand (File, order, operand) word
 with_word (Any, order, operand) word =
     if is_taken word then with_operand (Any, order, operand) word
     else if bytes_eq word (codes "--") then Ok (File, order, operand)
     else if bytes_eq word (codes "--help") then Err (Alone, word)
-    else if takes_value order word then after_option (Value, order, operand) word (once (has_value order) order)
-    else after_option (Any, order, operand) word (with_option order word)
+    else after_name (Any, order, operand) word (value_due order word)
 
 -- what is asked for where the words end
 abbrev pub at_end : Asked → Read
-at_end (Value, order, operand) = Err (NoValue, codes "--freed")
+at_end (FreedValue, order, operand) = Err (NoValue, codes "--freed")
+at_end (ContextValue, order, operand) = Err (NoCount, codes "--context")
 at_end (Any, order, operand) = Ok (Any, order, operand)
 at_end (File, order, operand) = Ok (File, order, operand)
 
@@ -114,9 +142,9 @@ alone order option (word ∷ words) = Err (Alone, option)
 abbrev pub read_words : List (List ℕ) → Read
 read_words [] = Err (NoCommand, [])
 read_words (command ∷ words) =
-    if bytes_eq command (codes "why") then after_command (Why false false None) words
-    else if bytes_eq command (codes "heap") then after_command (Heap false false false None) words
-    else if bytes_eq command (codes "run") then after_command (Run None false false false false None) words
+    if bytes_eq command (codes "why") then after_command (Why false plain None) words
+    else if bytes_eq command (codes "heap") then after_command (Heap false false plain None) words
+    else if bytes_eq command (codes "run") then after_command (Run None false false false plain None) words
     else if bytes_eq command (codes "--help") then alone Help command words
     else if bytes_eq command (codes "--version") then alone Version command words
     else if is_operand command then Err (UnknownCommand, command)
@@ -124,9 +152,9 @@ read_words (command ∷ words) =
 
 -- an order without its file
 abbrev pub without_file : Order → Order
-without_file (Why origins json file) = Why origins json None
-without_file (Heap report why json file) = Heap report why json None
-without_file (Run freed owned owners why json file) = Run freed owned owners why json None
+without_file (Why origins form file) = Why origins form None
+without_file (Heap report why form file) = Heap report why form None
+without_file (Run freed owned owners why form file) = Run freed owned owners why form None
 without_file order = order
 
 -- the file that an operand names: a minus sign alone names standard input, as no operand does
@@ -136,9 +164,9 @@ file_of (Some word) = if bytes_eq word (codes "-") then None else Some word
 
 -- an order that judges has the file that the operand names
 abbrev pub HasFile : Order → Option (List ℕ) → Type 0
-HasFile (Why origins json file) operand = file_of operand ≡ option_map (λ word. word.now) file
-HasFile (Heap report why json file) operand = file_of operand ≡ option_map (λ word. word.now) file
-HasFile (Run freed owned owners why json file) operand = file_of operand ≡ option_map (λ word. word.now) file
+HasFile (Why origins form file) operand = file_of operand ≡ option_map (λ word. word.now) file
+HasFile (Heap report why form file) operand = file_of operand ≡ option_map (λ word. word.now) file
+HasFile (Run freed owned owners why form file) operand = file_of operand ≡ option_map (λ word. word.now) file
 HasFile order operand = Unit {0}
 
 -- the words ask for this order
@@ -153,7 +181,7 @@ IsComplaint words complaint wrong = read_words words ≡ Err (complaint, wrong)
 -- what an order means of an input that begins with these bytes: `why` judges a run log as `run --why` does, with the owners
 -- where the origins are asked for
 abbrev pub order_on : Order → List ℕ → Order
-order_on (Why origins json file) front = if bytes_eq front (codes "run 1\n") then Run None false origins true json file else Why origins json file
+order_on (Why origins form file) front = if bytes_eq front (codes "run 1\n") then Run None false origins true form file else Why origins form file
 order_on order front = order
 
 -- the line on standard error that names the command for a log of another kind, by the first bytes of the input; none if the
@@ -162,11 +190,11 @@ abbrev pub machine_hint : List ℕ
 machine_hint = codes "capdiag: this is a log of version 1 or 2; capdiag why judges it\n"
 
 abbrev pub hint_for : Order → List ℕ → Option (List ℕ)
-hint_for (Run freed owned owners false json file) front =
+hint_for (Run freed owned owners false form file) front =
     if bytes_eq front (codes "capche") then Some machine_hint
     else if bytes_eq front (codes "heap 1") then Some (codes "capdiag: this is the log of an allocator; capdiag heap judges it\n")
     else None
-hint_for (Heap report false json file) front =
+hint_for (Heap report false form file) front =
     if bytes_eq front (codes "capche") then Some machine_hint
     else if bytes_eq front (codes "run 1\n") then Some (codes "capdiag: this is a run log; capdiag run judges it\n")
     else None

@@ -1,24 +1,50 @@
--- Texts as they are, or as objects of JSON. All of it is this profile's own.
-use Rattle.std.specs.Prelude.{◌≡◌, ◌⊎◌, ℕ, Bool, true, false, List, [], take, Result, Ok, Err}
+-- What is shown of a report. All of it is this profile's own.
+use Rattle.std.specs.Prelude.{◌≡◌, ◌⊎◌, ℕ, Bool, true, false, List, [], ◌++◌, take, Option, Some, None, Result, Ok, Err}
+use Rattle.cap_context.specs.Contexts.{context_of}
 use Rattle.cap_json.specs.{declared.rows.LogKind.LogKind, Objects.json_of}
 use Rattle.cap_program.specs.declared.faults.Fault.{Fault, TheVariants.{NoMemory, Write}}
+use Rattle.capdiag.specs.declared.forms.Form.{Form}
 
--- a text as it is, or where that is asked for as an object of JSON
-abbrev pub Renders : Bool → LogKind → (List ℕ → ℕ → Type 0) → List ℕ → ℕ → Type 0
-Renders false kind shows text status = shows text status
-Renders true kind shows text status = (report : List ℕ) × shows report status × (text ≡ json_of kind report)
+-- a report, followed by the context of the line that it refuses in the bytes of its log, where that is asked for
+abbrev pub in_context : Option ℕ → List ℕ → List ℕ → List ℕ
+in_context None bytes report = report
+in_context (Some count) bytes report = report ++ context_of count bytes report
 
--- why there is no text: as the judge stops; of an object also since there was no memory for it
+-- a text, as an object of JSON where that is asked for
+abbrev pub in_object : Bool → LogKind → List ℕ → List ℕ
+in_object false kind text = text
+in_object true kind text = json_of kind text
+
+-- what is shown of a report on these bytes
+abbrev pub rendered : Form → LogKind → List ℕ → List ℕ → List ℕ
+rendered form kind bytes report = in_object form.json kind (in_context form.context bytes report)
+
+-- a text that is shown of a report on bytes that were read
+abbrev pub Renders : Form → LogKind → List ℕ → (List ℕ → ℕ → Type 0) → List ℕ → ℕ → Type 0
+Renders form kind given shows text status = (report : List ℕ) × shows report status × (text ≡ rendered form kind given report)
+
+-- some bytes are a beginning of all, and all where the input has ended
+abbrev pub Begins : List ℕ → Bool → List ℕ → Type 0
+Begins given ended bytes = (rest : List ℕ) × (bytes ≡ given ++ rest) × (ended ≡ true → rest ≡ [])
+
+-- a text that is shown of a report on all bytes: the bytes that were read are a beginning of them, with the same report, and
+-- hold the context
+abbrev pub RendersAll : Form → LogKind → List ℕ → (List ℕ → Bool → List ℕ → ℕ → Type 0) → (List ℕ → ℕ → Type 0) → List ℕ → ℕ → Type 0
+RendersAll form kind bytes shows prints text status =
+    (given : List ℕ) × (ended : Bool) × Begins given ended bytes
+    × (report : List ℕ) × shows given ended report status × prints report status × (text ≡ rendered form kind given report)
+
+-- why there is no text: as the judge stops; of a report that is kept also since there was no memory for it
 abbrev pub Lacks : Bool → (Bool → List ℕ → ℕ → Type 0) → (Fault → Type 0) → Fault → Type 0
 Lacks true shows stops NoMemory = stops NoMemory ⊎ ((ended : Bool) × (report : List ℕ) × (status : ℕ) × shows ended report status)
-Lacks json shows stops fault = stops fault
+Lacks kept shows stops fault = stops fault
 
--- what a report that was kept became, by what was done for it: its object was pushed, or a beginning where the output failed;
--- or nothing, where there was no memory for it
-abbrev pub IsObject : LogKind → List ℕ → (List ℕ → Type 0) → Result ℕ Fault → Result ℕ Fault → Type 0
-IsObject kind report took (Ok status) (Ok answer) = (answer ≡ status) × took (json_of kind report)
-IsObject kind report took (Ok status) (Err Write) = (n : ℕ) × took (take n (json_of kind report))
-IsObject kind report took (Ok status) (Err NoMemory) = took []
-IsObject kind report took (Ok status) (Err fault) = ⊥
-IsObject kind report took (Err Write) answer = (answer ≡ Err NoMemory) × took []
-IsObject kind report took (Err fault) answer = (answer ≡ Err fault) × took []
+-- what a report that was kept became, by what was done for it: what is shown of it was pushed, or a beginning where the output
+-- failed; or nothing, where there was no memory for it
+abbrev pub IsPut : List ℕ → (List ℕ → Type 0) → Result ℕ Fault → Result ℕ Fault → Type 0
+IsPut text took (Ok status) (Ok answer) = (answer ≡ status) × took text
+IsPut text took (Ok status) (Err Write) = (n : ℕ) × took (take n text)
+IsPut text took (Ok status) (Err NoMemory) = took []
+IsPut text took (Ok status) (Err fault) = ⊥
+IsPut text took (Err Write) answer = (answer ≡ Err NoMemory) × took []
+IsPut text took (Err fault) answer = (answer ≡ Err fault) × took []

@@ -24,6 +24,10 @@ pub enum Complaint {
     NoValue,
     /// A word is no value of the option before it.
     UnknownValue,
+    /// The number of lines of context is missing.
+    NoCount,
+    /// A word is no number of lines of context.
+    UnknownCount,
     /// A word names a second file.
     SecondFile,
     /// An option is given twice.
@@ -103,6 +107,8 @@ fn put_subject(buffer: &mut [u8], at: usize, complaint: Complaint, word: &str) -
         | Complaint::UnknownOption
         | Complaint::NoValue
         | Complaint::UnknownValue
+        | Complaint::NoCount
+        | Complaint::UnknownCount
         | Complaint::SecondFile
         | Complaint::Twice
         | Complaint::Alone => put_quoted(buffer, at, word),
@@ -202,6 +208,8 @@ fn front_text(complaint: Complaint) -> &'static [u8]
         Complaint::UnknownOption => b"unknown option ",
         Complaint::NoValue => b"held, used or both is missing after ",
         Complaint::UnknownValue => b"--freed takes held, used or both, not ",
+        Complaint::NoCount => b"a number from 0 to 99 is missing after ",
+        Complaint::UnknownCount => b"--context takes a number from 0 to 99, not ",
         Complaint::SecondFile => b"one file at most: ",
         Complaint::Twice => b"given twice: ",
         Complaint::Alone => b"other words beside ",

@@ -20,14 +20,14 @@ pub fn order_on<'a>(order: Order<'a>, front: &[u8]) -> Order<'a>
     match order {
         Order::Why {
             origins,
-            json,
+            form,
             file,
         } if front == RUN_HEADER.as_slice() => Order::Run {
             freed: None,
             owned: false,
             owners: origins,
             why: true,
-            json,
+            form,
             file,
         },
         _ => order,

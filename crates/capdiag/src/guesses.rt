@@ -49,10 +49,16 @@ fn options_of(command: &str) -> &'static [&'static str]
     ensures value { map (λ it. it.now) result.now ≡ options_of command.now }
 {
     match command {
-        "why" => &["--origins", "--json", "--help"],
-        "heap" => &["--report", "--why", "--json", "--help"],
+        "why" => &["--origins", "--context", "--json", "--help"],
+        "heap" => &["--report", "--why", "--context", "--json", "--help"],
         "run" => &[
-            "--freed", "--owners", "--owned", "--why", "--json", "--help",
+            "--freed",
+            "--owners",
+            "--owned",
+            "--why",
+            "--context",
+            "--json",
+            "--help",
         ],
         _ => &["--help", "--version"],
     }
@@ -71,6 +77,8 @@ fn known_words(complaint: Complaint, words: &[&str]) -> &'static [&'static str]
         Complaint::NoCommand
         | Complaint::NoValue
         | Complaint::UnknownValue
+        | Complaint::NoCount
+        | Complaint::UnknownCount
         | Complaint::SecondFile
         | Complaint::Twice
         | Complaint::Alone => &[],

@@ -3,11 +3,12 @@
 #![tactic(auto)]
 
 mod complaints;
+mod forms;
 mod fronts;
 mod guesses;
 mod help;
 mod judges;
-mod objects;
+mod renderings;
 #[cfg(test)]
 mod rows;
 mod runs;
@@ -18,6 +19,7 @@ mod words;
 pub use crate::complaints::{
     Complaint, Unopened, Wrong, tell_hint, tell_unopened, tell_waiting, tell_words,
 };
+pub use crate::forms::Form;
 pub use crate::fronts::{hint_for, order_on, read_front};
 pub use crate::runs::run;
 pub use crate::words::{Order, read_words};

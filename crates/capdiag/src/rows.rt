@@ -91,6 +91,27 @@ pub const ROWS: &str = r#"
 2 why --json --json / run --json --why log --json / heap --why --json --report --json
 ! capdiag: given twice: '--json'; see capdiag --help
 
+2 why --context / heap log --context / run --why --context
+! capdiag: a number from 0 to 99 is missing after '--context'; see capdiag --help
+
+2 why --context 100 / heap --why --context 100 log / run log --context 100
+! capdiag: --context takes a number from 0 to 99, not '100'; see capdiag --help
+
+2 why --context 03 log / run --context 03
+! capdiag: --context takes a number from 0 to 99, not '03'; see capdiag --help
+
+2 why --context -1
+! capdiag: --context takes a number from 0 to 99, not '-1'; see capdiag --help
+
+2 heap --context log / why --context log 3
+! capdiag: --context takes a number from 0 to 99, not 'log'; see capdiag --help
+
+2 why --context 3 --context 3 / run --context 0 log --context / heap --context 9 --why --context --report
+! capdiag: given twice: '--context'; see capdiag --help
+
+2 why --contxt 3
+! capdiag: unknown option '--contxt'; did you mean --context? see capdiag --help
+
 2 --help why / why --help log / why log --help / heap --report --help / heap --help --help
 ! capdiag: other words beside '--help'; see capdiag --help
 
@@ -106,9 +127,9 @@ pub const ROWS: &str = r#"
 
 # how it is used
 0 --help / why --help / heap --help / run --help
-= usage: capdiag why [--origins] [--json] [FILE]
-=        capdiag heap [--report] [--why] [--json] [FILE]
-=        capdiag run [--freed held|used|both] [--owned] [--owners] [--why] [--json] [FILE]
+= usage: capdiag why [--origins] [--context N] [--json] [FILE]
+=        capdiag heap [--report] [--why] [--context N] [--json] [FILE]
+=        capdiag run [--freed held|used|both] [--owned] [--owners] [--why] [--context N] [--json] [FILE]
 =        capdiag --help | --version
 =
 = Judge a log, from FILE or standard input. See capdiag(1), docs/FORMAT.md.
@@ -359,6 +380,60 @@ pub const ROWS: &str = r#"
 1 run log --why --json / why --json
 | run 1 / mode strict / root c1 ffff1ffff80810000000000000001000 / object c1 / object c1 / end 2
 = {"verdict":"no","line":5,"number":35,"name":"HasOwner","text":"object c1","register":{"place":"c1","tag":1,"word":"ffff1ffff80810000000000000001000","perms":"00078fff","otype":"3ffff","kind":"unsealed","bounds":["0000000000001000","00000000000001020"],"owner":1},"object":[{"number":1,"line":4,"extent":["0000000000001000","00000000000001020"],"state":"live","held":1}],"holder":{"place":"c1","tag":1,"word":"ffff1ffff80810000000000000001000","perms":"00078fff","otype":"3ffff","kind":"unsealed","bounds":["0000000000001000","00000000000001020"]},"says":"an object owns what the register holds"}
+
+# with the context of the line that is refused
+0 why --context 3 / why log --context 99
+| capcheck 1 / root c1 ffff1ffffc0180040000000000000000 / move c2 c1 = 1 ffff1ffffc0180040000000000000000 / end 1
+= yes 1 1
+
+1 why --context 2 / why --context 2 log
+| capcheck 1 / root c1 ffff1ffffc0180040000000000000000
+| setaddr c2 c1 0000000000001000 = 1 ffff1ffffc0180040000000000001000
+| setbounds c3 c2 0000000000000020 = 1 ffff1ffff80810000000000000001000
+| move c5 c3 = 1 ffff1ffff80810000000000000001000
+| setbounds c4 c3 0000000000000021 = 1 ffff1ffff80850000000000000001000 / end 4
+= no 6 11 BoundsEscape
+= line setbounds c4 c3 0000000000000021 = 1 ffff1ffff80850000000000000001000
+= source c3 1 ffff1ffff80810000000000000001000
+= source perms 00078fff
+= source otype 3ffff unsealed
+= source bounds 0000000000001000 00000000000001020
+= source origin c1
+= request 0000000000001000 00000000000001021
+= rounded 0000000000001000 00000000000001021
+= says the request ends one byte above c3's bounds
+= before 4 setbounds c3 c2 0000000000000020 = 1 ffff1ffff80810000000000000001000
+= before 5 move c5 c3 = 1 ffff1ffff80810000000000000001000
+= wrote c3 4 setbounds c3 c2 0000000000000020 = 1 ffff1ffff80810000000000000001000
+
+# a store reads one register twice
+1 run --context 0 / run --freed both --context 0 log
+| run 1 / mode strict / root c1 ffff1ffffc0180040000000000000000 / root scr1 ffff1ffffc0180040000000000000000
+| derive c1 scr1 = 0 ffff1ffffc0180040000000000000000 / sc c1 c1 0 / end 2
+= no 6 14 AuthorityUntagged
+= wrote c1 5 derive c1 scr1 = 0 ffff1ffffc0180040000000000000000
+
+# a special register that nothing wrote, and those that an exchange wrote
+1 run --context 1 --json
+| run 1 / mode strict / root c1 ffff1ffffc0180040000000000000000 / root scr1 ffff1ffffc0180040000000000000000
+| exchange c2 c1 scr1 = 1 ffff1ffffc0180040000000000000000 0 ffff1ffffc0180040000000000000000
+| exchange c3 c2 scr1 = 0 ffff1ffffc0180040000000000000000 1 ffff1ffffc0180040000000000000000
+| derive c4 scr2 = 1 ffff1ffffc0180040000000000000000 / end 3
+= {"verdict":"no","line":7,"number":9,"name":"SourceUntagged","before":[{"line":6,"text":"exchange c3 c2 scr1 = 0 ffff1ffffc0180040000000000000000 1 ffff1ffffc0180040000000000000000"}]}
+
+1 run --context 0
+| run 1 / mode strict / root c1 ffff1ffffc0180040000000000000000 / root scr1 ffff1ffffc0180040000000000000000
+| exchange c2 c1 scr1 = 1 ffff1ffffc0180040000000000000000 0 ffff1ffffc0180040000000000000000
+| exchange c3 c2 scr1 = 1 ffff1ffffc0180040000000000000000 1 ffff1ffffc0180040000000000000000 / end 2
+= no 6 9 SourceUntagged
+= wrote c2 5 exchange c2 c1 scr1 = 1 ffff1ffffc0180040000000000000000 0 ffff1ffffc0180040000000000000000
+= wrote scr1 5 exchange c2 c1 scr1 = 1 ffff1ffffc0180040000000000000000 0 ffff1ffffc0180040000000000000000
+
+1 heap --context 1 / heap --context 1 log
+| heap 1 / root 0000000000000000 10000000000000000 / malloc 0000000000010000 0000000000001001
+| malloc 0000000000011001 0000000000000001 / end 2
+= no 4 28 Overlaps
+= before 3 malloc 0000000000010000 0000000000001001
 
 3 why --json gone
 | capcheck 1 / end 0

@@ -6,7 +6,7 @@ ghost use Rattle.capdiag.specs.Answers.{order_meaning};
 
 use crate::help::{show_help, show_version};
 use crate::judges::asks_of;
-use crate::objects::{explain_as, judge_heap_as, judge_run_as};
+use crate::renderings::{explain_as, judge_heap_as, judge_run_as};
 use crate::words::Order;
 use cap_log::{Sink, Source};
 use cap_program::{Command, Fault};
@@ -36,17 +36,17 @@ impl Command for Order<'_> {
         match self {
             Order::Help => show_help(out),
             Order::Version => show_version(out),
-            Order::Why { origins, json, .. } => match input {
-                Some(source) => explain_as(alloc, origins, json, source, out),
+            Order::Why { origins, form, .. } => match input {
+                Some(source) => explain_as(alloc, origins, form, source, out),
                 None => Err(Fault::Read),
             },
             Order::Heap {
                 report,
                 why,
-                json,
+                form,
                 ..
             } => match input {
-                Some(source) => judge_heap_as(alloc, report, why, json, source, out),
+                Some(source) => judge_heap_as(alloc, report, why, form, source, out),
                 None => Err(Fault::Read),
             },
             Order::Run {
@@ -54,7 +54,7 @@ impl Command for Order<'_> {
                 owned,
                 owners,
                 why,
-                json,
+                form,
                 ..
             } => match input {
                 Some(source) => judge_run_as(
@@ -62,7 +62,7 @@ impl Command for Order<'_> {
                     asks_of(freed, owned),
                     owners,
                     why,
-                    json,
+                    form,
                     source,
                     out,
                 ),

@@ -1,12 +1,13 @@
 //! The words after the program's name.
 
 ghost use Rattle.std.specs.Prelude.{◌≡◌, IfErr, IfOk, Ok, map, option_map};
-ghost use Rattle.capdiag.specs.Orders.{Asks, HasFile, IsComplaint, after_command, after_option, alone, at_end, file_of, has_value, is_help};
-ghost use Rattle.capdiag.specs.Orders.{is_taken, once, read_words, takes_value, with_operand, with_option, with_value, with_word, with_words};
-ghost use Rattle.capdiag.specs.Orders.{without_file};
+ghost use Rattle.capdiag.specs.Orders.{Asks, HasFile, IsComplaint, after_command, after_name, after_option, alone, at_end, file_of};
+ghost use Rattle.capdiag.specs.Orders.{has_value, is_help, is_taken, once, read_words, value_due, with_context, with_count, with_freed};
+ghost use Rattle.capdiag.specs.Orders.{with_operand, with_option, with_word, with_words, without_file};
 ghost use Rattle.capdiag.specs.Readings.{asked_of, read_of};
 
 use crate::complaints::{Complaint, Wrong};
+use crate::forms::{Form, PLAIN, count_of, with_json, with_lines};
 use cap_program::is_operand;
 
 /// What the program was asked to do.
@@ -16,29 +17,30 @@ pub enum Order<'a> {
     Help,
     /// `--version`: tell its version.
     Version,
-    /// `why [--origins] [--json] [FILE]`: judge the file, or standard input where no file is named, and report a `no`.
+    /// `why [--origins] [--context N] [--json] [FILE]`: judge the file, or standard input where no file is named, and report
+    /// a `no`.
     Why {
         /// Whether the root of each capability in the last state is asked for.
         origins: bool,
-        /// Whether what is printed is an object of JSON.
-        json: bool,
+        /// How what is printed is shown.
+        form: Form,
         /// The file's name, which is not `-`.
         file: Option<&'a str>,
     },
-    /// `heap [--report] [--why] [--json] [FILE]`: judge the file, or standard input where no file is named, as an allocator's
-    /// log.
+    /// `heap [--report] [--why] [--context N] [--json] [FILE]`: judge the file, or standard input where no file is named, as an
+    /// allocator's log.
     Heap {
         /// Whether after a `yes` the report is asked for.
         report: bool,
         /// Whether after a `no` the report is asked for.
         why: bool,
-        /// Whether what is printed is an object of JSON.
-        json: bool,
+        /// How what is printed is shown.
+        form: Form,
         /// The file's name, which is not `-`.
         file: Option<&'a str>,
     },
-    /// `run [--freed held|used|both] [--owned] [--owners] [--why] [--json] [FILE]`: judge the file, or standard input where
-    /// no file is named, as a run log.
+    /// `run [--freed held|used|both] [--owned] [--owners] [--why] [--context N] [--json] [FILE]`: judge the file, or standard
+    /// input where no file is named, as a run log.
     Run {
         /// What is asked of freed objects, where `--freed` says it.
         freed: Option<Freed>,
@@ -48,8 +50,8 @@ pub enum Order<'a> {
         owners: bool,
         /// Whether after a `no` the report is asked for.
         why: bool,
-        /// Whether what is printed is an object of JSON.
-        json: bool,
+        /// How what is printed is shown.
+        form: Form,
         /// The file's name, which is not `-`.
         file: Option<&'a str>,
     },
@@ -79,26 +81,26 @@ fn once<'a>(is_given: bool, order: Order<'a>) -> Result<Order<'a>, Complaint>
 // An order of `why` with one option more.
 fn with_why_option<'a>(
     origins: bool,
-    json: bool,
+    form: Form,
     file: Option<&'a str>,
     word: &str,
 ) -> Result<Order<'a>, Complaint>
-    ensures value { result ≡ with_option (Order.Why origins json file.entry) word.now }
+    ensures value { result ≡ with_option (Order.Why origins form file.entry) word.now }
 {
     match word {
         "--origins" => once(
             origins,
             Order::Why {
                 origins: true,
-                json,
+                form,
                 file,
             },
         ),
         "--json" => once(
-            json,
+            form.json,
             Order::Why {
                 origins,
-                json: true,
+                form: with_json(form),
                 file,
             },
         ),
@@ -110,11 +112,11 @@ fn with_why_option<'a>(
 fn with_heap_option<'a>(
     report: bool,
     why: bool,
-    json: bool,
+    form: Form,
     file: Option<&'a str>,
     word: &str,
 ) -> Result<Order<'a>, Complaint>
-    ensures value { result ≡ with_option (Order.Heap report why json file.entry) word.now }
+    ensures value { result ≡ with_option (Order.Heap report why form file.entry) word.now }
 {
     match word {
         "--report" => once(
@@ -122,7 +124,7 @@ fn with_heap_option<'a>(
             Order::Heap {
                 report: true,
                 why,
-                json,
+                form,
                 file,
             },
         ),
@@ -131,16 +133,16 @@ fn with_heap_option<'a>(
             Order::Heap {
                 report,
                 why: true,
-                json,
+                form,
                 file,
             },
         ),
         "--json" => once(
-            json,
+            form.json,
             Order::Heap {
                 report,
                 why,
-                json: true,
+                form: with_json(form),
                 file,
             },
         ),
@@ -154,11 +156,11 @@ fn with_run_option<'a>(
     owned: bool,
     owners: bool,
     why: bool,
-    json: bool,
+    form: Form,
     file: Option<&'a str>,
     word: &str,
 ) -> Result<Order<'a>, Complaint>
-    ensures value { result ≡ with_option (Order.Run freed owned owners why json file.entry) word.now }
+    ensures value { result ≡ with_option (Order.Run freed owned owners why form file.entry) word.now }
 {
     match word {
         "--owned" => once(
@@ -168,7 +170,7 @@ fn with_run_option<'a>(
                 owned: true,
                 owners,
                 why,
-                json,
+                form,
                 file,
             },
         ),
@@ -179,7 +181,7 @@ fn with_run_option<'a>(
                 owned,
                 owners: true,
                 why,
-                json,
+                form,
                 file,
             },
         ),
@@ -190,18 +192,18 @@ fn with_run_option<'a>(
                 owned,
                 owners,
                 why: true,
-                json,
+                form,
                 file,
             },
         ),
         "--json" => once(
-            json,
+            form.json,
             Order::Run {
                 freed,
                 owned,
                 owners,
                 why,
-                json: true,
+                form: with_json(form),
                 file,
             },
         ),
@@ -216,56 +218,68 @@ fn with_option<'a>(order: Order<'a>, word: &str) -> Result<Order<'a>, Complaint>
     match order {
         Order::Why {
             origins,
-            json,
+            form,
             file,
-        } => with_why_option(origins, json, file, word),
+        } => with_why_option(origins, form, file, word),
         Order::Heap {
             report,
             why,
-            json,
+            form,
             file,
-        } => with_heap_option(report, why, json, file, word),
+        } => with_heap_option(report, why, form, file, word),
         Order::Run {
             freed,
             owned,
             owners,
             why,
-            json,
+            form,
             file,
-        } => with_run_option(freed, owned, owners, why, json, file, word),
+        } => with_run_option(freed, owned, owners, why, form, file, word),
         Order::Help | Order::Version => Err(Complaint::UnknownOption),
     }
 }
 
-// Whether a word is an option of the order that takes a value.
-fn takes_value(order: Order<'_>, word: &str) -> bool
-    ensures value { result ≡ takes_value order.entry word.now }
+// The value that is due after a word, if it is an option of the order that takes one.
+fn value_due(order: Order<'_>, word: &str) -> Option<Due>
+    ensures value { result ≡ value_due order.entry word.now }
 {
     match order {
-        Order::Run { .. } => word == "--freed",
-        Order::Help | Order::Version | Order::Why { .. } | Order::Heap { .. } => false,
+        Order::Run { .. } => match word {
+            "--freed" => Some(Due::FreedValue),
+            "--context" => Some(Due::ContextValue),
+            _ => None,
+        },
+        Order::Why { .. } | Order::Heap { .. } => match word {
+            "--context" => Some(Due::ContextValue),
+            _ => None,
+        },
+        Order::Help | Order::Version => None,
     }
 }
 
-// Whether an order has the value of its option.
-fn has_value(order: Order<'_>) -> bool
-    ensures value { result ≡ has_value order.entry }
+// Whether an order has the value of an option.
+fn has_value(order: Order<'_>, due: Due) -> bool
+    ensures value { result ≡ has_value order.entry due }
 {
     match order {
-        Order::Run { freed, .. } => freed.is_some(),
-        Order::Help | Order::Version | Order::Why { .. } | Order::Heap { .. } => false,
+        Order::Run { freed, form, .. } => match due {
+            Due::FreedValue => freed.is_some(),
+            Due::ContextValue | Due::Any | Due::File => form.context.is_some(),
+        },
+        Order::Why { form, .. } | Order::Heap { form, .. } => form.context.is_some(),
+        Order::Help | Order::Version => false,
     }
 }
 
-// An order with the value of its option.
-fn with_value<'a>(order: Order<'a>, word: &str) -> Result<Order<'a>, Complaint>
-    ensures value { result ≡ with_value order.entry word.now }
+// An order with the value of `--freed`.
+fn with_freed<'a>(order: Order<'a>, word: &str) -> Result<Order<'a>, Complaint>
+    ensures value { result ≡ with_freed order.entry word.now }
 {
     let Order::Run {
         owned,
         owners,
         why,
-        json,
+        form,
         file,
         ..
     } = order
@@ -283,9 +297,63 @@ fn with_value<'a>(order: Order<'a>, word: &str) -> Result<Order<'a>, Complaint>
         owned,
         owners,
         why,
-        json,
+        form,
         file,
     })
+}
+
+// An order with a number of lines as the value of `--context`.
+fn with_count<'a>(order: Order<'a>, count: u8) -> Result<Order<'a>, Complaint>
+    ensures value { result ≡ with_count order.entry count }
+{
+    match order {
+        Order::Why {
+            origins,
+            form,
+            file,
+        } => Ok(Order::Why {
+            origins,
+            form: with_lines(form, count),
+            file,
+        }),
+        Order::Heap {
+            report,
+            why,
+            form,
+            file,
+        } => Ok(Order::Heap {
+            report,
+            why,
+            form: with_lines(form, count),
+            file,
+        }),
+        Order::Run {
+            freed,
+            owned,
+            owners,
+            why,
+            form,
+            file,
+        } => Ok(Order::Run {
+            freed,
+            owned,
+            owners,
+            why,
+            form: with_lines(form, count),
+            file,
+        }),
+        Order::Help | Order::Version => Err(Complaint::UnknownCount),
+    }
+}
+
+// An order with the value of `--context`.
+fn with_context<'a>(order: Order<'a>, word: &str) -> Result<Order<'a>, Complaint>
+    ensures value { result ≡ with_context order.entry word.now }
+{
+    match count_of(word) {
+        Some(count) => with_count(order, count),
+        None => Err(Complaint::UnknownCount),
+    }
 }
 
 // Whether a word is an operand before the options have ended.
@@ -300,8 +368,10 @@ fn is_taken(word: &str) -> bool
 enum Due {
     // An option, or the file.
     Any,
-    // The value of the option before it.
-    Value,
+    // The value of `--freed`.
+    FreedValue,
+    // The value of `--context`.
+    ContextValue,
     // The file, since the options have ended.
     File,
 }
@@ -347,6 +417,21 @@ fn after_option<'a>(
     }
 }
 
+// What is asked for after an option, by the value that is due then.
+fn after_name<'a>(asked: Asked<'a>, word: &'a str, due: Option<Due>) -> Result<Asked<'a>, Wrong<'a>>
+    ensures value { after_name (asked_of asked.entry) word.now due ≡ read_of result }
+{
+    let order = asked.order;
+    match due {
+        Some(due) => after_option(
+            Asked { due, ..asked },
+            word,
+            once(has_value(order, due), order),
+        ),
+        None => after_option(asked, word, with_option(order, word)),
+    }
+}
+
 // What is asked for with one word more.
 fn with_word<'a>(asked: Asked<'a>, word: &'a str) -> Result<Asked<'a>, Wrong<'a>>
     ensures value { with_word (asked_of asked.entry) word.now ≡ read_of result }
@@ -357,7 +442,8 @@ fn with_word<'a>(asked: Asked<'a>, word: &'a str) -> Result<Asked<'a>, Wrong<'a>
         ..asked
     };
     match asked.due {
-        Due::Value => after_option(any, word, with_value(order, word)),
+        Due::FreedValue => after_option(any, word, with_freed(order, word)),
+        Due::ContextValue => after_option(any, word, with_context(order, word)),
         Due::File => with_operand(asked, word),
         Due::Any if is_taken(word) => with_operand(asked, word),
         Due::Any => match word {
@@ -369,15 +455,7 @@ fn with_word<'a>(asked: Asked<'a>, word: &'a str) -> Result<Asked<'a>, Wrong<'a>
                 complaint: Complaint::Alone,
                 word,
             }),
-            _ if takes_value(order, word) => after_option(
-                Asked {
-                    due: Due::Value,
-                    ..asked
-                },
-                word,
-                once(has_value(order), order),
-            ),
-            _ => after_option(any, word, with_option(order, word)),
+            _ => after_name(any, word, value_due(order, word)),
         },
     }
 }
@@ -387,9 +465,13 @@ fn at_end<'a>(asked: Asked<'a>) -> Result<Asked<'a>, Wrong<'a>>
     ensures value { at_end (asked_of asked.entry) ≡ read_of result }
 {
     match asked.due {
-        Due::Value => Err(Wrong {
+        Due::FreedValue => Err(Wrong {
             complaint: Complaint::NoValue,
             word: "--freed",
+        }),
+        Due::ContextValue => Err(Wrong {
+            complaint: Complaint::NoCount,
+            word: "--context",
         }),
         Due::Any | Due::File => Ok(asked),
     }
@@ -468,7 +550,7 @@ fn read_all<'a>(words: &[&'a str]) -> Result<Asked<'a>, Wrong<'a>>
         "why" => after_command(
             Order::Why {
                 origins: false,
-                json: false,
+                form: PLAIN,
                 file: None,
             },
             words,
@@ -477,7 +559,7 @@ fn read_all<'a>(words: &[&'a str]) -> Result<Asked<'a>, Wrong<'a>>
             Order::Heap {
                 report: false,
                 why: false,
-                json: false,
+                form: PLAIN,
                 file: None,
             },
             words,
@@ -488,7 +570,7 @@ fn read_all<'a>(words: &[&'a str]) -> Result<Asked<'a>, Wrong<'a>>
                 owned: false,
                 owners: false,
                 why: false,
-                json: false,
+                form: PLAIN,
                 file: None,
             },
             words,
@@ -516,20 +598,20 @@ fn order_of<'a>(asked: Asked<'a>) -> Order<'a>
         Some(name) => Some(name),
     };
     match asked.order {
-        Order::Why { origins, json, .. } => Order::Why {
+        Order::Why { origins, form, .. } => Order::Why {
             origins,
-            json,
+            form,
             file,
         },
         Order::Heap {
             report,
             why,
-            json,
+            form,
             ..
         } => Order::Heap {
             report,
             why,
-            json,
+            form,
             file,
         },
         Order::Run {
@@ -537,14 +619,14 @@ fn order_of<'a>(asked: Asked<'a>) -> Order<'a>
             owned,
             owners,
             why,
-            json,
+            form,
             ..
         } => Order::Run {
             freed,
             owned,
             owners,
             why,
-            json,
+            form,
             file,
         },
         order => order,

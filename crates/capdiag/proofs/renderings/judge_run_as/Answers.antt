@@ -1,0 +1,22 @@
+use Rattle.std.proofs.Common.{◌≡◌, true, rules}
+use Rattle.cap_run_judge.specs.Judgings.{IsAnswerOf as IsRunAnswerOf}
+use Rattle.cap_json.specs.declared.rows.LogKind.{LogKind}
+use Rattle.cap_program.specs.Judging.{StopsJudging}
+use Rattle.capdiag.specs.Answers.{ShowsRun}
+use Rattle.capdiag.specs.Forms.{is_kept}
+use Rattle.capdiag.proofs.RenderingLemmas.{plain_done}
+use Rattle.capdiag.proofs.renderings.judge_run_as.Goals as goal
+
+pub returns-then-is_kept-clause-done : goal.returns-then-is_kept-clause-done
+returns-then-is_kept-clause-done g c =
+    let kept : is_kept c.args.form ≡ true = search rules in
+    rw kept c.judge_run_kept.ensures.done
+
+pub returns-else-is_kept-clause-done : goal.returns-else-is_kept-clause-done
+returns-else-is_kept-clause-done g c =
+    let e = c.judge_run_source.ensures in (
+      e.done.0,
+      e.done.1,
+      plain_done LogKind.Run e.done.0 (ShowsRun c.args.asks c.args.owners c.args.why e.done.0) (StopsJudging (IsRunAnswerOf c.args.asks e.done.0 true)) (g.S.Source.ended c.judge_run_source.new.source)
+          (g.K.Sink.took c.args.sink.now c.judge_run_source.new.sink) c.args.form.json c.args.form.context c.judge_run_source.result (search rules) e.done.2,
+    )
