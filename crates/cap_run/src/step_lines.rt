@@ -115,7 +115,7 @@ impl<'a, M: TaggedStore> ByKind<'a, RunMachine<M>> for Owned {
 }
 
 // A step whose line is all that stands there. It is made as one of any kind: if it were made by its kind, the functions that
-// make a step by its numbers would no longer be inlined, and take 30 instructions more.
+// make a step by its numbers would no longer be inlined, and take up to 50 instructions more.
 pub(crate) struct Alone;
 
 impl<'a, M: TaggedStore> ByKind<'a, RunMachine<M>> for Alone {

@@ -5,8 +5,8 @@
 //! the front of some bytes, and [`Lines`] are the lines of what a source gives, however it is cut. A [`Sink`] takes
 //! bytes a piece at a time, and [`push_all`] pushes a whole text.
 //!
-//! A judge of lines reports the [`FaultLine`](judging::FaultLine) at which it stopped, and why it gave no verdict: [`JudgeFault`](judging::JudgeFault), or
-//! [`JudgeToFault`](judging::JudgeToFault) if it writes one.
+//! A judge of lines reports the [`FaultLine`](judging::FaultLine) at which it stopped, and why it gave no verdict:
+//! [`JudgeFault`](judging::JudgeFault), or [`JudgeToFault`](judging::JudgeToFault) if it writes one.
 #![tactic(auto)]
 
 mod fronts;

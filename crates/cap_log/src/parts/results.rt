@@ -76,8 +76,8 @@ impl Part for Cap {
     }
 }
 
-/// What follows this result and a line feed at the front of some bytes, or `None` if they don't stand there. It is told by
-/// its text: no digit is read.
+/// What follows this result and a line feed at the front of some bytes. It is told by its text: no digit is read. `None` says
+/// nothing.
 #[inline(always)]
 pub fn strip_result(bytes: &[u8], recorded: Cap) -> Option<&[u8]>
     ensures some { IfSome result (λ rest. bytes.now ≡ result_spelling recorded ++ 10 ∷ rest.now) }
