@@ -1,7 +1,7 @@
 #!/usr/bin/env python3
 """Runs both programs, and compares their status, their standard output and their line on standard error with what is
-worked by hand: for the rows of src/rows.rt in their crates, for capdiag those of wrong.rows too, which are wrong logs and
-wrong words, and where their input or their output fails.
+worked by hand: for capcheck the rows of src/rows.rt in its crate, for capdiag those of capdiag.rows and of wrong.rows,
+which are wrong logs and wrong words, and where their input or their output fails.
 
     python3 examples/program/check.py [PROGRAM..]
 
@@ -118,6 +118,12 @@ def full_pipe():
         return given, other
 
 
+def source(path):
+    """The text of a file of the repository."""
+    with open(f"{ROOT}/{path}", encoding="utf-8") as it:
+        return it.read()
+
+
 def rows(text):
     """The rows of a text: for each the words of its runs with their status, the input, and what is printed."""
     for row in text.split("\n\n"):
@@ -146,11 +152,10 @@ def agrees(text, wanted):
 
 def printed(room):
     """What is printed for the words and the input of each row."""
-    with open(f"{ROOT}/crates/{room.program}/src/rows.rt", encoding="utf-8") as it:
-        text = unfolded(re.search(r'(?s)r#"\n(.*)"#;', it.read())[1])
-    if room.program == "capdiag":
-        with open(f"{ROOT}/examples/program/wrong.rows", encoding="utf-8") as it:
-            text += "\n\n" + it.read()
+    if room.program == "capcheck":
+        text = unfolded(re.search(r'(?s)r#"\n(.*)"#;', source("crates/capcheck/src/rows.rt"))[1])
+    else:
+        text = unfolded(source("examples/program/capdiag.rows")) + "\n\n" + source("examples/program/wrong.rows")
     for runs, given, out, err in rows(text):
         room.put("log", given)
         room.put("file", given)

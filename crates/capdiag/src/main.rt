@@ -9,11 +9,7 @@ mod guesses;
 mod help;
 mod judges;
 mod renderings;
-#[cfg(test)]
-mod rows;
 mod runs;
-#[cfg(test)]
-mod tests;
 mod words;
 
 pub use crate::complaints::{
@@ -147,7 +143,7 @@ fn reads_log(order: Order) -> bool {
 }
 
 // The file that an order names.
-pub(crate) fn file_of<'a>(order: Order<'a>) -> Option<&'a str> {
+fn file_of<'a>(order: Order<'a>) -> Option<&'a str> {
     match order {
         Order::Why { file, .. } | Order::Heap { file, .. } | Order::Run { file, .. } => file,
         Order::Help | Order::Version => None,
