@@ -31,8 +31,7 @@ LEFT_OUT = {
     "CAPCHECK_VERSION": "capcheck_version", "CAPCHECK_NOT_REFUSED": "no Refusal", "CAPCHECK_KIND_NONE": "no Kind",
     "CAPCHECK_EXPECTS_NOTHING": "None", "CAPCHECK_OTYPE_GREATEST": "capcheck_seal",
     "capcheck_run_judge_report": "capcheck_run_judge_end_report",
-    **dict.fromkeys(("capcheck_heap_judge_why", "capcheck_heap_answer", "capcheck_heap_why", "CAPCHECK_ADDRESS_TAKEN",
-                     "CAPCHECK_OUTSIDE_HEAP", "CAPCHECK_NOT_LIVE"), "capdiag heap"),
+    **dict.fromkeys(("CAPCHECK_ADDRESS_TAKEN", "CAPCHECK_OUTSIDE_HEAP", "CAPCHECK_NOT_LIVE"), "HeapVerdict has names"),
 }
 NUMBERS = {"uint64_t": c.c_uint64, "int64_t": c.c_int64, "uint32_t": c.c_uint32, "uint16_t": c.c_uint16, "size_t": c.c_size_t,
            "int16_t": c.c_int16, "uint8_t": c.c_uint8, "bool": c.c_bool, "void": None}

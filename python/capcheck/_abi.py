@@ -115,6 +115,14 @@ class Object(c.Structure):
     _fields_ = [("base", u64), ("top", Wide), ("held", u64), ("line", u64), ("state", u8)]
 
 
+class HeapAnswer(c.Structure):
+    _fields_ = [("line", u64), ("live", u64), ("events", u32), ("state", u8), ("refusal", u8)]
+
+
+class HeapWhy(c.Structure):
+    _fields_ = [("answer", HeapAnswer), ("length", u64)]
+
+
 class Slot(c.Structure):
     _fields_ = [("fields", u64 * 4)]
 
@@ -260,4 +268,5 @@ _declare(judges, "capcheck_run_judge_", RUN_JUDGE)
 _declare(judges, "capcheck_run_step_", {name: (u8, _run_judge, *numbers) for name, numbers in (STEPS | RUN_STEPS).items()})
 _declare(whole_logs, "capcheck_judge_", {"bytes": (Answer, pointer, size)})
 _declare(whole_logs, "capcheck_run_judge_", {"bytes": (RunAnswer, pointer, size, Asks)})
+_declare(whole_logs, "capcheck_heap_judge_", {"why": (HeapWhy, pointer, size, text, size)})
 _declare(freestanding, "capcheck_judge_", {"why": (Why, flag, text, size, c.POINTER(Slot), size, text, size)})

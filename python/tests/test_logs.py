@@ -11,7 +11,7 @@ import unittest
 from pathlib import Path
 
 import capcheck
-from capcheck import NULL, Capability, Judge, Kind, Refusal, RunJudge, lines, runs
+from capcheck import NULL, Capability, Judge, Kind, Refusal, RunJudge, heaps, lines, runs
 
 DIAGNOSIS = os.environ["CAPDIAG"]
 TOP = Path(__file__).resolve().parents[2]
@@ -334,6 +334,22 @@ class RunLogs(unittest.TestCase):
         for wrong in (lambda: runs.fill(8, root), lambda: runs.derive("c0", "c1", root), lambda: runs.drop("c0"), lambda: runs.free(1, 1),
                       lambda: runs.hand_out(0), lambda: runs.exchange(0, 1, 0, root, root), lambda: RunJudge("never")):
             self.assertRaises(ValueError, wrong)
+
+
+class Heaps(unittest.TestCase):
+    def test_corpus(self):
+        for path in sorted((TOP / "conformance/heaps").glob("*.log")):
+            printed = subprocess.run([DIAGNOSIS, "heap", "--report", "--why", path], capture_output=True, text=True).stdout
+            self.assertEqual(heaps.why(path.read_bytes()), printed, path)
+            self.assertEqual(f"{heaps.judge(path)}\n", printed[:printed.index("\n") + 1], path)
+
+    def test_values(self):
+        start = b"heap 1\nroot 0000000000001000 00000000000100000\nmalloc 0000000000001000 0000000000001001\n"
+        verdict = heaps.judge(io.BytesIO(start + b"malloc 0000000000002001 0000000000000010\nend 2\n"))
+        self.assertEqual((bool(verdict), verdict.line, verdict.refusal, verdict.live), (False, 4, "Overlaps", None))
+        verdict = heaps.judge(memoryview(start + b"end 1\n"))
+        self.assertEqual((bool(verdict), verdict.events, verdict.live, verdict.refusal), (True, 1, 1, None))
+        self.assertRaises(TypeError, heaps.why, "a log")
 
 
 def fault(log):
