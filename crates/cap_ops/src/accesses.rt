@@ -1,13 +1,15 @@
 //! Accesses to memory through an authority.
 
-ghost use Rattle.std.specs.Prelude.{◌≡◌, ◌==◌, ◌<◌, ◌≤◌, ◌%◌, ◌+◌, ◌∷◌, ◌↔◌, not, true, IfOk, IsTrue, option_map};
+ghost use Rattle.std.specs.Prelude.{◌≡◌, ◌==◌, ◌<◌, ◌≤◌, ◌%◌, ◌+◌, ◌∷◌, ◌↔◌, not, IfOk, IsTrue, option_map};
 ghost use Rattle.cap_ops.specs.declared.refusal.Refusal.TheVariants.{Misaligned};
-ghost use Rattle.cap_bounds.specs.Bounds.{IsSound};
 ghost use Rattle.cap_ops.specs.Accesses.{IsAllowed, access_address, access_checks, loaded_result, permission_for};
 ghost use Rattle.cap_ops.specs.{Accesses.stored_checks, Authority.StaysWithin, Checks.{Ends, first_of}};
 ghost use Rattle.cap_ops.specs.{Operations.{authority_checks, covers}, Refusals.refusal_of};
 
+mod fast_path;
+
 use crate::access::Access;
+pub use crate::accesses::fast_path::may_access_soundly;
 use crate::bits::{
     GLOBAL, PERMIT_LOAD, PERMIT_LOAD_CAPABILITY, PERMIT_STORE, PERMIT_STORE_CAPABILITY,
     PERMIT_STORE_LOCAL_CAPABILITY, permits,
@@ -15,7 +17,6 @@ use crate::bits::{
 use crate::faults::OpFault;
 use crate::kinds::Kind;
 use crate::narrowing::covers;
-use crate::recent::RecentAuthority;
 use crate::sealing::sealed;
 use cap_word::{Cap, Word};
 
@@ -96,29 +97,6 @@ fn authority_fault(
     }
 }
 
-/// The same for an authority that is sound if it is tagged; it is kept, if it is unsealed. By a function of its own, of
-/// numbers alone: most accesses don't call it.
-#[inline(never)]
-fn fault_anew(
-    recent: &mut RecentAuthority,
-    tag: bool,
-    word: Word,
-    permission: u32,
-    address: u64,
-    size: u8,
-) -> Option<OpFault>
-    requires permission { permission < 12 }
-    requires some { 0 < size }
-    requires sound { IsTrue tag → IsSound word.0 }
-    ensures { option_map refusal_of result
-        ≡ first_of (authority_checks (record { tag = tag; word = word }) permission address (address + size)) }
-{
-    if tag && recent.holds_anew(word, address, u64::from(size - 1)) && permits(word, permission) {
-        return None;
-    }
-    authority_fault(tag, word, permission, address, size)
-}
-
 /// The first test that refuses an access at an address.
 #[tactic(auto, unfolding(crate::specs::Accesses::access_checks))]
 #[inline(always)]
@@ -130,30 +108,6 @@ fn access_fault(authority: Cap, access: Access, address: u64) -> Option<OpFault>
     let permission = needed(access.kind);
     if let Some(fault) = authority_fault(authority.tag, word, permission, address, access.size) {
         return Some(fault);
-    }
-    other_fault(word, access, address)
-}
-
-/// The first test that refuses an access at an address through an authority that is sound if it is tagged. Most accesses
-/// are through the recent authority.
-#[tactic(auto, unfolding(crate::specs::Accesses::access_checks))]
-#[inline(always)]
-fn sound_access_fault(
-    authority: Cap,
-    access: Access,
-    address: u64,
-    recent: &mut RecentAuthority,
-) -> Option<OpFault>
-    requires sound { IsTrue authority.tag → IsSound authority.word.0 }
-    requires address { address ≡ access_address authority.word.0 access.offset }
-    ensures { option_map refusal_of result ≡ first_of (access_checks authority access.kind access.offset access.size) }
-{
-    let Cap { tag, word } = authority;
-    let permission = needed(access.kind);
-    if !tag || !recent.holds(word, access, address) || !permits(word, permission) {
-        if let Some(fault) = fault_anew(recent, tag, word, permission, address, access.size) {
-            return Some(fault);
-        }
     }
     other_fault(word, access, address)
 }
@@ -178,25 +132,6 @@ pub fn may_access(authority: Cap, access: Access) -> Result<u64, OpFault>
         address,
         access_fault(authority, access, address),
     )
-}
-
-/// Answers as [`may_access`] does for an authority whose word is sound where it is tagged, as each that a machine
-/// holds is. The authority is kept: the next access through it decodes no bounds.
-#[inline(always)]
-pub fn may_access_soundly(
-    authority: Cap,
-    access: Access,
-    recent: &mut RecentAuthority,
-) -> Result<u64, OpFault>
-    requires sound { IsTrue authority.tag → IsSound authority.word.0 }
-    ensures outcome { Ends result (access_checks authority access.kind access.offset access.size)
-        (λ address. address ≡ access_address authority.word.0 access.offset) }
-    ensures allowed { IfOk result (λ address. IsAllowed authority.word.0 address access.size (permission_for access.kind)) }
-    ensures in_one_granule { IfOk result (λ address. address % 16 + access.size ≤ 16) }
-{
-    let address = target_of(authority.word, access.offset);
-    let fault = sound_access_fault(authority, access, address, recent);
-    answer(authority, access, address, fault)
 }
 
 /// The answer to both, by the first test that refuses the access.

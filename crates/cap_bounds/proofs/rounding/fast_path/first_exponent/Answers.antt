@@ -1,6 +1,6 @@
 use Rattle.std.proofs.Common.{arith}
 use Rattle.cap_bounds.proofs.LeastExponents.{start_is}
-use Rattle.cap_bounds.proofs.rounding.first_exponent.Goals as goal
+use Rattle.cap_bounds.proofs.rounding.fast_path.first_exponent.Goals as goal
 
 pub overflow_sub-result : goal.overflow_sub-result
 overflow_sub-result c = (start_is c.args.length c.requires (omega arith)).0

@@ -3,7 +3,7 @@ use Rattle.std.proofs.lemmas.Bool.{false≢true, Decides.same_from_decides}
 use Rattle.cap_bounds.specs.{Bounds.{IsInside, base_of, top_of}, Rounding.{rounded_base, rounded_top}}
 use Rattle.cap_ops.specs.Operations.{covers, is_exact}
 use Rattle.cap_ops.proofs.NarrowingLemmas.{IsExact-is_exact, is_exact-IsExact, covers-requested, covers-escaping}
-use Rattle.cap_ops.proofs.narrowing.rounding_inside.Goals as goal
+use Rattle.cap_ops.proofs.narrowing.fast_path.rounding_inside.Goals as goal
 
 -- addresses up to the last one, and up to the top behind it
 to_top : (w base length : ℕ) → 0 < length → IsInside base (base + (length - 1 + 1)) (base_of w) (top_of w)

@@ -1,6 +1,6 @@
 use Rattle.std.proofs.Common.{◌+◌, ◌-◌, ◌^◌, arith, ltb-true, lt-ltb, pow_pos}
 use Rattle.cap_bounds.proofs.Units.{div_up-last, down-le-down}
-use Rattle.cap_bounds.proofs.rounding.covers_few.Goals as goal
+use Rattle.cap_bounds.proofs.rounding.fast_path.covers_few.Goals as goal
 
 pub returns : goal.returns
 returns c =

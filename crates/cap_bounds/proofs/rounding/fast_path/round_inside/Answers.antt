@@ -1,7 +1,7 @@
 use Rattle.std.proofs.Common.{◌≡◌, ℕ, ◌<◌, ◌≤◌, Bool, true, false, inl, inr, sym, ◌∙◌, arith}
 use Rattle.std.proofs.lemmas.Bool.{cases_lt, false≢true}
 use Rattle.cap_bounds.proofs.LeastExponents.{IsLeastExponent-start, IsLeastExponent-raised}
-use Rattle.cap_bounds.proofs.rounding.round_inside.Goals as goal
+use Rattle.cap_bounds.proofs.rounding.fast_path.round_inside.Goals as goal
 
 -- what a test that failed denies
 at_least : (units : ℕ) (few : Bool) → (units < 1024 → few ≡ true) → few ≡ false → 1024 ≤ units

@@ -1,7 +1,7 @@
 use Rattle.std.proofs.Common.{◌≡◌, ℕ, ◌+◌, ◌-◌, ◌*◌, ◌/◌, ◌%◌, ◌^◌, ◌≤◌, sym, ap, ◌∙◌, arith, subst, pow_pos}
 use Rattle.cap_bounds.specs.Rounding.{div_up}
 use Rattle.cap_bounds.proofs.{Roundings.{long_request, exact-whole, whole-exact}, Units.div_up-last}
-use Rattle.cap_bounds.proofs.rounding.round_with.Goals as goal
+use Rattle.cap_bounds.proofs.rounding.fast_path.round_with.Goals as goal
 
 -- the unit behind the last address
 high : (b l e h : ℕ) → 4096 ≤ l → h ≡ (b + (l - 1)) / 2 ^ (e + 3) → h + 1 ≡ div_up (b + l) (2 ^ (e + 3))
