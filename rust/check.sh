@@ -1,6 +1,7 @@
 #!/bin/sh
 # Checks the Rust crate: compares it with the headers, makes 20,000 random calls whose answers are those of the Python package,
-# and builds a program over the installed crate in an empty environment. Without cargo it says that all but the first is left out.
+# judges the run logs of the corpus, and builds a program over the installed crate in an empty environment. Without cargo it says
+# that all but the first is left out.
 #
 #   sh rust/check.sh [PREFIX]
 #
@@ -22,7 +23,8 @@ python3 rust/abi_check.py "$prefix"
 command -v cargo > /dev/null || { echo 'rust/check.sh: left out: the tests of the Rust crate, since there is no cargo'; exit 0; }
 PYTHONPATH="$prefix/share/capcheck" python3 rust/answers.py "${CALLS:-20000}" > "$work/answers"
 cp -r rust "$work/rust"
-(cd "$work/rust" && CAPCHECK_LIB="$prefix/lib" ANSWERS="$work/answers" RUSTFLAGS='-D warnings' cargo test --offline -q > "$work/said" 2>&1) ||
+corpus=$PWD/conformance
+(cd "$work/rust" && CAPCHECK_LIB="$prefix/lib" ANSWERS="$work/answers" CORPUS="$corpus" RUSTFLAGS='-D warnings' cargo test --offline -q > "$work/said" 2>&1) ||
     { cat "$work/said" >&2; exit 1; }
 
 # A program of a user: its manifest names the installed crate, and nothing else says where the libraries are.

@@ -163,6 +163,51 @@ pub struct Place {
     pub kind: u8,
 }
 
+#[repr(C)]
+#[derive(Clone, Copy)]
+pub struct RunLine {
+    pub line: Line,
+    pub second: Cap,
+    pub target: Place,
+    pub source: Place,
+}
+
+#[repr(C)]
+#[derive(Clone, Copy)]
+pub struct RunJudge {
+    pub at: *mut c_void,
+    pub held: bool,
+}
+
+#[repr(C)]
+#[derive(Clone, Copy)]
+pub struct Asks {
+    pub held: u8,
+    pub used: u8,
+    pub owned: u8,
+}
+
+#[repr(C)]
+#[derive(Clone, Copy)]
+pub struct RunAnswer {
+    pub line: u64,
+    pub steps: u32,
+    pub roots: u32,
+    pub objects: u32,
+    pub state: u8,
+    pub refusal: u8,
+}
+
+#[repr(C)]
+#[derive(Clone, Copy)]
+pub struct Object {
+    pub base: u64,
+    pub top: Wide,
+    pub held: u64,
+    pub line: u64,
+    pub state: u8,
+}
+
 extern "C" {
     pub fn capcheck_version() -> Name;
     pub fn capcheck_split(word: Word) -> Fields;
@@ -220,7 +265,17 @@ extern "C" {
     pub fn capcheck_line_load(buffer: *mut u8, authority: u64, offset: i64, size: u64, value: u64) -> usize;
     pub fn capcheck_line_store(buffer: *mut u8, authority: u64, offset: i64, size: u64, value: u64) -> usize;
     pub fn capcheck_line_end(buffer: *mut u8, steps: u64) -> usize;
+    pub fn capcheck_line_run_version(buffer: *mut u8) -> usize;
+    pub fn capcheck_line_root_special(buffer: *mut u8, special: u64, word: Word) -> usize;
+    pub fn capcheck_line_derive(buffer: *mut u8, target: Place, source: Place, recorded: Cap) -> usize;
+    pub fn capcheck_line_exchange(buffer: *mut u8, target: u64, source: u64, special: u64, cap: Cap, other: Cap) -> usize;
+    pub fn capcheck_line_invoke(buffer: *mut u8, code: u64, datum: u64, code_word: Word, datum_word: Word) -> usize;
+    pub fn capcheck_line_drop(buffer: *mut u8, place: Place) -> usize;
+    pub fn capcheck_line_fill(buffer: *mut u8, address: u64, word: Word) -> usize;
+    pub fn capcheck_line_object(buffer: *mut u8, target: u64, object: u64) -> usize;
+    pub fn capcheck_line_free(buffer: *mut u8, target: u64, object: u64) -> usize;
     pub fn capcheck_read_line(bytes: *const u8, length: usize) -> Line;
+    pub fn capcheck_read_run_line(bytes: *const u8, length: usize) -> RunLine;
     pub fn capcheck_judge_bytes(bytes: *const u8, length: usize) -> Answer;
     pub fn capcheck_judge_open(judge: *mut Judge) -> u8;
     pub fn capcheck_judge_line(judge: *mut Judge, line: *const u8, length: usize) -> u8;
@@ -245,4 +300,36 @@ extern "C" {
     pub fn capcheck_judge_expected(judge: *const Judge) -> Expected;
     pub fn capcheck_judge_end_report(judge: *const Judge, text: *mut u8, room: usize) -> u64;
     pub fn capcheck_judge_close(judge: *mut Judge);
+    pub fn capcheck_run_step_move(judge: *mut RunJudge, target: u64, source: u64, recorded: Cap) -> u8;
+    pub fn capcheck_run_step_cleartag(judge: *mut RunJudge, target: u64, source: u64, recorded: Cap) -> u8;
+    pub fn capcheck_run_step_setbounds(judge: *mut RunJudge, target: u64, source: u64, length: u64, recorded: Cap) -> u8;
+    pub fn capcheck_run_step_setboundsexact(judge: *mut RunJudge, target: u64, source: u64, length: u64, recorded: Cap) -> u8;
+    pub fn capcheck_run_step_setaddr(judge: *mut RunJudge, target: u64, source: u64, address: u64, recorded: Cap) -> u8;
+    pub fn capcheck_run_step_andperm(judge: *mut RunJudge, target: u64, source: u64, mask: u64, recorded: Cap) -> u8;
+    pub fn capcheck_run_step_seal(judge: *mut RunJudge, target: u64, source: u64, authority: u64, recorded: Cap) -> u8;
+    pub fn capcheck_run_step_unseal(judge: *mut RunJudge, target: u64, source: u64, authority: u64, recorded: Cap) -> u8;
+    pub fn capcheck_run_step_lc(judge: *mut RunJudge, target: u64, authority: u64, offset: i64, recorded: Cap) -> u8;
+    pub fn capcheck_run_step_sc(judge: *mut RunJudge, source: u64, authority: u64, offset: i64) -> u8;
+    pub fn capcheck_run_step_load(judge: *mut RunJudge, authority: u64, offset: i64, size: u64, value: u64) -> u8;
+    pub fn capcheck_run_step_store(judge: *mut RunJudge, authority: u64, offset: i64, size: u64, value: u64) -> u8;
+    pub fn capcheck_run_step_derive(judge: *mut RunJudge, target: Place, source: Place, recorded: Cap) -> u8;
+    pub fn capcheck_run_step_exchange(judge: *mut RunJudge, target: u64, source: u64, special: u64, cap: Cap, other: Cap) -> u8;
+    pub fn capcheck_run_step_invoke(judge: *mut RunJudge, code: u64, datum: u64, code_word: Word, datum_word: Word) -> u8;
+    pub fn capcheck_run_step_drop(judge: *mut RunJudge, place: Place) -> u8;
+    pub fn capcheck_run_step_fill(judge: *mut RunJudge, address: u64, word: Word) -> u8;
+    pub fn capcheck_run_step_object(judge: *mut RunJudge, target: u64, object: u64) -> u8;
+    pub fn capcheck_run_step_free(judge: *mut RunJudge, target: u64, object: u64) -> u8;
+    pub fn capcheck_run_judge_bytes(bytes: *const u8, length: usize, asks: Asks) -> RunAnswer;
+    pub fn capcheck_run_judge_open(judge: *mut RunJudge, asks: Asks) -> u8;
+    pub fn capcheck_run_judge_line(judge: *mut RunJudge, line: *const u8, length: usize) -> u8;
+    pub fn capcheck_run_judge_lines(judge: *mut RunJudge, bytes: *const u8, length: usize) -> Taken;
+    pub fn capcheck_run_judge_answer(judge: *const RunJudge) -> RunAnswer;
+    pub fn capcheck_run_judge_end(judge: *const RunJudge) -> RunAnswer;
+    pub fn capcheck_run_judge_held(judge: *const RunJudge, place: Place) -> OptionalCap;
+    pub fn capcheck_run_judge_owner(judge: *const RunJudge, place: Place) -> u32;
+    pub fn capcheck_run_judge_object(judge: *const RunJudge, number: u32) -> Object;
+    pub fn capcheck_run_judge_next_object(judge: *const RunJudge, from: u32) -> u32;
+    pub fn capcheck_run_judge_holder(judge: *const RunJudge, number: u32) -> Place;
+    pub fn capcheck_run_judge_end_report(judge: *const RunJudge, text: *mut u8, room: usize) -> u64;
+    pub fn capcheck_run_judge_close(judge: *mut RunJudge);
 }

@@ -7,11 +7,11 @@ use std::cell::UnsafeCell;
 use std::ffi::c_void;
 use std::{error, fmt, ptr};
 
-const GOES_ON: u8 = 0;
-const YES: u8 = 1;
-const NO: u8 = 2;
-const NO_MEMORY: u8 = 3;
-const REPORT_SIZE: usize = 3136;
+pub(crate) const GOES_ON: u8 = 0;
+pub(crate) const YES: u8 = 1;
+pub(crate) const NO: u8 = 2;
+pub(crate) const NO_MEMORY: u8 = 3;
+pub(crate) const REPORT_SIZE: usize = 3136;
 
 /// The verdict on a log. It is displayed as `capcheck judge` prints it.
 #[derive(Clone, Copy, Debug, PartialEq, Eq, Hash)]

@@ -1,5 +1,5 @@
 //! 128-bit CHERI capabilities with 64-bit addresses, over the proved C libraries `libcapcheck_c` and `libcapcheck_judge`:
-//! words, bounds, operations, the lines of a log, and the judge, which an emulator asks after each step.
+//! words, bounds, operations, the lines of logs and of run logs, and their judges, which an emulator asks after each step.
 //!
 //! ```
 //! use capcheck::{permissions, Capability, Judge, Line, Refusal, Verdict};
@@ -27,11 +27,13 @@ mod judges;
 mod lines;
 pub mod permissions;
 mod refusals;
+mod runs;
 mod words;
 
 pub use judges::{judge_bytes, Expected, Fault, Judge, Place, Verdict};
 pub use lines::{read_lines, Line, LineText, OutOfRange, ReadLines};
 pub use refusals::Refusal;
+pub use runs::{judge_run_bytes, Asks, Object, RunJudge, RunLine, RunPlace, RunVerdict};
 pub use words::*;
 
 /// The version of the libraries, such as `1.2.0`.

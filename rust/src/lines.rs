@@ -121,6 +121,17 @@ pub struct LineText {
     length: usize,
 }
 
+impl LineText {
+    /// The text that a call of C writes, which returns its length, or 0 if a number is out of range.
+    pub(crate) fn by(write: impl FnOnce(*mut u8) -> usize) -> Result<LineText, OutOfRange> {
+        let mut bytes = [0; LINE_SIZE];
+        match write(bytes.as_mut_ptr()) {
+            0 => Err(OutOfRange),
+            length => Ok(LineText { bytes, length }),
+        }
+    }
+}
+
 impl ops::Deref for LineText {
     type Target = [u8];
 
@@ -132,9 +143,12 @@ impl ops::Deref for LineText {
 impl Line {
     /// Writes the line.
     pub fn write(&self) -> Result<LineText, OutOfRange> {
-        let mut bytes = [0; LINE_SIZE];
-        let to = bytes.as_mut_ptr();
-        let length = unsafe {
+        LineText::by(|to| unsafe { self.write_to(to) })
+    }
+
+    /// Writes the line to where a buffer of [`LINE_SIZE`] bytes is.
+    pub(crate) unsafe fn write_to(&self, to: *mut u8) -> usize {
+        unsafe {
             match *self {
                 Line::Version(number) => abi::capcheck_line_version(to, number),
                 Line::Mode { clear } => abi::capcheck_line_mode(to, clear.into()),
@@ -168,21 +182,22 @@ impl Line {
                 Line::Store { authority, offset, size, value } => abi::capcheck_line_store(to, authority, offset, size, value),
                 Line::End { steps } => abi::capcheck_line_end(to, steps),
             }
-        };
-        if length == 0 {
-            return Err(OutOfRange);
         }
-        Ok(LineText { bytes, length })
     }
 
     /// Reads the line at the front of some bytes, with its line feed: the line and its length, or none.
     pub fn read(bytes: &[u8]) -> Option<(Line, usize)> {
         let found = unsafe { abi::capcheck_read_line(bytes.as_ptr(), bytes.len()) };
+        Some((Line::of(&found)?, found.length))
+    }
+
+    /// The line that C read, or none.
+    pub(crate) fn of(found: &abi::Line) -> Option<Line> {
         let (target, source, authority) = (found.target.into(), found.source.into(), found.authority.into());
         let (offset, size, number) = (found.offset.into(), found.size.into(), found.number);
         let recorded = Capability::from(found.cap);
         let word = recorded.word();
-        let line = match found.kind {
+        Some(match found.kind {
             1 => Line::Version(number),
             2 => Line::Mode { clear: number != 0 },
             3 => Line::Root { target, word },
@@ -201,8 +216,7 @@ impl Line {
             16 => Line::Store { authority, offset, size, value: number },
             17 => Line::End { steps: number },
             _ => return None,
-        };
-        Some((line, found.length))
+        })
     }
 }
 
