@@ -1,15 +1,11 @@
 -- Bytes are not both a log and at fault in a line.
-use Rattle.std.specs.List.{AllByRecursion, list_all}
-use Rattle.std.proofs.Common.{◌≡◌, ◌≢◌, ℕ, ◌+◌, ◌^◌, ◌<◌, ◌≤◌, ◌⊎◌, Some, None, inl, inr, List, [], ◌∷◌, ◌++◌, length}
-use Rattle.std.proofs.Common.{map, refl, sym, ap, subst, ◌∙◌, append-nil, append_assoc, arith, codes, decimal, true}
-use Rattle.std.proofs.{Common.{not, eqb, Option, IsSome, length-append}, lemmas.Bool.{false≢true}}
-use Rattle.std.proofs.lemmas.{List.Elements.All-append, Option.none-some}
-use Rattle.cap_word.specs.Digits.{hex_digits}
-use Rattle.cap_word.proofs.DigitLemmas.{length-hex_digits}
+use Rattle.std.specs.List.{AllByRecursion}
+use Rattle.std.proofs.Common.{◌≡◌, ◌≢◌, ℕ, ◌+◌, ◌^◌, ◌<◌, ◌⊎◌, Some, None, inl, inr, List, [], ◌∷◌, ◌++◌, length}
+use Rattle.std.proofs.Common.{map, refl, sym, ap, subst, ◌∙◌, append-nil, append_assoc, arith}
+use Rattle.std.proofs.{Common.{Option, IsSome, length-append}, lemmas.Bool.{false≢true}}
+use Rattle.std.proofs.lemmas.Option.{none-some}
 use Rattle.cap_bounds.specs.declared.decoding.Interval.{Interval}
-use Rattle.cap_streams.specs.Front.{HasNoFeed, IsLine, FrontIs}
-use Rattle.cap_log.specs.Spaceless.{Lacks-by_test, Lacks-hex, Lacks-decimal}
-use Rattle.cap_log.proofs.ElementLemmas.{short_decimal}
+use Rattle.cap_streams.specs.Front.{IsLine, FrontIs}
 use Rattle.cap_streams.proofs.FrontLemmas.{IsLine-same, IsLine-not_too_long, IsLine-not_cut}
 use Rattle.cap_heap.specs.declared.{events.Event.{Event, TheVariants.{Malloc, Free}}, lines.HeapLine.HeapLine}
 use Rattle.cap_heap.specs.declared.lines.HeapLine.TheVariants.{Header, Root, Happens, End}
@@ -17,49 +13,12 @@ use Rattle.cap_heap.specs.{declared.refusal.HeapRefusal.HeapRefusal, Beginnings.
 use Rattle.cap_heap.specs.{Events.{RefusesEvent, after_event}, HeapLines.{IsHeapLineInRange, SpellsHeapLine}}
 use Rattle.cap_heap.specs.{HeapLines.heap_spelling, HeapLogs.{IsHeapLogOf, IsFirstHeapFault, RefusesHeapLine}}
 use Rattle.cap_heap.specs.{HeapLogs.{RefusesText, RefusesHeap, heap_text_of}, Objects.{Objects, no_objects, IsApart}}
-use Rattle.cap_heap.proofs.{LineLemmas.one_spelling, Objects.{with_object-at, with_object-other}, RunLemmas.{from, now}}
+use Rattle.cap_heap.proofs.{LineLemmas.{line-plain, line-short, one_spelling}, RunLemmas.{from, now}}
+use Rattle.cap_heap.proofs.Objects.{with_object-at, with_object-other}
 
--- a line has no line feed and at most 95 bytes
-
-no_feed : (text : List ℕ) → list_all (λ b. not (eqb b 10)) text ≡ true → HasNoFeed text
-no_feed text h = Lacks-by_test 10 text h
-
-with_front : (front rest : List ℕ) → list_all (λ b. not (eqb b 10)) front ≡ true → HasNoFeed rest → HasNoFeed (front ++ rest)
-with_front front rest h k = All-append (λ b. b ≢ 10) front rest (no_feed front h) k
-
-digits : (k n : ℕ) → HasNoFeed (hex_digits k n)
-digits k n = Lacks-hex 10 k n refl
-
-two : (k n j m : ℕ) → HasNoFeed (hex_digits k n ++ (codes " " ++ hex_digits j m))
-two k n j m = All-append (λ b. b ≢ 10) (hex_digits k n) (codes " " ++ hex_digits j m) (digits k n)
-    (with_front (codes " ") (hex_digits j m) refl (digits j m))
-
-plain : (line : HeapLine) → IsHeapLineInRange line → HasNoFeed (heap_spelling line)
-plain Header range = no_feed (codes "heap 1") refl
-plain (Root bounds) range = with_front (codes "root ") _ refl (two 16 bounds.base 17 bounds.top)
-plain (Happens (Malloc at size)) range = with_front (codes "malloc ") _ refl (two 16 at 16 size)
-plain (Happens (Free at)) range = with_front (codes "free ") _ refl (digits 16 at)
-plain (End count) range = with_front (codes "end ") (decimal count) refl (Lacks-decimal 10 count (omega arith) (omega arith))
-
-length_two : (k n j m : ℕ) → length (hex_digits k n ++ (codes " " ++ hex_digits j m)) ≡ k + (1 + j)
-length_two k n j m =
-    omega (
-      arith,
-      length-append (hex_digits k n) (codes " " ++ hex_digits j m),
-      length-append (codes " ") (hex_digits j m),
-      length-hex_digits k n,
-      length-hex_digits j m,
-    )
-
-short : (line : HeapLine) → IsHeapLineInRange line → length (heap_spelling line) ≤ 95
-short Header range = omega arith
-short (Root bounds) range = omega (arith, length-append (codes "root ") (hex_digits 16 bounds.base ++ (codes " " ++ hex_digits 17 bounds.top)), length_two 16 bounds.base 17 bounds.top)
-short (Happens (Malloc at size)) range = omega (arith, length-append (codes "malloc ") (hex_digits 16 at ++ (codes " " ++ hex_digits 16 size)), length_two 16 at 16 size)
-short (Happens (Free at)) range = omega (arith, length-append (codes "free ") (hex_digits 16 at), length-hex_digits 16 at)
-short (End count) range = omega (arith, length-append (codes "end ") (decimal count), short_decimal count (omega arith))
-
+-- a line at the front of some bytes
 is_line : (line : HeapLine) → IsHeapLineInRange line → (rest : List ℕ) → IsLine (heap_spelling line ++ 10 ∷ rest) (heap_spelling line) rest
-is_line line range rest = record { whole = refl; one = plain line range; short = short line range }
+is_line line range rest = record { whole = refl; one = line-plain line range; short = line-short line range }
 
 text_cons : (line : HeapLine) (lines : List HeapLine) (rest : List ℕ)
     → heap_text_of (line ∷ lines) ++ rest ≡ heap_spelling line ++ 10 ∷ (heap_text_of lines ++ rest)

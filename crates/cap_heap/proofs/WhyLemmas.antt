@@ -1,23 +1,17 @@
 -- What is told of a line for its refusal.
-use Rattle.std.proofs.Common.{◌≡◌, ◌⊎◌, ℕ, inl, inr, List, Option, refl, sym, subst, IfNone, Some, None}
+use Rattle.std.proofs.Common.{◌≡◌, ◌≢◌, ◌⊎◌, ℕ, inl, inr, List, refl, sym, subst}
 use Rattle.cap_bounds.specs.declared.decoding.Interval.{Interval}
-use Rattle.cap_heap.specs.declared.{events.Event.{Event, TheVariants.{Malloc, Free}}, lines.HeapLine.HeapLine}
+use Rattle.cap_heap.specs.declared.{events.Event.{Event, TheVariants.Malloc}, lines.HeapLine.HeapLine}
 use Rattle.cap_heap.specs.declared.{lines.HeapLine.TheVariants.Happens, refusal.HeapRefusal.HeapRefusal}
 use Rattle.cap_heap.specs.declared.refusal.HeapRefusal.TheVariants.{Misplaced, WrongCount, LimitPassed}
 use Rattle.cap_heap.specs.{declared.refusal.HeapRefusal.TheVariants.OutsideHeap, HeapLines.SpellsHeapLine}
 use Rattle.cap_heap.specs.{HeapWhys.{AreHeapDetails, AreEventDetails, count_in, counted_lines}, Objects.Objects}
+use Rattle.cap_heap.proofs.LineLemmas.{one_spelling}
 
--- no event is spelled where neither kind is
-no_event : (text : List ℕ) → ((at size : ℕ) → SpellsHeapLine text (Happens (Malloc at size)) → ⊥) → ((at : ℕ) → SpellsHeapLine text (Happens (Free at)) → ⊥)
+-- no event is spelled where another line is
+pub no_event : (text : List ℕ) (line : HeapLine) → SpellsHeapLine text line → ((event : Event) → line ≢ Happens event)
     → (event : Event) → SpellsHeapLine text (Happens event) → ⊥
-no_event text malloc free (Malloc at size) spells = malloc at size spells
-no_event text malloc free (Free at) spells = free at spells
-
-pub none_read : (text : List ℕ) (read : Option Event) → ((at size : ℕ) → SpellsHeapLine text (Happens (Malloc at size)) → ⊥)
-    → IfNone read ((at : ℕ) → SpellsHeapLine text (Happens (Free at)) → ⊥)
-    → IfNone read ((event : Event) → SpellsHeapLine text (Happens event) → ⊥)
-none_read text None malloc free = no_event text malloc free
-none_read text (Some event) malloc free = tt
+no_event text line spells other event spells' = other event (one_spelling text line (Happens event) spells spells')
 
 -- the details of a request that is refused for another reason than that it lies outside the heap
 pub other_details : (heap : Interval) (objects : Objects) (at size : ℕ) (refusal other : HeapRefusal) (details : List ℕ)

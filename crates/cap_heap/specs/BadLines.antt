@@ -3,37 +3,26 @@ use Rattle.std.specs.Prelude.{◌≡◌, ◌⊎◌, ℕ, List, [], ◌∷◌, �
 use Rattle.cap_texts.specs.{declared.fields.Field.Field, Fields.{AllStand, IsFirstWrong}, TextLines.text_line}
 use Rattle.cap_texts.specs.WrongLines.{header_lines, hint_line, wrong_lines}
 use Rattle.cap_texts.specs.declared.fields.Field.TheVariants as fields
-use Rattle.cap_heap.specs.declared.bad_lines.Name.{Name, TheVariants.{Header, Root, Malloc, Free, End}}
+use Rattle.cap_heap.specs.{declared.heads.HeapHead.HeapHead, HeapLines.IsNamed}
+use Rattle.cap_heap.specs.declared.heads.HeapHead.TheVariants as heads
 
--- the first word of a line
-abbrev pub name_text : Name → List ℕ
-name_text Header = codes "heap"
-name_text Root = codes "root"
-name_text Malloc = codes "malloc"
-name_text Free = codes "free"
-name_text End = codes "end"
-
--- the fields that follow it
-abbrev pub fields_of : Name → List Field
-fields_of Header = fields.HeapVersion ∷ []
-fields_of Root = fields.Number ∷ fields.Top ∷ []
-fields_of Malloc = fields.Number ∷ fields.Number ∷ []
-fields_of Free = fields.Number ∷ []
-fields_of End = fields.Count ∷ []
-
--- a line begins with this name and a space
-abbrev pub IsNamed : List ℕ → Name → List ℕ → Type 0
-IsNamed line name operands = line ≡ name_text name ++ 32 ∷ operands
+-- the fields that follow the first word of a line
+abbrev pub fields_of : HeapHead → List Field
+fields_of heads.Header = fields.HeapVersion ∷ []
+fields_of heads.Root = fields.Number ∷ fields.Top ∷ []
+fields_of heads.Malloc = fields.Number ∷ fields.Number ∷ []
+fields_of heads.Free = fields.Number ∷ []
+fields_of heads.End = fields.Count ∷ []
 
 -- the first wrong word of a line with its line feed: its name, or the first of the fields of its kind
 abbrev pub IsWrongWord : List ℕ → Field → ℕ → List ℕ → Type 0
 IsWrongWord line field end rest =
-    ((name : Name) × (operands : List ℕ) × IsNamed line name operands × IsFirstWrong (fields_of name) 0 operands field end rest)
-    ⊎ (((name : Name) (operands : List ℕ) → IsNamed line name operands → ⊥) × (field ≡ fields.HeapName) × (end ≡ 32) × (rest ≡ line))
+    ((head : HeapHead) × (operands : List ℕ) × IsNamed line head operands × IsFirstWrong (fields_of head) 0 operands field end rest)
+    ⊎ (((head : HeapHead) (operands : List ℕ) → IsNamed line head operands → ⊥) × (field ≡ fields.HeapName) × (end ≡ 32) × (rest ≡ line))
 
 -- no word of a line with its line feed is wrong
 abbrev pub HasNoWrongWord : List ℕ → Type 0
-HasNoWrongWord line = (name : Name) × (operands : List ℕ) × IsNamed line name operands × AllStand (fields_of name) 0 operands
+HasNoWrongWord line = (head : HeapHead) × (operands : List ℕ) × IsNamed line head operands × AllStand (fields_of head) 0 operands
 
 -- what is told of a line that has no form: its first wrong word; or where none is, that a root ends below its base
 abbrev pub AreBadLines : List ℕ → List ℕ → Type 0

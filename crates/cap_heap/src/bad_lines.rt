@@ -3,29 +3,14 @@
 ghost use Rattle.std.specs.Prelude.{◌≡◌, ◌++◌, ℕ, List, ◌+◌, ◌≤◌, IfNone, IfSome, codes, false, length, true};
 ghost use Rattle.cap_streams.specs.Written.{Writes};
 ghost use Rattle.cap_texts.specs.{TextLines.text_line, WrongLines.hint_line};
-ghost use Rattle.cap_heap.specs.{declared.bad_lines.Name.Name, BadLines.{AreBadLines, AreFirstLines, HasNoWrongWord}};
-ghost use Rattle.cap_heap.specs.BadLines.{IsMachineHeader, IsNamed, IsWrongWord, fields_of};
+ghost use Rattle.cap_heap.specs.BadLines.{AreBadLines, AreFirstLines, HasNoWrongWord, IsMachineHeader, IsWrongWord};
+ghost use Rattle.cap_heap.specs.BadLines.{fields_of};
 
-use crate::readers::strip_text;
+use crate::heads::HeapHead;
 use cap_log::buffers::put;
 use cap_texts::fields::{Field, Wrong, first_wrong};
 use cap_texts::text_lines::put_line;
 use cap_texts::wrong_lines::{put_header_lines, put_hint_line, put_wrong_lines};
-
-/// The first word of a line.
-#[derive(Clone, Copy, Debug, PartialEq, Eq)]
-pub(crate) enum Name {
-    /// `heap`.
-    Header,
-    /// `root`.
-    Root,
-    /// `malloc`.
-    Malloc,
-    /// `free`.
-    Free,
-    /// `end`.
-    End,
-}
 
 /// Writes what the first line of a log has to be.
 pub(crate) fn put_bad_header(buffer: &mut [u8], at: usize, text: &[u8]) -> usize
@@ -71,8 +56,8 @@ fn wrong_word(line: &[u8]) -> Option<Wrong<'_>>
     ensures none { IfNone result (HasNoWrongWord line.now) }
     ensures inside { IfSome result (λ wrong. length wrong.rest.now ≤ length line.now) }
 {
-    match take_name(line) {
-        Some((name, operands)) => first_wrong(fields_of(name), 0, operands),
+    match HeapHead::take(line) {
+        Some((head, operands)) => first_wrong(fields_of(head), 0, operands),
         None => Some(Wrong {
             field: Field::HeapName,
             end: b' ',
@@ -81,39 +66,15 @@ fn wrong_word(line: &[u8]) -> Option<Wrong<'_>>
     }
 }
 
-// The name at the front of a line, and what follows its space.
-fn take_name(line: &[u8]) -> Option<(Name, &[u8])>
-    ensures some { IfSome result (λ p. IsNamed line.now p.0 p.1.now) }
-    ensures none { IfNone result ((name : Name) (operands : List ℕ) → IsNamed line.now name operands → ⊥) }
-    ensures inside { IfSome result (λ p. length p.1.now ≤ length line.now) }
+// The fields that follow the first word of a line.
+fn fields_of(head: HeapHead) -> &'static [Field]
+    ensures { result.now ≡ fields_of head }
 {
-    if let Some(operands) = strip_text(line, b"malloc ") {
-        return Some((Name::Malloc, operands));
-    }
-    if let Some(operands) = strip_text(line, b"free ") {
-        return Some((Name::Free, operands));
-    }
-    if let Some(operands) = strip_text(line, b"root ") {
-        return Some((Name::Root, operands));
-    }
-    if let Some(operands) = strip_text(line, b"end ") {
-        return Some((Name::End, operands));
-    }
-    match strip_text(line, b"heap ") {
-        Some(operands) => Some((Name::Header, operands)),
-        None => None,
-    }
-}
-
-// The fields that follow a name.
-fn fields_of(name: Name) -> &'static [Field]
-    ensures { result.now ≡ fields_of name }
-{
-    match name {
-        Name::Header => &[Field::HeapVersion],
-        Name::Root => &[Field::Number, Field::Top],
-        Name::Malloc => &[Field::Number, Field::Number],
-        Name::Free => &[Field::Number],
-        Name::End => &[Field::Count],
+    match head {
+        HeapHead::Header => &[Field::HeapVersion],
+        HeapHead::Root => &[Field::Number, Field::Top],
+        HeapHead::Malloc => &[Field::Number, Field::Number],
+        HeapHead::Free => &[Field::Number],
+        HeapHead::End => &[Field::Count],
     }
 }

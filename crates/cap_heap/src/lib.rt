@@ -9,6 +9,7 @@
 
 mod bad_lines;
 mod events;
+mod heads;
 mod heap;
 mod judge;
 mod laws;

@@ -10,7 +10,7 @@ use crate::events::{Event, EventEnd};
 use crate::heap::Heap;
 use crate::lines::HeapLine;
 use crate::log_parts::LogPart;
-use crate::readers::{is_header, read_heap_line};
+use crate::readers::read_heap_line;
 use crate::refusal::HeapRefusal;
 use crate::report::HeapReport;
 use cap_bounds::Interval;
@@ -92,7 +92,7 @@ impl Progress {
         ensures err { IfErr result (EndsText self.old text.now) }
         ensures stays { OnErr result (Stays self.old self.new) }
     {
-        if !is_header(text) {
+        if text != b"heap 1".as_slice() {
             return Err(EventEnd::Refused(HeapRefusal::BadHeader));
         }
         self.stage = LogPart::Headed;

@@ -11,9 +11,10 @@ ghost use Rattle.cap_heap.specs.{Heaps.objects_in, Progresses.{AreEventDetailsIn
 use crate::bad_lines::{put_bad_header, put_bad_line};
 use crate::events::Event;
 use crate::heap::Heap;
+use crate::lines::HeapLine;
 use crate::log_parts::LogPart;
 use crate::progress::Progress;
-use crate::readers::read_event;
+use crate::readers::read_heap_line;
 use crate::refusal::HeapRefusal;
 use crate::report::alignment;
 use cap_bounds::{Interval, round, round_length};
@@ -93,11 +94,14 @@ fn put_event_lines(
     ensures written { (details : List ℕ) × AreEventDetailsIn heap.now text.now refusal details
         × Writes at details buffer.old buffer.new result }
 {
-    match read_event(text) {
-        Some(Event::Malloc { address, length }) => {
+    match read_heap_line(text) {
+        Some(HeapLine::Happens(Event::Malloc { address, length })) => {
             put_malloc_lines(heap, address, length, refusal, buffer, at)
         }
-        Some(Event::Free { address }) => put_free_lines(heap, address, buffer, at),
+        Some(HeapLine::Happens(Event::Free { address })) => {
+            put_free_lines(heap, address, buffer, at)
+        }
+        Some(_) => at,
         None => at,
     }
 }

@@ -1,9 +1,8 @@
 -- What follows a field of a line.
-use Rattle.std.proofs.Common.{◌≡◌, ℕ, ◌*◌, List, ◌∷◌, ◌++◌, drop, Option, sym, ap, ◌∙◌, inl, inr, codes, drop_at}
-use Rattle.std.proofs.Common.{IfNone, Some, None}
+use Rattle.std.proofs.Common.{◌≡◌, ℕ, ◌*◌, List, ◌∷◌, ◌++◌, drop, Option, sym, ap, ◌∙◌, drop_at, IfNone, Some, None}
 use Rattle.cap_word.specs.Digits.{hex_digits}
 use Rattle.cap_word.proofs.DigitLemmas.{length-hex_digits}
-use Rattle.cap_texts.specs.Fields.{StandsTop, StandsValue, bytes_of_size}
+use Rattle.cap_texts.specs.Fields.{StandsValue, bytes_of_size}
 
 -- what holds where there is none, by what does
 pub none_by : {A : Type 0} {P Q : Type 0} (option : Option A) → (P → Q) → IfNone option P → IfNone option Q
@@ -19,9 +18,3 @@ no_value size end number bytes others is none rest stands =
     none rest (sym (drop_at (hex_digits count number) others count (length-hex_digits count number))
     ∙ ap (drop count) (sym is ∙ stands.2)
     ∙ drop_at (hex_digits count stands.0) (end ∷ rest) count (length-hex_digits count stands.0))
-
--- no end of a root where the digits are neither those of a number of 64 bits nor those of 2 ^ 64
-pub no_top : (end : ℕ) (bytes : List ℕ) → ((rest : List ℕ) → bytes ≡ codes "0" ++ rest → ⊥)
-    → ((rest : List ℕ) → bytes ≡ codes "10000000000000000" ++ end ∷ rest → ⊥) → (rest : List ℕ) → StandsTop end bytes rest → ⊥
-no_top end bytes low greatest rest (inl stands) = low (hex_digits 16 stands.0 ++ end ∷ rest) stands.2
-no_top end bytes low greatest rest (inr is) = greatest rest is

@@ -1,24 +1,19 @@
 -- The fields of a line, and the first of them that is wrong. All of it is this profile's own.
-use Rattle.std.specs.Prelude.{◌≡◌, ◌==◌, if◌then◌else◌, ◌⊎◌, ℕ, ◌*◌, ◌^◌, ◌<◌, List, [], ◌∷◌, ◌++◌, Contains, codes}
-use Rattle.std.specs.{Prelude.{decimal, ℤ}, Fmt.signed_decimal}
+use Rattle.std.specs.Prelude.{◌≡◌, ◌==◌, if◌then◌else◌, ◌⊎◌, ℕ, ◌*◌, ◌^◌, ◌<◌, ◌≤◌, List, [], ◌∷◌, ◌++◌, Contains}
+use Rattle.std.specs.{Prelude.{codes, decimal, ℤ}, Fmt.signed_decimal}
 use Rattle.cap_word.specs.{declared.word.Word.Word, Digits.hex_digits}
 use Rattle.cap_log.specs.Heads.{line_names}
 use Rattle.cap_log.specs.declared.lines.{Mode.Mode as ModeOf, Place.Place as PlaceOf}
 use Rattle.cap_log.specs.Lines.{IsPlace, IsWord, IsNumber, place_spelling, register_spelling, mode_spelling}
 use Rattle.cap_log.specs.{Parts.{Begins, IsCount, IsMode}, Ranges.{IsOffset, IsRegisterFrom}}
+use Rattle.cap_texts.specs.declared.tops.Top.{Top}
 use Rattle.cap_texts.specs.declared.fields.Field.{Field, TheVariants.{LogName, HeapName, LogVersion, HeapVersion, Mode}}
-use Rattle.cap_texts.specs.declared.fields.Field.TheVariants.{Place, Target, Register, Number, Top, Offset, Size}
-use Rattle.cap_texts.specs.declared.fields.Field.TheVariants.{Equals, Value, Tag, Word as WordField, Count}
+use Rattle.cap_texts.specs.declared.fields.Field.TheVariants.{Place, Target, Register, Number, Top as TopField, Offset}
+use Rattle.cap_texts.specs.declared.fields.Field.TheVariants.{Size, Equals, Value, Tag, Word as WordField, Count}
 
 -- one of these digits, the byte that ends it, and a rest
 abbrev pub StandsDigit : List ℕ → ℕ → List ℕ → List ℕ → Type 0
 StandsDigit digits end bytes rest = (digit : ℕ) × Contains digits digit × (bytes ≡ digit ∷ end ∷ rest)
-
--- seventeen digits of a number up to 2^64, the byte that ends them, and a rest
-abbrev pub StandsTop : ℕ → List ℕ → List ℕ → Type 0
-StandsTop end bytes rest =
-    ((low : ℕ) × (low < 2 ^ 64) × (bytes ≡ codes "0" ++ (hex_digits 16 low ++ end ∷ rest)))
-    ⊎ (bytes ≡ codes "10000000000000000" ++ end ∷ rest)
 
 -- how many bytes a size's digit stands for
 abbrev pub bytes_of_size : ℕ → ℕ
@@ -41,7 +36,8 @@ Stands Place size end bytes rest = (place : PlaceOf) × Begins IsPlace place_spe
 Stands Target size end bytes rest = (n : ℕ) × Begins (IsRegisterFrom 1) register_spelling end bytes n rest
 Stands Register size end bytes rest = (n : ℕ) × Begins (IsRegisterFrom 0) register_spelling end bytes n rest
 Stands Number size end bytes rest = (n : ℕ) × Begins IsNumber (hex_digits 16) end bytes n rest
-Stands Top size end bytes rest = StandsTop end bytes rest
+Stands TopField size end bytes rest =
+    (top : Top) × Begins (λ (t : Top). t.0 ≤ 2 ^ 64) (λ (t : Top). hex_digits 17 t.0) end bytes top rest
 Stands Offset size end bytes rest = (z : ℤ) × Begins IsOffset signed_decimal end bytes z rest
 Stands Size size end bytes rest = StandsDigit (codes "1248") end bytes rest
 Stands Equals size end bytes rest = StandsDigit (codes "=") end bytes rest
@@ -87,7 +83,7 @@ expected_text Place = codes "a register, c1 to c31, or @ and an address of 16 lo
 expected_text Target = codes "a register that is written, c1 to c31"
 expected_text Register = codes "a register, c0 to c31"
 expected_text Number = codes "16 lower-case hexadecimal digits"
-expected_text Top = codes "17 lower-case hexadecimal digits, at most 10000000000000000"
+expected_text TopField = codes "17 lower-case hexadecimal digits, at most 10000000000000000"
 expected_text Offset = codes "an offset, -2048 to 2047"
 expected_text Size = codes "a size, 1, 2, 4 or 8"
 expected_text Equals = codes "an equals sign"

@@ -1,10 +1,11 @@
 //! The fields of a line, which are its words, and the first of them that is wrong.
 
-ghost use Rattle.std.specs.Prelude.{◌≡◌, ◌≤◌, ◌∷◌, ◌++◌, ℕ, List, IfNone, IfSome, codes, length};
+ghost use Rattle.std.specs.Prelude.{◌≡◌, ◌≤◌, ◌∷◌, ℕ, List, IfNone, IfSome, length};
 ghost use Rattle.cap_log.specs.Parts.{Begins, BeginsWithNone, IsEnd};
-ghost use Rattle.cap_texts.specs.Fields.{AllStand, IsFirstWrong, Stands, StandsDigit, StandsValue, StandsTop};
+ghost use Rattle.cap_texts.specs.Fields.{AllStand, IsFirstWrong, Stands, StandsDigit, StandsValue};
 ghost use Rattle.cap_texts.specs.Fields.{bytes_of_size, end_of, expected_text, size_after};
 
+use crate::tops::Top;
 use cap_log::kinds::LINE_NAMES;
 use cap_log::{Mode, Offset, Part, Place, Register, Target};
 use cap_word::{Word, take_bytes};
@@ -112,7 +113,7 @@ fn take_field(field: Field, size: u8, bytes: &[u8], end: u8) -> Option<&[u8]>
         Field::Target => take_part::<Target>(bytes, end),
         Field::Register => take_part::<Register>(bytes, end),
         Field::Number => take_part::<u64>(bytes, end),
-        Field::Top => take_top(bytes, end),
+        Field::Top => take_part::<Top>(bytes, end),
         Field::Offset => take_part::<Offset>(bytes, end),
         Field::Size => take_digit(bytes, end, b"1248"),
         Field::Equals => take_digit(bytes, end, b"="),
@@ -147,29 +148,6 @@ fn take_digit<'a>(bytes: &'a [u8], end: u8, digits: &[u8]) -> Option<&'a [u8]>
     } else {
         None
     }
-}
-
-// What follows the end of a root, and the byte that ends it: seventeen digits, 2^64 at most.
-fn take_top(bytes: &[u8], end: u8) -> Option<&[u8]>
-    requires { IsEnd end }
-    ensures some { IfSome result (λ rest. StandsTop end bytes.now rest.now) }
-    ensures none { IfNone result ((rest : List ℕ) → StandsTop end bytes.now rest → ⊥) }
-    ensures inside { IfSome result (λ rest. length rest.now ≤ length bytes.now) }
-{
-    match bytes.strip_prefix(b"0") {
-        Some(low) => take_part::<u64>(low, end),
-        None => take_greatest_top(bytes, end),
-    }
-}
-
-// What follows 2^64 in seventeen digits, and the byte that ends them.
-fn take_greatest_top(bytes: &[u8], end: u8) -> Option<&[u8]>
-    ensures some { IfSome result (λ rest. bytes.now ≡ codes "10000000000000000" ++ end ∷ rest.now) }
-    ensures none { IfNone result ((rest : List ℕ) → bytes.now ≡ codes "10000000000000000" ++ end ∷ rest → ⊥) }
-    ensures inside { IfSome result (λ rest. length rest.now ≤ length bytes.now) }
-{
-    let others = bytes.strip_prefix(b"10000000000000000")?;
-    take_end(others, end)
 }
 
 // What follows a value of a size and the byte that ends it.

@@ -8,6 +8,7 @@ pub mod fields;
 mod round_lines;
 pub mod shown_bytes;
 pub mod text_lines;
+pub mod tops;
 pub mod wrong_lines;
 
 pub use crate::explain_lines::{explain_text, memory_text};

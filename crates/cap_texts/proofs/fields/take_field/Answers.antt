@@ -17,10 +17,6 @@ pub returns-in-HeapVersion-clause-none : goal.returns-in-HeapVersion-clause-none
 returns-in-HeapVersion-clause-none c =
     none_as _ _ _ _ _ _ c.in-HeapVersion.is c.take_digit-in-HeapVersion.ensures.none
 
-pub returns-in-Top-clause-none : goal.returns-in-Top-clause-none
-returns-in-Top-clause-none c =
-    none_as _ _ _ _ _ _ c.in-Top.is c.take_top.ensures.none
-
 pub returns-in-Size-clause-none : goal.returns-in-Size-clause-none
 returns-in-Size-clause-none c =
     none_as _ _ _ _ _ _ c.in-Size.is c.take_digit-in-Size.ensures.none
