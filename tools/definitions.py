@@ -6,9 +6,10 @@
 
 A definition reaches those that its text names, by the `use` lines of its file. Lines are counted without comments
 and without blank ones. A crate's section lists all definitions of a file that it names (`specs/Fields`), except those
-of "(except `NAME`, ..)" after it, or only those of "(only `NAME`, ..)". The status is 1 where a section lacks a
-definition that is reached or excepts one, where it names a definition or a file that the crate doesn't have, or where
-the page tells other numbers of definitions and lines than the command after them counts."""
+of "(except `NAME`, ..)" after it, or only those of "(only `NAME`, ..)". A file whose name ends in `Laws` holds laws,
+which no section has to list. The status is 1 where a section lacks a definition that is reached or excepts one, where it
+names a definition or a file that the crate doesn't have, or where the page tells other numbers of definitions and lines
+than the command after them counts."""
 import glob
 import os
 import re
@@ -173,7 +174,7 @@ def compare():
         section = re.search(rf"^## {crate}:.*?(?=^## )", page + "\n## ", re.M | re.S)
         section = section[0] if section else ""
         pairs, strange = listed(crate, section, SPECS)
-        lacks = sorted(f"{module[1]}.{name}" for module, name in reached if module[0] == crate and (module[1], name) not in pairs)
+        lacks = sorted(f"{module[1]}.{name}" for module, name in reached if module[0] == crate and (module[1], name) not in pairs and not module[1].endswith("Laws"))
         head = section.split("| Promised")[0]
         strange += sorted(it for it in NAME.findall(head) if it[0].isupper() and it not in defined and not re.search(rf"\b{it}\b", rust(crate)))
         bad += len(lacks) + len(strange)

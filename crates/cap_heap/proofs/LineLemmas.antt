@@ -7,7 +7,7 @@ use Rattle.cap_word.specs.Digits.{hex_digits}
 use Rattle.cap_word.proofs.{DigitLemmas.length-hex_digits, ReadingLemmas.hex_digits-same}
 use Rattle.cap_streams.specs.Front.{HasNoFeed}
 use Rattle.cap_log.specs.{Lines.IsNumber, Parts.{FitBoth, HasNoSpace, IsCount, spaced}}
-use Rattle.cap_log.specs.Spaceless.{Lacks-by_test, Lacks-hex, number-spaceless}
+use Rattle.cap_log.specs.SpacelessLaws.{Lacks-by_test, Lacks-hex, number-spaceless}
 use Rattle.cap_log.proofs.{Cuts.same_cut, OperandLemmas.{FitBoth-operand, IsOperand, mapped}}
 use Rattle.cap_log.proofs.PartLemmas.{count-operand, number-operand}
 use Rattle.cap_texts.specs.declared.tops.Top.{Top}

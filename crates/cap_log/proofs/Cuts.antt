@@ -3,7 +3,7 @@ use Rattle.std.specs.Cmp.Lexicographic.{pointwise}
 use Rattle.std.proofs.Common.{◌≡◌, ◌≢◌, ℕ, true, eqb, List, [], ◌∷◌, ◌++◌, take, drop, sym, ap, ◌∙◌, refl, eqb-true}
 use Rattle.std.proofs.{Common.take-append-drop, lemmas.Bool.{and_parts, false≢true}}
 use Rattle.std.proofs.lemmas.List.Elements.{All-head, All-tail}
-pub use Rattle.cap_log.specs.Spaceless.{Lacks-by_test}
+pub use Rattle.cap_log.specs.SpacelessLaws.{Lacks-by_test}
 use Rattle.cap_log.specs.Parts.{Lacks}
 
 -- two cuts of one list are one

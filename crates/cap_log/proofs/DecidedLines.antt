@@ -4,7 +4,7 @@ use Rattle.std.proofs.Common.{sym, ap, ◌∙◌, inl, inr, refl, subst, bytes_e
 use Rattle.std.proofs.{Math.Seq.take-length, lemmas.Bool.Decides.{leb_tells, eqb_tells}}
 use Rattle.std.proofs.lemmas.{List.Elements.{All-head, All-tail}, Slice.Eq.bytes_eq-Decides}
 use Rattle.cap_log.specs.{declared.{kinds.Head.Head, lines.Line.Line}, Heads.head_spelling, Lines.{Spells, spelling}}
-use Rattle.cap_log.specs.{Parts.HasNoSpace, Spaceless.head-spaceless}
+use Rattle.cap_log.specs.{Parts.HasNoSpace, SpacelessLaws.head-spaceless}
 use Rattle.cap_streams.specs.Front.{HasNoFeed, IsLine, IsTooLong, IsCut}
 use Rattle.cap_streams.proofs.FrontLemmas.{HasNoFeed-take, IsLine-at}
 use Rattle.cap_log.proofs.Searches.{Decided, by_test}

@@ -5,11 +5,10 @@ use Rattle.std.proofs.Common.{ap, ◌∙◌, arith, inl, inr, decimal, length-ta
 use Rattle.std.proofs.{Common.take-append-drop, Math.{ListN.get_or-append, Nat.pow-le-pow_right}}
 use Rattle.std.proofs.{Math.Seq.get_or-append_seam, lemmas.Bool.{cases_eq, cases_lt, Decides.nat_tests}}
 use Rattle.std.proofs.lemmas.Fmt.{decimal_is_IsNumeral, length-decimal-le, first_decimal, decimal_digit}
-use Rattle.std.proofs.lemmas.Fmt.{decimal_injective, decimal-digits_value}
+use Rattle.std.proofs.lemmas.Fmt.{decimal-digits_value}
 use Rattle.std.proofs.lemmas.{Int.Digits.{digits_value-lt, digits_value_more, digits_more}, List.drop_more}
 use Rattle.std.proofs.lemmas.Str.Parse.{IsNumeralModel, numerals_by_value, tells_digits, digit_at}
-use Rattle.cap_log.specs.{Parts.IsFrontNumber, Spaceless.Lacks-decimal}
-use Rattle.cap_log.proofs.Cuts.{same_cut}
+use Rattle.cap_log.specs.Parts.{IsFrontNumber}
 
 own : IsNumeralModel (AllDigits 10) (digits_value 10)
 own = numerals_by_value (AllDigits 10) tells_digits
@@ -132,11 +131,3 @@ number_in_front most bytes value count end front some before ended small lead =
     ∙ ap decimal (sym front.value_is) in
     sym (take-append-drop count bytes) ∙ ap (λ (ds : List ℕ). ds ++ drop count bytes) digits
     ∙ ap (λ (rest : List ℕ). decimal value ++ rest) (drop_more bytes count 0 before ∙ ap (λ (b : ℕ). b ∷ drop (count + 1) bytes) ended)
-
--- numbers that stand at the front of the same bytes with the byte that ends them are one
-pub same_number : (end m n : ℕ) (rest rest' : List ℕ) → end ≤ 32 → m < 2 ^ 32 → n < 2 ^ 32
-    → decimal m ++ end ∷ rest ≡ decimal n ++ end ∷ rest' → m ≡ n
-same_number end m n rest rest' low small small' e =
-    decimal_injective m n (omega arith) (omega arith)
-    (same_cut end (decimal m) (decimal n) rest rest' (Lacks-decimal end m (omega arith) (omega arith))
-    (Lacks-decimal end n (omega arith) (omega arith)) e).0

@@ -7,8 +7,8 @@ use Rattle.std.proofs.lemmas.Fmt.{decimal_injective, length-decimal-le, signed_d
 use Rattle.std.proofs.lemmas.List.Elements.{All-append, All-cons}
 use Rattle.cap_word.specs.{declared.word.Cap.Cap, Digits.hex_digits}
 use Rattle.cap_word.proofs.{DigitLemmas.{length-hex_digits, pow_256}, ReadingLemmas.hex_digits-same}
-pub use Rattle.cap_log.specs.Spaceless.{Lacks-decimal, Lacks-hex, Lacks-signed, number-spaceless, offset-mag}
-pub use Rattle.cap_log.specs.Spaceless.{offset-spaceless, place-spaceless, register-spaceless}
+pub use Rattle.cap_log.specs.SpacelessLaws.{Lacks-decimal, Lacks-hex, Lacks-signed, number-spaceless, offset-mag}
+pub use Rattle.cap_log.specs.SpacelessLaws.{offset-spaceless, place-spaceless, register-spaceless}
 use Rattle.cap_log.specs.declared.lines.Place.{Place, TheVariants.{Register, Granule}}
 use Rattle.cap_log.specs.Lines.{IsDataSize, IsDataValue, IsNumber, IsOffset, IsPlace, IsRegister, IsTarget, IsWord}
 use Rattle.cap_log.specs.{Lines.{place_spelling, register_spelling, tag_spelling}, Parts.{Begins, BeginsWithNone}}

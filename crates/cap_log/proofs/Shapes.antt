@@ -11,7 +11,7 @@ use Rattle.cap_log.specs.Lines.{IsInRange, IsNumber, IsVersion, IsOffset, IsPlac
 use Rattle.cap_log.specs.Lines.{mode_spelling, place_spelling, register_spelling, spelling}
 use Rattle.cap_log.specs.Parts.{BeginsWithNone, BeginsWithout, FitBoth, IsCount, IsMode, StandsBehind}
 use Rattle.cap_log.specs.{Parts.{accessed_spelling, result_spelling, spaced}, Ranges.IsDatum}
-use Rattle.cap_log.specs.Spaceless.{Lacks-head, head-plain, head-spaceless}
+use Rattle.cap_log.specs.SpacelessLaws.{Lacks-head, head-plain, head-spaceless}
 use Rattle.cap_streams.specs.Front.{HasNoFeed}
 use Rattle.cap_log.proofs.Cuts.{Lacks-by_test, same_cut}
 use Rattle.cap_log.proofs.OperandLemmas.{FitBoth-operand, IsOperand, Spaceless, mapped}

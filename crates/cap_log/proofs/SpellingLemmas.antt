@@ -3,7 +3,7 @@ use Rattle.std.proofs.Common.{◌≡◌, ◌≢◌, ℕ, ◌+◌, ◌≤◌, Lis
 use Rattle.std.proofs.{Common.length-append, lemmas.List.{append_cancel_right, Elements.{All-append, All-cons}}}
 use Rattle.cap_log.specs.{declared.{kinds.Head.Head, lines.Line.Line}, Heads.head_spelling}
 use Rattle.cap_log.specs.{Lines.{IsInRange, IsLineAt, Spells, spelling}, Parts.{Begins, BeginsWithNone}}
-use Rattle.cap_log.specs.Spaceless.{head-spaceless}
+use Rattle.cap_log.specs.SpacelessLaws.{head-spaceless}
 use Rattle.cap_streams.specs.{Front.{HasNoFeed, IsLine}, Written.Writes}
 use Rattle.cap_log.proofs.Cuts.{same_cut}
 use Rattle.cap_log.proofs.Shapes.{Fits, Value, fits-of, head-operand, head_of, made, made-of, operands_of, row}

@@ -2,4 +2,4 @@ pub mod Heads
 pub mod Lines
 pub mod Parts
 pub mod Ranges
-pub mod Spaceless
+pub mod SpacelessLaws

@@ -4,7 +4,7 @@
 
 ghost use Rattle.std.specs.Prelude.{◌≡◌, ◌≤◌, All, [], ◌∷◌, ◌++◌, length, take, IfSome, IfNone};
 ghost use Rattle.cap_log.specs.{Heads.{IsHead, head_spelling, kind_words, shape_of, text_at}, Lines.{IsInRange, spelling}};
-ghost use Rattle.cap_log.specs.{Parts.{Begins, BeginsWithNone, BeginsWithout}, Spaceless.head-spaceless};
+ghost use Rattle.cap_log.specs.{Parts.{Begins, BeginsWithNone, BeginsWithout}, SpacelessLaws.head-spaceless};
 ghost use Rattle.cap_streams.specs.Written.{Writes};
 ghost use Rattle.cap_log.specs.declared.kinds.Head.TheVariants as heads;
 ghost use Rattle.cap_log.specs.declared.kinds.Step.TheVariants as steps;

@@ -7,7 +7,7 @@ use Rattle.cap_word.specs.{Digits.hex_digits}
 use Rattle.cap_word.proofs.DigitLemmas.{length-hex_digits}
 use Rattle.cap_log.specs.Lines.{IsRegister, IsTarget, register_spelling, tag_spelling}
 use Rattle.cap_log.specs.{Parts.Lacks}
-use Rattle.cap_log.specs.Spaceless.{Lacks-by_test, Lacks-decimal, Lacks-hex, register-spaceless, register-within}
+use Rattle.cap_log.specs.SpacelessLaws.{Lacks-by_test, Lacks-decimal, Lacks-hex, register-spaceless, register-within}
 use Rattle.cap_log.proofs.{Cuts.same_cut, OperandLemmas.{IsOperand}}
 use Rattle.cap_log.proofs.PartLemmas.{number-operand, register-operand, target-operand}
 use Rattle.cap_run_log.specs.declared.lines.{RunPlace.RunPlace, RunRegister.RunRegister}

@@ -6,12 +6,12 @@ use Rattle.cap_word.proofs.DigitLemmas.{length-hex_digits}
 use Rattle.cap_log.specs.declared.{kinds.{Head.Head, Step.Step}, lines.Line.Line}
 use Rattle.cap_log.specs.{Heads.head_spelling, Lines.{IsInRange, IsRegister, IsTarget, IsWord, register_spelling, spelling, tag_spelling}}
 use Rattle.cap_log.specs.Parts.{Begins, BeginsWithNone, FitBoth, result_spelling, spaced}
-use Rattle.cap_log.specs.Spaceless.{Lacks-by_test, digits-spaceless, head-spaceless, register-spaceless}
+use Rattle.cap_log.specs.SpacelessLaws.{Lacks-by_test, digits-spaceless, head-spaceless, register-spaceless}
 use Rattle.cap_log.proofs.OperandLemmas.{FitBoth-operand, IsOperand, Spaceless, mapped}
 use Rattle.cap_log.proofs.PartLemmas.{register-operand, result-operand, target-operand, word-operand}
-use Rattle.cap_run_log.specs.Spaces.{equals-spaceless, granule-spaceless, place-spaceless, register_at-spaceless}
-pub use Rattle.cap_run_log.specs.Spaces.{run_head-spaceless}
-use Rattle.cap_run_log.specs.Spaces.{special-spaceless, tag-spaceless}
+use Rattle.cap_run_log.specs.SpaceLaws.{equals-spaceless, granule-spaceless, place-spaceless, register_at-spaceless}
+pub use Rattle.cap_run_log.specs.SpaceLaws.{run_head-spaceless}
+use Rattle.cap_run_log.specs.SpaceLaws.{special-spaceless, tag-spaceless}
 use Rattle.cap_run_log.proofs.Operands.{freed-operand, granule-operand, handed-operand, register_at-operand, run_place-operand}
 use Rattle.cap_run_log.proofs.Operands.{special-operand, tag-operand}
 use Rattle.cap_log.proofs.{Cuts.same_cut, Shapes.{head_of, operands_of, spelling-of, text}}

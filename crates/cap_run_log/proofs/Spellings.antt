@@ -1,10 +1,10 @@
 -- Spellings: bytes spell one line of a run log at most, and a spelling has no line feed and at most 95 bytes.
 use Rattle.std.proofs.Common.{◌≡◌, ◌≢◌, ℕ, ◌+◌, ◌≤◌, List, [], ◌∷◌, ◌++◌, length, sym, ap, subst, ◌∙◌, refl, arith, lit≤, codes, take, drop}
 use Rattle.std.proofs.{Common.length-append, lemmas.List.{append_cancel_right, Elements.{All-append, All-cons}}}
-use Rattle.cap_log.specs.{Heads.head_spelling, Spaceless.head-spaceless}
+use Rattle.cap_log.specs.{Heads.head_spelling, SpacelessLaws.head-spaceless}
 use Rattle.cap_log.proofs.Shapes.{head_of, operands_of, spelling-of, text}
 use Rattle.cap_log.specs.declared.{kinds.{Head.Head, Step.Step}, lines.{Line.Line, Mode.Mode}}
-use Rattle.cap_log.specs.{Lines.{IsLineAt, spelling}, Spaceless.Lacks-by_test}
+use Rattle.cap_log.specs.{Lines.{IsLineAt, spelling}, SpacelessLaws.Lacks-by_test}
 use Rattle.cap_log.specs.Parts.{Begins, BeginsWithNone}
 use Rattle.cap_streams.specs.{Front.{HasNoFeed}, Written.{Writes, ◌⨾◌, length-Writes}}
 use Rattle.cap_log.proofs.{Cuts.same_cut, SpellingLemmas.{one_spelling, spelling-plain, spelling-short}}

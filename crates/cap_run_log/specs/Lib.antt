@@ -1,5 +1,5 @@
 pub mod RunLines
 pub mod RunHeads
 pub mod RunParts
-pub mod Spaces
+pub mod SpaceLaws
 pub mod UsualLines

@@ -1,7 +1,7 @@
 //! The words that only lines of run logs begin with.
 
 ghost use Rattle.std.specs.Prelude.{◌≡◌, ◌≤◌, length};
-ghost use Rattle.cap_run_log.specs.{RunHeads.{IsRunHead, run_head_spelling}, Spaces.run_head-spaceless};
+ghost use Rattle.cap_run_log.specs.{RunHeads.{IsRunHead, run_head_spelling}, SpaceLaws.run_head-spaceless};
 
 use cap_log::buffers::put;
 use cap_log::{Part, Single, strip_word};

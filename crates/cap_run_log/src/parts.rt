@@ -6,8 +6,8 @@ ghost use Rattle.cap_streams.specs.Written.{Writes};
 ghost use Rattle.cap_run_log.specs.RunLines.{IsGranule, IsObjectNumber, IsRunPlace, IsRunRegister, granule_spelling};
 ghost use Rattle.cap_run_log.specs.RunLines.{run_place_spelling, run_register_spelling, special_spelling};
 ghost use Rattle.cap_run_log.specs.RunParts.{IsFreed, IsHanded, freed_spelling, handed_spelling};
-ghost use Rattle.cap_run_log.specs.Spaces.{equals-spaceless, granule-spaceless, place-spaceless, register_at-spaceless};
-ghost use Rattle.cap_run_log.specs.Spaces.{special-spaceless, tag-spaceless};
+ghost use Rattle.cap_run_log.specs.SpaceLaws.{equals-spaceless, granule-spaceless, place-spaceless};
+ghost use Rattle.cap_run_log.specs.SpaceLaws.{register_at-spaceless, special-spaceless, tag-spaceless};
 
 use crate::lines::{RunPlace, RunRegister};
 use cap_log::buffers::{put, put_decimal};

@@ -1,6 +1,6 @@
 pub mod FaultLines
 pub mod Front
-pub mod Known
+pub mod KnownLaws
 pub mod ReadBuffers
 pub mod Slices
 pub mod Streams

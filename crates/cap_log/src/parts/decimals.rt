@@ -2,7 +2,7 @@
 
 ghost use Rattle.std.specs.Prelude.{◌≡◌, ◌↔◌, IsTrue, ◌<◌, ◌≤◌, ◌^◌, IfSome, IfNone, decimal, length};
 ghost use Rattle.cap_log.specs.Parts.{Begins, BeginsWithNone, IsCount, IsEnd, IsFrom, IsFrontNumber};
-ghost use Rattle.cap_log.specs.Spaceless.{decimal-spaceless};
+ghost use Rattle.cap_log.specs.SpacelessLaws.{decimal-spaceless};
 
 use crate::buffers::put_decimal;
 use crate::parts::{Part, Single};

@@ -2,7 +2,7 @@
 
 ghost use Rattle.std.specs.Prelude.{◌+◌, ◌≤◌, length};
 ghost use Rattle.cap_word.specs.Digits.{hex_digits};
-ghost use Rattle.cap_log.specs.{Lines.IsNumber, Spaceless.number-spaceless};
+ghost use Rattle.cap_log.specs.{Lines.IsNumber, SpacelessLaws.number-spaceless};
 ghost use Rattle.cap_streams.specs.Written.{Writes};
 
 use crate::buffers::put;

@@ -1,7 +1,7 @@
 //! Offsets of accesses, from -2048 to 2047.
 
 ghost use Rattle.std.specs.{Prelude.{◌≡◌, MatchOption}, Fmt.signed_decimal};
-ghost use Rattle.cap_log.specs.{Ranges.IsOffset, Spaceless.offset-spaceless};
+ghost use Rattle.cap_log.specs.{Ranges.IsOffset, SpacelessLaws.offset-spaceless};
 
 use crate::buffers::{put, put_few};
 use crate::parts::decimals::take_decimal;

@@ -3,7 +3,7 @@
 ghost use Rattle.std.specs.Prelude.{◌≡◌, ◌↔◌, ℕ, ◌+◌, ◌<◌, ◌≤◌, [], ◌∷◌, ◌++◌, length, take, IfNone, IfSome, MatchOption};
 ghost use Rattle.cap_log.specs.Lines.{IsPlace, place_spelling, register_spelling};
 ghost use Rattle.cap_log.specs.{Parts.{Begins, BeginsWithNone, IsEnd}, Ranges.{IsRegister, IsRegisterFrom}};
-ghost use Rattle.cap_log.specs.Spaceless.{place-spaceless, register-spaceless, register-within};
+ghost use Rattle.cap_log.specs.SpacelessLaws.{place-spaceless, register-spaceless, register-within};
 ghost use Rattle.cap_streams.specs.Written.{Writes};
 
 use crate::buffers::{put, put_few};

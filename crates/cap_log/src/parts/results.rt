@@ -2,7 +2,7 @@
 
 ghost use Rattle.std.specs.Prelude.{◌≡◌, ◌∷◌, ◌++◌, IfSome, true};
 ghost use Rattle.cap_word.specs.Digits.{hex_digits};
-ghost use Rattle.cap_log.specs.{Lines.IsWord, Parts.{result_mark, result_spelling}, Spaceless.digits-spaceless};
+ghost use Rattle.cap_log.specs.{Lines.IsWord, Parts.{result_mark, result_spelling}, SpacelessLaws.digits-spaceless};
 
 use crate::buffers::put;
 use crate::parts::fronts::are_four;

@@ -3,7 +3,7 @@
 ghost use Rattle.std.specs.Prelude.{◌≡◌, ◌<◌, ◌≤◌, ◌^◌, [], true, false, length, take, IfOk, OnOk, OnErr, refl};
 ghost use Rattle.std.specs.Io.KnownBytes.{Appends};
 ghost use Rattle.std.proofs.Common.{◌∙◌};
-ghost use Rattle.cap_streams.specs.Known.{Appends-nothing, Appends-joined};
+ghost use Rattle.cap_streams.specs.KnownLaws.{Appends-nothing, Appends-joined};
 
 use crate::sinks::{PushFault, Sink};
 use std::io::Write;

@@ -1,7 +1,7 @@
 //! A source over a reader.
 
 ghost use Rattle.std.specs.{Prelude.{◌≡◌, ◌<◌, ◌^◌, ℕ, List, [], true, false, Some}, Io.KnownBytes.Consumes};
-ghost use Rattle.cap_streams.specs.Known.{Consumes-nothing, Consumes-joined};
+ghost use Rattle.cap_streams.specs.KnownLaws.{Consumes-nothing, Consumes-joined};
 
 use crate::sources::{PullFault, Source};
 use std::io::Read;

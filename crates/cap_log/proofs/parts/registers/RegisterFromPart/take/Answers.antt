@@ -1,5 +1,5 @@
 use Rattle.std.proofs.Common.{sym, ◌∙◌, arith}
-use Rattle.cap_log.specs.{Lines.register_spelling, Spaceless.{Lacks-register, register-from, register-within}}
+use Rattle.cap_log.specs.{Lines.register_spelling, SpacelessLaws.{Lacks-register, register-from, register-within}}
 use Rattle.cap_log.proofs.{Cuts.same_cut, PartLemmas.register-operand}
 use Rattle.cap_log.proofs.parts.registers.RegisterFromPart.take.Goals as goal
 

@@ -3,7 +3,8 @@ use Rattle.std.proofs.Common.{ℕ, ◌*◌, ◌≢◌, Bool, true, false, codes,
 use Rattle.std.proofs.lemmas.List.Elements.{All-append, All-cons}
 use Rattle.cap_word.specs.Digits.{hex_digits}
 use Rattle.cap_log.specs.{Lines.{IsRegister, tag_spelling}, Parts.HasNoSpace}
-use Rattle.cap_log.specs.Spaceless.{Lacks-by_test, decimal-spaceless, number-spaceless, register-spaceless, register-within}
+use Rattle.cap_log.specs.SpacelessLaws.{Lacks-by_test, decimal-spaceless, number-spaceless, register-spaceless}
+use Rattle.cap_log.specs.SpacelessLaws.{register-within}
 use Rattle.cap_run_log.specs.declared.lines.{RunPlace.RunPlace, RunRegister.RunRegister}
 use Rattle.cap_run_log.specs.RunLines.{IsRunPlace, IsRunRegister, granule_spelling, run_place_spelling, run_register_spelling}
 use Rattle.cap_run_log.specs.{RunLines.special_spelling, declared.heads.RunHead.RunHead, RunHeads.run_head_spelling}
