@@ -11,3 +11,4 @@ pub mod Escapes
 pub mod Origins
 pub mod Shown
 pub mod Labels
+pub mod Ends

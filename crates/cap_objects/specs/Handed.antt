@@ -1,5 +1,6 @@
 -- What handing out, widening and freeing do to the present objects (this profile's own).
 use Rattle.std.specs.Prelude.{◌≡◌, ◌≢◌, ◌⊎◌, ℕ, ◌-◌, ◌<◌, ◌≤◌, min, max, Bool, true, false, nat_lt, if◌then◌else◌, Option, Some, None, option_and_then}
+use Rattle.std.specs.Prelude.{List, codes}
 use Rattle.cap_objects.specs.declared.{objects.Object.Object, handouts.HandOutFault.{HandOutFault, TheVariants.{Overlaps, StillHeld, NoMemory}}}
 use Rattle.cap_objects.specs.declared.handouts.NumberFault.{NumberFault, TheVariants.{NoObject, AlreadyFreed}}
 use Rattle.cap_objects.specs.Extents.{AreApart, AreLong, IsFirstMet, MeetsNone, Objects, Sets, is_present}
@@ -59,6 +60,12 @@ RefusesExtent keeps left_out objects base top (Overlaps slot) =
 RefusesExtent keeps left_out objects base top (StillHeld slot) =
     (base < top) × MeetsNone keeps left_out true objects base (top - 1) × IsFirstMet keeps left_out false objects base (top - 1) slot
 RefusesExtent keeps left_out objects base top NoMemory = HasRoom keeps left_out objects base top
+
+-- the same as a text
+abbrev pub hand_out_fault_text : HandOutFault → List ℕ
+hand_out_fault_text (Overlaps slot) = codes "the extent overlaps that of a live object"
+hand_out_fault_text (StillHeld slot) = codes "the extent overlaps that of a freed object that is held"
+hand_out_fault_text NoMemory = codes "out of memory"
 
 -- an object more, in a slot that none had
 abbrev pub AddsObject : Objects → ℕ → Object → Objects → Type 0

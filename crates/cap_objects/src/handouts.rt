@@ -6,7 +6,8 @@ ghost use Rattle.std.specs.Ordering.{nat_cmp};
 ghost use Rattle.std.specs.BTreeMap as tree;
 ghost use Rattle.cap_objects.specs.Extents.{IsFirstMet, MeetsNone, Sets, is_compared, is_present};
 ghost use Rattle.cap_objects.specs.Handed.{AddsObject, AreKept, ArePresent, HasNoLive, HasRoom, IsLive, IsNextNumber, RefusesExtent};
-ghost use Rattle.cap_objects.specs.Handed.{freed_in, handed_out, held_of, last_below, widened, with_held};
+ghost use Rattle.cap_objects.specs.Handed.{freed_in, hand_out_fault_text, handed_out, held_of, last_below, widened};
+ghost use Rattle.cap_objects.specs.Handed.{with_held};
 ghost use Rattle.cap_objects.specs.{Counts.is_owner, Indexes.kept, Objects.top_of_extent, SlotsIn.present_in};
 ghost use Rattle.cap_objects.specs.declared.objects.Object.{Object as ObjectIn};
 ghost use Rattle.cap_objects.specs.declared.handouts.HandOutFault.TheVariants.{NoMemory};
@@ -19,6 +20,7 @@ use crate::objects::Object;
 use crate::slots::Slots;
 use std::alloc::{AllocError, Global};
 use std::collections::BTreeMap;
+use std::{error, fmt};
 
 /// Why an interval becomes no object's extent.
 #[derive(Debug, Clone, Copy, PartialEq, Eq)]
@@ -31,6 +33,20 @@ pub enum HandOutFault {
     /// There was no memory.
     NoMemory,
 }
+
+impl fmt::Display for HandOutFault {
+    ghost output = { λ fault. Some (hand_out_fault_text fault) };
+
+    fn fmt<W: fmt::Write>(&self, f: &mut fmt::Formatter<W>) -> fmt::Result {
+        f.write_str(match self {
+            HandOutFault::Overlaps(_) => "the extent overlaps that of a live object",
+            HandOutFault::StillHeld(_) => "the extent overlaps that of a freed object that is held",
+            HandOutFault::NoMemory => "out of memory",
+        })
+    }
+}
+
+impl error::Error for HandOutFault {}
 
 /// Why no live object has a number.
 #[derive(Debug, Clone, Copy, PartialEq, Eq)]

@@ -22,3 +22,4 @@ pub mod Erasure
 pub mod UsualRuns
 pub mod StepLines
 pub mod Moved
+pub mod Ends

@@ -1,6 +1,10 @@
 //! Why a step of a run was not made.
 
+ghost use Rattle.std.specs.Prelude.{Some};
+ghost use Rattle.cap_run.specs.Ends.{run_end_text};
+
 use cap_machine::Refusal;
+use std::{error, fmt};
 
 /// Why a step of a run is refused.
 #[derive(Debug, Clone, Copy, PartialEq, Eq)]
@@ -43,3 +47,16 @@ pub enum RunEnd {
     /// No check fails, but there was no memory for a granule that is named for the first time, or for an object.
     NoMemory,
 }
+
+impl fmt::Display for RunEnd {
+    ghost output = { λ end. Some (run_end_text end) };
+
+    fn fmt<W: fmt::Write>(&self, f: &mut fmt::Formatter<W>) -> fmt::Result {
+        f.write_str(match self {
+            RunEnd::Refused(_) => "a check of the step fails",
+            RunEnd::NoMemory => "out of memory",
+        })
+    }
+}
+
+impl error::Error for RunEnd {}

@@ -3,14 +3,26 @@
 //! Granule `g` is the sixteen bytes from address `16 * g` on, so there are 2^60 of them. Each has one
 //! tag, which says whether its bytes are a valid capability. A store keeps those that were put, and
 //! beside each capability a code of its origin, whose meaning is its user's.
-ghost use Rattle.std.specs.Prelude.{◌≡◌, ℕ, ◌+◌, ◌^◌, ◌<◌, ◌≤◌, length, None, OnOk, OnErr};
+ghost use Rattle.std.specs.Prelude.{◌≡◌, ℕ, ◌+◌, ◌^◌, ◌<◌, ◌≤◌, length, None, OnOk, OnErr, Some, codes};
 ghost use Rattle.std.specs.FinMap as map;
 ghost use Rattle.tagmem.specs.Granules.{Granules, AreStored, HasRoom, IsCodeFor, IsNextPut, shown, code_at, with_cap};
 ghost use Rattle.tagmem.specs.Granules.{with_bytes};
 
+use std::{error, fmt};
+
 /// The memory that a granule put for the first time needs was refused.
 #[derive(Clone, Copy, Debug, PartialEq, Eq)]
 pub struct NoMemory;
+
+impl fmt::Display for NoMemory {
+    ghost output = { λ fault. Some (codes "out of memory") };
+
+    fn fmt<W: fmt::Write>(&self, f: &mut fmt::Formatter<W>) -> fmt::Result {
+        f.write_str("out of memory")
+    }
+}
+
+impl error::Error for NoMemory {}
 
 /// A store of granules: a map from numbers below 2^60 to a tag, sixteen bytes, lowest address first,
 /// and the code of an origin, which is 0 exactly where the tag is clear.
