@@ -1,6 +1,9 @@
 -- The members of lines, one after another.
-use Rattle.std.proofs.Common.{◌≡◌, ◌≢◌, ℕ, List, [], ◌∷◌, ◌++◌, Result, Ok, Err, OnOk, is_ok, if◌then◌else◌, sym, ap, ◌∙◌, append_assoc}
-use Rattle.cap_json.specs.{declared.rows.Place.Place, Members.{Member, between, closing, filled, member_of, members}, Words.{lines_of, past, upto}}
+use Rattle.std.proofs.Common.{◌≡◌, ◌≢◌, ℕ, true, List, [], ◌∷◌, ◌++◌, Result, Ok, Err, OnOk, is_ok, if◌then◌else◌, sym, ap, ◌∙◌, append_assoc}
+use Rattle.std.proofs.Common.{codes, length}
+use Rattle.std.specs.Bool.{◌==◌}
+use Rattle.cap_json.specs.declared.rows.Place.{Place}
+use Rattle.cap_json.specs.{Members.{Member, between, closing, filled, form_by_words, member_of, members}, Words.{lines_of, past, upto}}
 use Rattle.cap_json.proofs.WordLemmas.{first_line}
 
 -- what was appended for the first line, and the members of the others, are the members of all
@@ -36,3 +39,9 @@ pub appended : {E : Type 0} (result : Result (Unit {0}) E) (items text all new :
     → items ++ text ≡ all → OnOk result (new ≡ all)
 appended (Ok done) items text all new is whole = is ∙ whole
 appended (Err fault) items text all new is whole = tt
+
+-- the form of a capability's first line whose name no second word follows
+pub form_of_value : (values second : List ℕ) → second ≡ past 32 values → true ≡ (length second == 0) → codes "'value':'$'" ≡ form_by_words values
+unfolding form_by_words
+form_of_value values second is none =
+    let lone : (length (past 32 values) == 0) ≡ true = ap (λ (s : List ℕ). length s == 0) (sym is) ∙ sym none in rw lone

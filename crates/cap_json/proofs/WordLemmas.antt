@@ -1,7 +1,8 @@
 -- The lines of a text, one after another.
-use Rattle.std.proofs.Common.{◌≡◌, ◌≢◌, ℕ, eqb, inl, inr, List, [], ◌∷◌, refl, sym, ap, ◌∙◌}
-use Rattle.std.proofs.lemmas.Bool.{cond-true, cond-false, Decides.eqb_tells}
-use Rattle.cap_json.specs.Words.{in_first, lines_of, past, upto}
+use Rattle.std.proofs.Common.{◌≡◌, ◌≢◌, ℕ, ◌+◌, ◌<◌, eqb, inl, inr, List, [], ◌∷◌, ◌++◌, length, take, get_or, refl, sym, ap, ◌∙◌}
+use Rattle.std.proofs.Common.{append_assoc, append-nil}
+use Rattle.std.proofs.lemmas.{Bool.{cond-true, cond-false, Decides.eqb_tells}, Grind.flat_map-append, List.take_more}
+use Rattle.cap_json.specs.Words.{escaped, escaped_byte, in_first, lines_of, past, upto}
 
 -- where the first byte ends the bytes, and where it doesn't
 upto_here : (end byte : ℕ) (bytes : List ℕ) → byte ≡ end → upto end (byte ∷ bytes) ≡ []
@@ -52,3 +53,14 @@ first_line (byte ∷ bytes) some = elim (eqb_tells byte 10) [
   | inr differ ↦ cond-false (eqb byte 10) ([] ∷ lines_of bytes) (in_first byte (lines_of bytes)) differ.0
       ∙ in_front byte bytes differ.1 (first_line bytes)
 ]
+
+-- the text of one byte more
+pub escaped_more : (bytes start items new : List ℕ) (i : ℕ) → i < length bytes → items ≡ start ++ escaped (take i bytes)
+    → new ≡ items ++ escaped_byte (get_or bytes i 0) → new ≡ start ++ escaped (take (i + 1) bytes)
+escaped_more bytes start items new i within so_far more =
+    let byte = get_or bytes i 0 in
+    let text : escaped (take i bytes) ++ escaped_byte byte ≡ escaped (take (i + 1) bytes) =
+        ap (λ (t : List ℕ). escaped (take i bytes) ++ t) (sym (append-nil (escaped_byte byte)))
+        ∙ sym (ap escaped (take_more bytes i 0 within) ∙ flat_map-append escaped_byte (take i bytes) (byte ∷ [])) in
+    more ∙ ap (λ (t : List ℕ). t ++ escaped_byte byte) so_far ∙ append_assoc start (escaped (take i bytes)) (escaped_byte byte)
+    ∙ ap (λ (t : List ℕ). start ++ t) text

@@ -63,16 +63,14 @@ fn closing(place: Place) -> &'static [u8]
 fn push_opening(object: &mut Vec<u8>, place: Place, name: &[u8]) -> Result<(), AllocError>
     ensures ok { OnOk result (object.new.items ≡ object.old.items ++ opening place name.now) }
 {
-    if place == Place::Alone {
-        return Ok(());
-    }
+    let opening = match place {
+        Place::Alone => return Ok(()),
+        Place::Part => b"\":{",
+        Place::Element => b"\":[",
+    };
     object.push(b'"')?;
     push_escaped(object, name)?;
-    object.extend_from_slice(if place == Place::Part {
-        b"\":{"
-    } else {
-        b"\":["
-    })
+    object.extend_from_slice(opening)
 }
 
 // Appends what stands between the members of two lines.

@@ -8,7 +8,7 @@ ghost use Rattle.cap_json.specs.Readings.{member_parts, row_parts};
 use crate::words::{begins, cut};
 
 /// The log that a report is of.
-#[derive(Debug, Clone, Copy, PartialEq, Eq)]
+#[derive(Clone, Copy)]
 pub enum LogKind {
     /// A log of version 1 or 2.
     Machine,
@@ -19,7 +19,7 @@ pub enum LogKind {
 }
 
 /// Where the member of a line stands.
-#[derive(Debug, Clone, Copy, PartialEq, Eq)]
+#[derive(Clone, Copy)]
 pub(crate) enum Place {
     /// In the object itself.
     Alone,

@@ -1,7 +1,7 @@
 //! The lines of a report, the words of a line, and the text of a string.
 
 ghost use Rattle.std.specs.Prelude.{◌≡◌, ◌<◌, ◌≤◌, ◌++◌, length, IsTrue, OnOk};
-ghost use Rattle.cap_json.specs.Words.{begins, escaped, past, upto};
+ghost use Rattle.cap_json.specs.Words.{begins, escaped, escaped_byte, past, upto};
 
 use std::alloc::AllocError;
 
@@ -35,15 +35,23 @@ pub fn begins(name: &[u8], line: &[u8]) -> bool
     }
 }
 
+// Appends a byte in a string.
+fn push_escaped_byte(object: &mut Vec<u8>, byte: u8) -> Result<(), AllocError>
+    ensures ok { OnOk result (object.new.items ≡ object.old.items ++ escaped_byte byte) }
+{
+    if byte == b'"' || byte == b'\\' {
+        object.push(b'\\')?;
+    }
+    object.push(byte)?;
+    Ok(())
+}
+
 /// Appends the text of a string.
 pub(crate) fn push_escaped(object: &mut Vec<u8>, bytes: &[u8]) -> Result<(), AllocError>
     ensures ok { OnOk result (object.new.items ≡ object.old.items ++ escaped bytes.now) }
 {
     for byte in bytes {
-        if *byte == b'"' || *byte == b'\\' {
-            object.push(b'\\')?;
-        }
-        object.push(*byte)?;
+        push_escaped_byte(object, *byte)?;
     }
     Ok(())
 }
