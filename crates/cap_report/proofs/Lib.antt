@@ -2,3 +2,4 @@ pub mod AnswerLemmas
 mod DetailLemmas
 pub mod TextLemmas
 pub mod WhyLemmas
+mod RangeLemmas

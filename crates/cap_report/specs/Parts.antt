@@ -12,23 +12,28 @@ use Rattle.cap_report.specs.declared.parts.ReportPart.TheVariants.{Access, Needs
 abbrev pub where_different : Bool → List ℕ → List ℕ
 where_different same name = if same then [] else name
 
--- the fields in which two capabilities differ, by the names that an explanation gives them
-unfoldable pub differs_line : Cap → Cap → List ℕ
-differs_line a b =
+-- the fields in which two capabilities differ, by the names that an explanation gives them: those beside their bounds
+abbrev pub rights_different : Cap → Cap → List ℕ
+rights_different a b =
     let v = a.word.0 in
     let w = b.word.0 in
-    codes "differs"
-    ++ where_different (beq a.tag b.tag) (codes " tag")
+    where_different (beq a.tag b.tag) (codes " tag")
     ++ where_different (perms_of v == perms_of w) (codes " perms")
     ++ where_different (reserved_of v == reserved_of w) (codes " reserved")
     ++ where_different (beq (flag_of v) (flag_of w)) (codes " flag")
     ++ where_different (otype_of v == otype_of w) (codes " otype")
-    ++ where_different (beq (ie_of v) (ie_of w)) (codes " ie")
+
+-- and those of their bounds and their address
+abbrev pub bounds_different : ℕ → ℕ → List ℕ
+bounds_different v w =
+    where_different (beq (ie_of v) (ie_of w)) (codes " ie")
     ++ where_different (e_of v == e_of w) (codes " e")
     ++ where_different (b_of v == b_of w) (codes " b")
     ++ where_different (t_of v == t_of w) (codes " t")
     ++ where_different (address_of v == address_of w) (codes " address")
-    ++ codes "\n"
+
+unfoldable pub differs_line : Cap → Cap → List ℕ
+differs_line a b = codes "differs" ++ rights_different a b ++ bounds_different a.word.0 b.word.0 ++ codes "\n"
 
 -- the number and the name of a refusal
 unfoldable pub cleared_line : Refusal → List ℕ

@@ -28,7 +28,7 @@ pub const NO_LINE: u8 = 5;
 
 /// What a judge answers (in C `capcheck_answer`).
 #[repr(C)]
-#[derive(Debug, Clone, Copy, PartialEq, Eq)]
+#[derive(Clone, Copy)]
 pub struct Answer {
     /// After a `no` the number of the faulty line, from 1 on, else 0.
     pub line: u64,

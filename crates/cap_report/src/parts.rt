@@ -2,14 +2,14 @@
 
 ghost use Rattle.std.specs.Prelude.{◌+◌, ◌*◌, ◌≤◌, length};
 ghost use Rattle.cap_streams.specs.Written.{Writes};
-ghost use Rattle.cap_report.specs.Parts.{cleared_line, differs_line, lines_of_parts, part_lines, where_different};
+ghost use Rattle.cap_report.specs.Parts.{bounds_different, cleared_line, differs_line, lines_of_parts, part_lines, rights_different, where_different};
 
 use cap_log::Place;
 use cap_log::buffers::{put, put_decimal};
 use cap_machine::Refusal;
 use cap_texts::cap_lines::{put_bounds_line, put_cap_lines, put_operand_lines};
 use cap_texts::text_lines::put_hex_line;
-use cap_word::{Cap, split};
+use cap_word::{Cap, Word, split};
 
 /// A part of the report on a step.
 #[derive(Clone, Copy)]
@@ -98,24 +98,44 @@ fn put_cleared_line(buffer: &mut [u8], at: usize, refusal: Refusal) -> usize
 }
 
 // Writes the names of the fields in which two capabilities differ.
+#[tactic(auto, unfolding(crate::specs::Parts::differs_line))]
 fn put_differs_line(buffer: &mut [u8], at: usize, a: Cap, b: Cap) -> usize
     requires { at + 128 ≤ length buffer.old }
     ensures written { Writes at (differs_line a b) buffer.old buffer.new result }
     ensures fits { result ≤ at + 128 }
 {
-    let (x, y) = (split(a.word), split(b.word));
     let at = put(buffer, at, b"differs");
+    let at = put_different_rights(buffer, at, a, b);
+    let at = put_different_bounds(buffer, at, a.word, b.word);
+    put(buffer, at, b"\n")
+}
+
+// Writes the names of those beside their bounds.
+fn put_different_rights(buffer: &mut [u8], at: usize, a: Cap, b: Cap) -> usize
+    requires { at + 45 ≤ length buffer.old }
+    ensures written { Writes at (rights_different a b) buffer.old buffer.new result }
+    ensures fits { result ≤ at + 45 }
+{
+    let (x, y) = (split(a.word), split(b.word));
     let at = put_where(buffer, at, a.tag == b.tag, b" tag");
     let at = put_where(buffer, at, x.perms == y.perms, b" perms");
     let at = put_where(buffer, at, x.reserved == y.reserved, b" reserved");
     let at = put_where(buffer, at, x.flag == y.flag, b" flag");
-    let at = put_where(buffer, at, x.otype == y.otype, b" otype");
+    put_where(buffer, at, x.otype == y.otype, b" otype")
+}
+
+// Writes the names of those of their bounds and their address.
+fn put_different_bounds(buffer: &mut [u8], at: usize, a: Word, b: Word) -> usize
+    requires { at + 45 ≤ length buffer.old }
+    ensures written { Writes at (bounds_different a.0 b.0) buffer.old buffer.new result }
+    ensures fits { result ≤ at + 45 }
+{
+    let (x, y) = (split(a), split(b));
     let at = put_where(buffer, at, x.ie == y.ie, b" ie");
     let at = put_where(buffer, at, x.e == y.e, b" e");
     let at = put_where(buffer, at, x.b == y.b, b" b");
     let at = put_where(buffer, at, x.t == y.t, b" t");
-    let at = put_where(buffer, at, x.address == y.address, b" address");
-    put(buffer, at, b"\n")
+    put_where(buffer, at, x.address == y.address, b" address")
 }
 
 // Writes a field's name, if it differs.

@@ -1,7 +1,7 @@
 //! What a report says of a refused step or root, in a sentence.
 
 ghost use Rattle.std.specs.Prelude.{◌≡◌, ◌+◌, ◌++◌, ◌*◌, ◌^◌, ◌<◌, ◌≤◌, nat_lt, codes, decimal, length};
-ghost use Rattle.cap_word.specs.{Digits.hex_digits, Fields.address_of};
+ghost use Rattle.cap_word.specs.{Digits.hex_digits, Fields.{address_of, otype_of}};
 ghost use Rattle.cap_log.specs.Lines.{place_spelling};
 ghost use Rattle.cap_bounds.specs.{Bounds.{base_of, top_of}, Rounding.{rounded_base, rounded_top}};
 ghost use Rattle.cap_streams.specs.Written.{Writes};
@@ -83,6 +83,24 @@ fn seen_by<M: TaggedStore>(machine: &Machine<M>, shown: &Shown) -> Seen
     }
 }
 
+// Writes an address.
+fn put_start(buffer: &mut [u8], at: usize, address: u64) -> usize
+    requires { at + 19 ≤ length buffer.old }
+    ensures written { Writes at (number_text address) buffer.old buffer.new result }
+    ensures fits { result ≤ at + 19 }
+{
+    put_number(buffer, at, u128::from(address))
+}
+
+// Writes a word's object type.
+fn put_word_type(buffer: &mut [u8], at: usize, word: Word) -> usize
+    requires { at + 19 ≤ length buffer.old }
+    ensures written { Writes at (number_text (otype_of word.0)) buffer.old buffer.new result }
+    ensures fits { result ≤ at + 19 }
+{
+    put_number(buffer, at, u128::from(word.object_type()))
+}
+
 // Writes that a place's capability is sealed.
 fn put_sealed(buffer: &mut [u8], at: usize, place: Place, cap: Cap) -> usize
     requires { at + 64 ≤ length buffer.old }
@@ -91,7 +109,7 @@ fn put_sealed(buffer: &mut [u8], at: usize, place: Place, cap: Cap) -> usize
 {
     let at = put_place(buffer, at, place);
     let at = put(buffer, at, b" is sealed with type ");
-    put_number(buffer, at, u128::from(cap.word.object_type()))
+    put_word_type(buffer, at, cap.word)
 }
 
 // Writes that a range goes beyond the bounds of a place's capability.
@@ -170,10 +188,15 @@ fn put_rounded_escape(buffer: &mut [u8], at: usize, seen: &Seen, base: u64, size
     ensures written { Writes at (rounded_escape seen.now base size) buffer.old buffer.new result }
     ensures fits { result ≤ at + 160 }
 {
-    let at = put(buffer, at, b"rounded, the request ");
-    let at = put_rounded_beyond(buffer, at, base, size, bounds(seen.source.word));
-    let at = put_place(buffer, at, seen.place);
-    put(buffer, at, b"'s bounds")
+    let range = rounded_range(base, size);
+    put_escape(
+        buffer,
+        at,
+        b"rounded, the request ",
+        range,
+        seen.place,
+        seen.source,
+    )
 }
 
 // Writes that the bounds asked for, or only those to which they are rounded, go beyond the source's.
@@ -225,7 +248,7 @@ fn put_moved(buffer: &mut [u8], at: usize, seen: &Seen, address: u64) -> usize
     ensures written { Writes at (moved_text seen.now address) buffer.old buffer.new result }
     ensures fits { result ≤ at + 160 }
 {
-    let at = put_number(buffer, at, u128::from(address));
+    let at = put_start(buffer, at, address);
     let at = put(buffer, at, b" isn't an address that keeps ");
     let at = put_place(buffer, at, seen.place);
     let at = put(buffer, at, b"'s bounds: these are ");
@@ -333,20 +356,11 @@ fn put_types(buffer: &mut [u8], at: usize, seen: &Seen) -> usize
 {
     let at = put_place(buffer, at, seen.place);
     let at = put(buffer, at, b"'s object type is ");
-    let at = put_number(buffer, at, u128::from(seen.source.word.object_type()));
+    let at = put_word_type(buffer, at, seen.source.word);
     let at = put(buffer, at, b", and ");
     let at = put_place(buffer, at, seen.authority);
     let at = put(buffer, at, b"'s address ");
     put_word_address(buffer, at, seen.held.word)
-}
-
-// Writes the address at which an access starts.
-fn put_start(buffer: &mut [u8], at: usize, address: u64) -> usize
-    requires { at + 19 ≤ length buffer.old }
-    ensures written { Writes at (number_text address) buffer.old buffer.new result }
-    ensures fits { result ≤ at + 19 }
-{
-    put_number(buffer, at, u128::from(address))
 }
 
 // Writes how many bytes an access has.

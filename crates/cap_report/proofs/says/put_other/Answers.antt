@@ -1,0 +1,7 @@
+use Rattle.cap_streams.specs.Written.{◌⨾◌}
+use Rattle.cap_report.proofs.says.put_other.Goals as goal
+
+pub returns-clause-written : goal.returns-clause-written
+returns-clause-written c =
+    c.put-at.ensures.written ⨾ c.put-at-2.ensures.written ⨾ c.put_number-at.ensures.written ⨾ c.put-at-3.ensures.written
+    ⨾ c.put-at-4.ensures.written ⨾ c.put_number.ensures.written
