@@ -12,7 +12,7 @@ use Rattle.cap_report.specs.declared.parts.ReportPart.TheVariants.{Access, Needs
 abbrev pub where_different : Bool → List ℕ → List ℕ
 where_different same name = if same then [] else name
 
--- the fields in which two capabilities differ, by the names that an explanation gives them: those beside their bounds
+-- the fields beside their bounds and addresses in which two capabilities differ, by the names that an explanation gives them
 abbrev pub rights_different : Cap → Cap → List ℕ
 rights_different a b =
     let v = a.word.0 in
@@ -23,7 +23,7 @@ rights_different a b =
     ++ where_different (beq (flag_of v) (flag_of w)) (codes " flag")
     ++ where_different (otype_of v == otype_of w) (codes " otype")
 
--- and those of their bounds and their address
+-- the fields of their bounds and their addresses in which two words differ, by these names
 abbrev pub bounds_different : ℕ → ℕ → List ℕ
 bounds_different v w =
     where_different (beq (ie_of v) (ie_of w)) (codes " ie")
@@ -32,6 +32,7 @@ bounds_different v w =
     ++ where_different (t_of v == t_of w) (codes " t")
     ++ where_different (address_of v == address_of w) (codes " address")
 
+-- the fields in which two capabilities differ, by these names
 unfoldable pub differs_line : Cap → Cap → List ℕ
 differs_line a b = codes "differs" ++ rights_different a b ++ bounds_different a.word.0 b.word.0 ++ codes "\n"
 
