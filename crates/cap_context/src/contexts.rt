@@ -2,12 +2,12 @@
 
 ghost use Rattle.std.specs.Prelude.{◌≡◌, ◌++◌, [], codes, decimal, if◌then◌else◌, nat_lt, ◌&&◌, None, OnOk, Some, option_map};
 ghost use Rattle.cap_json.specs.Words.{lines_of};
-ghost use Rattle.cap_context.specs.Contexts.{before_lines, before_text, context_at, context_of, last_writer, number_of, numbered};
+ghost use Rattle.cap_context.specs.Contexts.{before_lines, before_text, context_of, last_writer, number_of, numbered};
 ghost use Rattle.cap_context.specs.Contexts.{refused_line, text_at};
 ghost use Rattle.cap_context.specs.{Readings.entry_of, Registers.writes};
 ghost use Rattle.cap_context.specs.Contexts.{with_digit, wrote_line, wrote_lines, wrote_text};
 
-use crate::registers::{first_read, is_register, writes};
+use crate::registers::{first_read, is_register, word_at, writes};
 use cap_json::{begins, cut};
 use std::alloc::AllocError;
 
@@ -152,19 +152,8 @@ fn push_wrote_line(
     push_entry(report, b" ", number, text)
 }
 
-// Appends the line that last wrote an operand of a line, if that is a register.
-fn push_wrote(report: &mut Vec<u8>, word: &[u8], line: u64, bytes: &[u8]) -> Result<(), AllocError>
-    ensures ok { OnOk result (report.new.items ≡ report.old.items ++ wrote_text word.now line (numbered 1 (lines_of bytes.now))) }
-{
-    if is_register(word) {
-        push_wrote_line(report, word, last_writer(word, line, bytes))
-    } else {
-        Ok(())
-    }
-}
-
 // Appends the line that last wrote an operand that isn't shown yet, if it is a register.
-fn push_unshown(
+fn push_wrote(
     report: &mut Vec<u8>,
     is_shown: bool,
     word: &[u8],
@@ -173,10 +162,10 @@ fn push_unshown(
 ) -> Result<(), AllocError>
     ensures ok { OnOk result (report.new.items ≡ report.old.items ++ (if is_shown then [] else wrote_text word.now line (numbered 1 (lines_of bytes.now)))) }
 {
-    if is_shown {
+    if is_shown || !is_register(word) {
         return Ok(());
     }
-    push_wrote(report, word, line, bytes)
+    push_wrote_line(report, word, last_writer(word, line, bytes))
 }
 
 // Appends the lines that last wrote the registers that a line reads.
@@ -185,12 +174,11 @@ fn push_writers(report: &mut Vec<u8>, line: u64, bytes: &[u8]) -> Result<(), All
 {
     let text = text_at(line, bytes);
     let first = first_read(text);
-    let (_, operands) = cut(b' ', cut(b' ', text).1);
-    let (second, operands) = cut(b' ', operands);
-    let (third, _) = cut(b' ', operands);
-    push_wrote(report, first, line, bytes)?;
-    push_unshown(report, second == first, second, line, bytes)?;
-    push_unshown(
+    let second = word_at(2, text);
+    let third = word_at(3, text);
+    push_wrote(report, false, first, line, bytes)?;
+    push_wrote(report, second == first, second, line, bytes)?;
+    push_wrote(
         report,
         third == first || third == second,
         third,
@@ -210,27 +198,15 @@ fn refused_line(report: &[u8]) -> Option<u64>
     Some(number_of(digits))
 }
 
-// Appends the context of a line.
-fn push_context_at(
-    report: &mut Vec<u8>,
-    count: u8,
-    line: u64,
-    bytes: &[u8],
-) -> Result<(), AllocError>
-    ensures ok { OnOk result (report.new.items ≡ report.old.items ++ context_at count line (numbered 1 (lines_of bytes.now))) }
-{
-    push_before(report, count, line, bytes)?;
-    push_writers(report, line, bytes)
-}
-
 /// Appends the context of the line that a report refuses, in the bytes of its log: at most this many lines before it, and then
 /// the lines before it that last wrote the registers that it reads, in the order of its operands.
 #[tactic(auto, unfolding(crate::specs::Contexts::context_of))]
 pub fn push_context(report: &mut Vec<u8>, count: u8, bytes: &[u8]) -> Result<(), AllocError>
     ensures ok { OnOk result (report.new.items ≡ report.old.items ++ context_of count bytes.now report.old.items) }
 {
-    match refused_line(report.as_slice()) {
-        Some(line) => push_context_at(report, count, line, bytes),
-        None => Ok(()),
-    }
+    let Some(line) = refused_line(report.as_slice()) else {
+        return Ok(());
+    };
+    push_before(report, count, line, bytes)?;
+    push_writers(report, line, bytes)
 }

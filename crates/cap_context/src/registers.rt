@@ -1,7 +1,7 @@
 //! The registers that a line of a log writes and reads, by its words.
 
-ghost use Rattle.std.specs.Prelude.{◌≡◌};
-ghost use Rattle.cap_context.specs.Registers.{first_read, is_register, is_result, writes, writes_first};
+ghost use Rattle.std.specs.Prelude.{◌≡◌, bytes_eq};
+ghost use Rattle.cap_context.specs.Registers.{first_read, is_register, is_result, word_at, writes, writes_first};
 
 use cap_json::{begins, cut};
 
@@ -12,44 +12,54 @@ pub(crate) fn is_register(word: &[u8]) -> bool
     (begins(b"c", word) && word.len() <= 3) || (begins(b"scr", word) && word.len() <= 5)
 }
 
+// Whether a word is this one.
+fn is_word(word: &[u8], name: &[u8]) -> bool
+    ensures value { result ≡ bytes_eq word.now name.now }
+{
+    word == name
+}
+
+/// A word of a line, counted from 0.
+pub(crate) fn word_at(index: u8, line: &[u8]) -> &[u8]
+    ensures value { result.now ≡ word_at index line.now }
+{
+    let (word, more) = cut(b' ', line);
+    if index == 0 {
+        word
+    } else {
+        word_at(index - 1, more)
+    }
+}
+
 // Whether two words of a line begin a result: `=` and a tag.
 fn is_result(mark: &[u8], tag: &[u8]) -> bool
     ensures value { result ≡ is_result mark.now tag.now }
 {
-    mark == b"=".as_slice() && tag.len() == 1
+    is_word(mark, b"=") && tag.len() == 1
 }
 
 // Whether a line writes its first operand.
 fn writes_first(line: &[u8]) -> bool
     ensures value { result ≡ writes_first line.now }
 {
-    let (kind, rest) = cut(b' ', line);
-    let (_, rest) = cut(b' ', rest);
-    let (_, rest) = cut(b' ', rest);
-    let (third, rest) = cut(b' ', rest);
-    let (fourth, rest) = cut(b' ', rest);
-    let (fifth, _) = cut(b' ', rest);
-    kind == b"root".as_slice()
-        || kind == b"drop".as_slice()
-        || is_result(third, fourth)
-        || is_result(fourth, fifth)
+    let kind = word_at(0, line);
+    is_word(kind, b"root")
+        || is_word(kind, b"drop")
+        || is_result(word_at(3, line), word_at(4, line))
+        || is_result(word_at(4, line), word_at(5, line))
 }
 
 /// Whether a line writes a register.
 pub(crate) fn writes(register: &[u8], line: &[u8]) -> bool
     ensures value { result ≡ writes register.now line.now }
 {
-    let (kind, operands) = cut(b' ', line);
-    let (first, operands) = cut(b' ', operands);
-    if kind == b"invoke".as_slice() {
-        return register == b"scr0".as_slice() || register == b"c31".as_slice();
+    let kind = word_at(0, line);
+    if is_word(kind, b"invoke") {
+        return is_word(register, b"scr0") || is_word(register, b"c31");
     }
-    if !writes_first(line) {
-        return false;
-    }
-    let (_, operands) = cut(b' ', operands);
-    let (third, _) = cut(b' ', operands);
-    register == first || (kind == b"exchange".as_slice() && register == third)
+    writes_first(line)
+        && (is_word(register, word_at(1, line))
+            || (is_word(kind, b"exchange") && is_word(register, word_at(3, line))))
 }
 
 /// The first operand of a line, if the line doesn't write it.
@@ -57,8 +67,8 @@ pub(crate) fn first_read(line: &[u8]) -> &[u8]
     ensures value { result.now ≡ first_read line.now }
 {
     if writes_first(line) {
-        return &[];
+        &[]
+    } else {
+        word_at(1, line)
     }
-    let (_, operands) = cut(b' ', line);
-    cut(b' ', operands).0
 }
