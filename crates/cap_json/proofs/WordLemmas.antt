@@ -60,7 +60,7 @@ pub escaped_more : (bytes start items new : List ℕ) (i : ℕ) → i < length b
 escaped_more bytes start items new i within so_far more =
     let byte = get_or bytes i 0 in
     let text : escaped (take i bytes) ++ escaped_byte byte ≡ escaped (take (i + 1) bytes) =
-        ap (λ (t : List ℕ). escaped (take i bytes) ++ t) (sym (append-nil (escaped_byte byte)))
-        ∙ sym (ap escaped (take_more bytes i 0 within) ∙ flat_map-append escaped_byte (take i bytes) (byte ∷ [])) in
+    ap (λ (t : List ℕ). escaped (take i bytes) ++ t) (sym (append-nil (escaped_byte byte)))
+    ∙ sym (ap escaped (take_more bytes i 0 within) ∙ flat_map-append escaped_byte (take i bytes) (byte ∷ [])) in
     more ∙ ap (λ (t : List ℕ). t ++ escaped_byte byte) so_far ∙ append_assoc start (escaped (take i bytes)) (escaped_byte byte)
     ∙ ap (λ (t : List ℕ). start ++ t) text
