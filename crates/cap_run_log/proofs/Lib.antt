@@ -1,6 +1,7 @@
 mod ExchangeLemmas
 mod Operands
 mod PartLemmas
+mod ResultLemmas
 mod Rows
 mod SmallLemmas
 pub mod Spellings

@@ -1,10 +1,12 @@
 //! The words that only lines of run logs begin with.
 
-ghost use Rattle.std.specs.Prelude.{◌≡◌, ◌≤◌, length};
+ghost use Rattle.std.specs.Prelude.{◌≡◌, ◌↔◌, ◌≤◌, ◌∷◌, ◌++◌, IfNone, IfSome, codes, length, true};
+ghost use Rattle.cap_log.specs.Parts.{BeginsWithout};
 ghost use Rattle.cap_run_log.specs.{RunHeads.{IsRunHead, run_head_spelling}, SpaceLaws.run_head-spaceless};
 
+use crate::parts::are_two;
 use cap_log::buffers::put;
-use cap_log::{Part, Single, strip_word};
+use cap_log::{Part, Single, are_four, strip_word};
 
 /// What kind of line a line of a run log is that `cap_log` has no head for, and a root.
 #[derive(Clone, Copy, Debug, PartialEq, Eq)]
@@ -78,6 +80,47 @@ fn run_head_text(head: RunHead) -> &'static [u8]
         RunHead::Object => b"object",
         RunHead::Free => b"free",
     }
+}
+
+/// What follows `exchange` and its space at the front of some bytes, or `None` where they do not stand there. The word is
+/// compared as one number.
+#[inline(always)]
+pub(crate) fn strip_exchange(bytes: &[u8]) -> Option<&[u8]>
+    ensures some { IfSome result (λ rest. bytes.now ≡ codes "exchange" ++ 32 ∷ rest.now) }
+    ensures none { IfNone result (BeginsWithout (codes "exchange") 32 bytes.now) }
+{
+    let (front, others) = bytes.split_first_chunk::<8>()?;
+    if !are_eight(front, b"exchange") {
+        return None;
+    }
+    let (first, rest) = others.split_first()?;
+    if *first == b' ' { Some(rest) } else { None }
+}
+
+/// The same of `derive`: what it compares are parts of the number that [`strip_exchange`] compares.
+#[inline(always)]
+pub(crate) fn strip_derive(bytes: &[u8]) -> Option<&[u8]>
+    ensures some { IfSome result (λ rest. bytes.now ≡ codes "derive" ++ 32 ∷ rest.now) }
+    ensures none { IfNone result (BeginsWithout (codes "derive") 32 bytes.now) }
+{
+    let (front, others) = bytes.split_first_chunk::<4>()?;
+    if !are_four(front, b"deri") {
+        return None;
+    }
+    let (middle, others) = others.split_first_chunk::<2>()?;
+    if !are_two(middle, b"ve") {
+        return None;
+    }
+    let (first, rest) = others.split_first()?;
+    if *first == b' ' { Some(rest) } else { None }
+}
+
+// Whether eight bytes are these, compared as one number.
+#[inline(always)]
+fn are_eight(bytes: &[u8; 8], text: &[u8; 8]) -> bool
+    ensures same { (result ≡ true) ↔ (bytes.now ≡ text.now) }
+{
+    u64::from_le_bytes(*bytes) == u64::from_le_bytes(*text)
 }
 
 impl Single for RunHead {

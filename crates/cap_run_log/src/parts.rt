@@ -1,6 +1,6 @@
 //! The parts of lines that only run logs have.
 
-ghost use Rattle.std.specs.Prelude.{◌≡◌, ◌+◌, ◌≤◌, ◌<◌, decimal, codes, length};
+ghost use Rattle.std.specs.Prelude.{◌≡◌, ◌↔◌, ◌+◌, ◌≤◌, ◌<◌, decimal, codes, length, true};
 ghost use Rattle.cap_log.specs.Lines.{IsRegister, register_spelling, tag_spelling};
 ghost use Rattle.cap_streams.specs.Written.{Writes};
 ghost use Rattle.cap_run_log.specs.RunLines.{IsGranule, IsObjectNumber, IsRunPlace, IsRunRegister, granule_spelling};
@@ -225,11 +225,15 @@ impl Part for Tag {
 
     #[inline(always)]
     fn take(bytes: &[u8], end: u8) -> Option<(Tag, &[u8])> {
-        if let Some(rest) = strip_word(bytes, b"1", end) {
+        let (front, rest) = bytes.split_first_chunk::<2>()?;
+        if are_two(front, &[b'1', end]) {
             return Some((Tag(true), rest));
         }
-        let rest = strip_word(bytes, b"0", end)?;
-        Some((Tag(false), rest))
+        if are_two(front, &[b'0', end]) {
+            Some((Tag(false), rest))
+        } else {
+            None
+        }
     }
 
     #[inline(always)]
@@ -330,6 +334,14 @@ impl Part for Freed {
             Freed::Number(number) => put_decimal(buffer, at, u64::from(number)),
         }
     }
+}
+
+/// Whether two bytes are these, compared as one number.
+#[inline(always)]
+pub(crate) fn are_two(bytes: &[u8; 2], text: &[u8; 2]) -> bool
+    ensures same { (result ≡ true) ↔ (bytes.now ≡ text.now) }
+{
+    u16::from_le_bytes(*bytes) == u16::from_le_bytes(*text)
 }
 
 // The special register whose name of one digit these bytes are, or a number above 9 if they are none.

@@ -12,12 +12,12 @@ ghost use Rattle.cap_run_log.specs.declared.lines.ExchangeLine.{ExchangeLine as 
 ghost use Rattle.cap_run_log.specs.RunParts.{StandsAfter};
 ghost use Rattle.cap_run_log.specs.declared.heads.RunHead.TheVariants as heads;
 
-use crate::heads::RunHead;
+use crate::heads::{RunHead, strip_derive, strip_exchange};
 use crate::lines::{DeriveLine, ExchangeLine, RunLine, RunPlace, RunStep};
 use crate::parts::{Equals, Freed, Granule, Handed, One, Source, Special, Written};
 use crate::results::Results;
 use cap_log::buffers::put;
-use cap_log::{Line, Part, Register, Target, strip_word, take_line};
+use cap_log::{Line, Part, Register, Target, take_line};
 use cap_streams::LINE_LIMIT;
 use cap_word::{Cap, Word};
 
@@ -50,7 +50,7 @@ pub fn take_exchange(bytes: &[u8]) -> Option<(ExchangeLine, &[u8])>
     ensures none { IfNone result ((exchange : ExchangeIn) (rest : List ℕ)
         → Begins IsRunLineInRange run_spelling 10 bytes.now (exchange_line exchange) rest → ⊥) }
 {
-    let Some(operands) = strip_word(bytes, b"exchange", b' ') else {
+    let Some(operands) = strip_exchange(bytes) else {
         return None;
     };
     take_exchanged(operands)
@@ -64,7 +64,7 @@ pub fn take_derive(bytes: &[u8]) -> Option<(DeriveLine, &[u8])>
     ensures none { IfNone result ((derive : DeriveIn) (rest : List ℕ)
         → Begins IsRunLineInRange run_spelling 10 bytes.now (derive_line derive) rest → ⊥) }
 {
-    let Some(operands) = strip_word(bytes, b"derive", b' ') else {
+    let Some(operands) = strip_derive(bytes) else {
         return None;
     };
     take_derived(operands)

@@ -8,9 +8,6 @@ use crate::parts::{Equals, Tag};
 use cap_log::Part;
 use cap_word::{Cap, Word};
 
-// The words that the results of an exchange have.
-type ResultWords = (Equals, (Tag, (Word, (Tag, Word))));
-
 // How many bytes they have, with the byte that ends them.
 const RESULTS_LENGTH: usize = 72;
 
@@ -35,15 +32,10 @@ impl Part for Results {
         if bytes.len() < RESULTS_LENGTH {
             return None;
         }
-        let (words, rest) = ResultWords::take(bytes, end)?;
-        let (_equals, (tag, (word, (special_tag, special_word)))) = words;
-        let results = Results {
-            general: Cap { tag: tag.0, word },
-            special: Cap {
-                tag: special_tag.0,
-                word: special_word,
-            },
-        };
+        let (general, others) = Cap::take(bytes, b' ')?;
+        let ((tag, word), rest) = <(Tag, Word)>::take(others, end)?;
+        let special = Cap { tag: tag.0, word };
+        let results = Results { general, special };
         Some((results, rest))
     }
 
