@@ -1,6 +1,6 @@
 //! Derivations that no check refuses, told without decoding bounds.
 
-ghost use Rattle.std.specs.Prelude.{◌≡◌, ◌/◌, ◌^◌, None, true};
+ghost use Rattle.std.specs.Prelude.{◌≡◌, ◌⊎◌, ◌+◌, ◌/◌, ◌%◌, ◌^◌, None, true};
 ghost use Rattle.cap_word.specs.Fields.{address_of};
 ghost use Rattle.cap_bounds.specs.Range.{KeepsBounds};
 ghost use Rattle.cap_machine.specs.Parents.{IsSoundCap};
@@ -36,11 +36,18 @@ fn is_near(source: Word, word: Word) -> bool
 fn is_moved<const FAR: bool>(source: Word, word: Word) -> bool
     ensures { result ≡ true → IsMoved source.0 word.0 }
 {
-    let high = high_half(word);
-    let source_high = high_half(source);
     source.object_type() == UNSEALED_TYPE
-        && (high == source_high || high == source_high.wrapping_sub(SENTRY_BELOW))
+        && is_same_or_sentry(high_half(source), high_half(word))
         && (is_near(source, word) || (FAR && keeps_bounds(source, word.address())))
+}
+
+// Whether half of a word is that of another, or of its sentry. The difference is rotated, so that one comparison tells both.
+#[inline(always)]
+fn is_same_or_sentry(source: u64, high: u64) -> bool
+    ensures { result ≡ true → (high ≡ source) ⊎ ((high + 2 ^ 27) % 2 ^ 64 ≡ source) }
+{
+    let below = source.wrapping_sub(high);
+    (below >> 27) + (below << 37) <= 1
 }
 
 // Whether a word is a sentry without its seal.
@@ -61,8 +68,11 @@ pub(crate) fn is_plainly_derived<const FAR: bool>(source: Cap, word: Word, opens
     ensures checks { result ≡ true → first_of (derive_checks source word.0 opens) ≡ None }
     ensures within { result ≡ true → StaysWithin (record { tag = true; word = word }) source }
 {
-    source.tag
-        && (is_moved::<FAR>(source.word, word)
-            || (opens && is_open_sentry(source.word, word))
-            || word.0 == source.word.0)
+    if !source.tag {
+        return false;
+    }
+    if source.word.object_type() == UNSEALED_TYPE {
+        return is_moved::<FAR>(source.word, word);
+    }
+    (opens && is_open_sentry(source.word, word)) || word.0 == source.word.0
 }

@@ -18,6 +18,17 @@ use cap_run_log::RunRegister;
 use cap_word::{Cap, Word};
 use tagmem::TaggedStore;
 
+// The same capability, made anew for a call: only where that call is made does it then stand in memory.
+#[inline(always)]
+fn anew(cap: Cap) -> Cap
+    ensures { result ≡ cap }
+{
+    Cap {
+        tag: cap.tag,
+        word: Word(cap.word.0),
+    }
+}
+
 // Why a register can't get what is derived from a source.
 #[inline(never)]
 fn derived_refusal(target: RunRegister, source: Cap, recorded: Cap) -> Option<RunRefusal>
@@ -142,7 +153,7 @@ impl<M: TaggedStore> RunMachine<M> {
             self.write_alone(target, source, recorded);
             return Ok(());
         }
-        self.derive_apart(target, source, recorded)
+        self.derive_apart(target, source, anew(recorded))
     }
 
     // The same of any derivation, in a function of its own.
@@ -213,7 +224,13 @@ impl<M: TaggedStore> RunMachine<M> {
             );
             return Ok(());
         }
-        self.exchange_apart(target, source, number, recorded, special_recorded)
+        self.exchange_apart(
+            target,
+            source,
+            number,
+            anew(recorded),
+            anew(special_recorded),
+        )
     }
 
     // The same of any exchange, in a function of its own.

@@ -64,7 +64,17 @@ impl Specials {
         ensures caps { cap_in self.new ≡ put (cap_in self.old) number cap }
         ensures labels { label_in self.new ≡ put (label_in self.old) number label }
     {
-        self.caps[number as usize] = cap;
+        overwrite(&mut self.caps[number as usize], cap);
         self.labels[number as usize] = label;
     }
+}
+
+// Writes a capability over another, number by number: a copy of the whole would move the bytes between the fields too, and one
+// of the word would keep it in memory.
+#[inline(always)]
+fn overwrite(place: &mut Cap, cap: Cap)
+    ensures { place.new ≡ cap }
+{
+    place.tag = cap.tag;
+    place.word.0 = cap.word.0;
 }
