@@ -12,7 +12,7 @@ use tagmem_lent::{LentStore, Slot};
 
 /// What a judge answers that explains it (in C `capcheck_why`).
 #[repr(C)]
-#[derive(Debug, Clone, Copy, PartialEq, Eq)]
+#[derive(Clone, Copy)]
 pub struct Why {
     /// The answer.
     pub answer: Answer,

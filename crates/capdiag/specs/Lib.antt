@@ -6,3 +6,4 @@ pub mod Orders
 pub mod Readings
 pub mod Renderings
 pub mod Answers
+pub mod Judgings

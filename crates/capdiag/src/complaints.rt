@@ -12,7 +12,7 @@ use cap_log::{Sink, push_all};
 use cap_texts::shown_bytes::put_shown;
 
 /// What is wrong with the words after the program's name.
-#[derive(Debug, Clone, Copy, PartialEq, Eq)]
+#[derive(Clone, Copy)]
 pub enum Complaint {
     /// There is no word.
     NoCommand,
@@ -37,7 +37,7 @@ pub enum Complaint {
 }
 
 /// Why the words after the program's name ask for no order.
-#[derive(Debug, Clone, Copy, PartialEq, Eq)]
+#[derive(Clone, Copy)]
 pub struct Wrong<'a> {
     /// What is wrong.
     pub complaint: Complaint,
@@ -46,7 +46,7 @@ pub struct Wrong<'a> {
 }
 
 /// Why a file cannot be opened.
-#[derive(Debug, Clone, Copy, PartialEq, Eq)]
+#[derive(Clone, Copy)]
 pub enum Unopened {
     /// There is none of this name.
     Missing,

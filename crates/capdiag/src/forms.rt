@@ -1,6 +1,6 @@
 //! How a report is shown: as it is, with the context of the line that it refuses, or as an object of JSON.
 
-ghost use Rattle.std.specs.Prelude.{◌≡◌, ℕ, List, true, IfOk, IfSome};
+ghost use Rattle.std.specs.Prelude.{◌≡◌, ◌==◌, ◌&&◌, not, ℕ, List, true, IfOk, IfSome};
 ghost use Rattle.cap_program.specs.Doings.{IsCounted};
 ghost use Rattle.capdiag.specs.{Forms.{count_of, is_digit, is_kept, plain, with_json, with_lines}, Renderings.{IsPut, in_context, in_object, rendered}};
 
@@ -11,7 +11,7 @@ use cap_program::Fault;
 use std::alloc::{AllocError, Global};
 
 /// How a report is shown.
-#[derive(Debug, Clone, Copy, PartialEq, Eq)]
+#[derive(Clone, Copy)]
 pub struct Form {
     /// Whether it is an object of JSON.
     pub json: bool,
@@ -50,13 +50,20 @@ fn is_digit(byte: u8) -> bool
     byte >= b'0' && byte <= b'9'
 }
 
+// Whether a byte is a decimal digit that others may follow.
+fn is_leading(byte: u8) -> bool
+    ensures value { result ≡ (is_digit byte && not (byte == 48)) }
+{
+    is_digit(byte) && byte != b'0'
+}
+
 /// The number of lines that a word spells, 0 to 99, if it does.
 pub(crate) fn count_of(word: &str) -> Option<u8>
     ensures value { result ≡ count_of word.now }
 {
     match word.as_bytes() {
         [digit] if is_digit(*digit) => Some(*digit - b'0'),
-        [ten, digit] if is_digit(*ten) && *ten != b'0' && is_digit(*digit) => {
+        [ten, digit] if is_leading(*ten) && is_digit(*digit) => {
             Some(10 * (*ten - b'0') + (*digit - b'0'))
         }
         _ => None,

@@ -6,7 +6,7 @@ ghost use Rattle.capdiag.specs.Answers.{order_meaning};
 
 use crate::help::{show_help, show_version};
 use crate::judges::asks_of;
-use crate::renderings::{explain_as, judge_heap_as, judge_run_as};
+use crate::renderings::{Judging, judge_as};
 use crate::words::Order;
 use cap_log::{Sink, Source};
 use cap_program::{Command, Fault};
@@ -37,7 +37,7 @@ impl Command for Order<'_> {
             Order::Help => show_help(out),
             Order::Version => show_version(out),
             Order::Why { origins, form, .. } => match input {
-                Some(source) => explain_as(alloc, origins, form, source, out),
+                Some(source) => judge_as(alloc, Judging::Why { origins }, form, source, out),
                 None => Err(Fault::Read),
             },
             Order::Heap {
@@ -46,7 +46,7 @@ impl Command for Order<'_> {
                 form,
                 ..
             } => match input {
-                Some(source) => judge_heap_as(alloc, report, why, form, source, out),
+                Some(source) => judge_as(alloc, Judging::Heap { report, why }, form, source, out),
                 None => Err(Fault::Read),
             },
             Order::Run {
@@ -57,15 +57,11 @@ impl Command for Order<'_> {
                 form,
                 ..
             } => match input {
-                Some(source) => judge_run_as(
-                    alloc,
-                    asks_of(freed, owned),
-                    owners,
-                    why,
-                    form,
-                    source,
-                    out,
-                ),
+                Some(source) => {
+                    let asks = asks_of(freed, owned);
+                    let judging = Judging::Run { asks, owners, why };
+                    judge_as(alloc, judging, form, source, out)
+                }
                 None => Err(Fault::Read),
             },
         }

@@ -11,7 +11,7 @@ use crate::forms::{Form, PLAIN, count_of, with_json, with_lines};
 use cap_program::is_operand;
 
 /// What the program was asked to do.
-#[derive(Debug, Clone, Copy, PartialEq, Eq)]
+#[derive(Clone, Copy)]
 pub enum Order<'a> {
     /// `--help`, after a command too: tell how the program is used.
     Help,
@@ -58,7 +58,7 @@ pub enum Order<'a> {
 }
 
 /// What is asked of freed objects.
-#[derive(Debug, Clone, Copy, PartialEq, Eq)]
+#[derive(Clone, Copy)]
 pub enum Freed {
     /// `held`: no place holds an object whose memory is handed out again.
     Held,

@@ -1,5 +1,5 @@
 use Rattle.std.specs.FinMap.{len, len-empty}
-use Rattle.std.proofs.Common.{ap, sym, ◌∙◌, nat_cmp}
+use Rattle.std.proofs.Common.{ap, ◌∙◌, nat_cmp}
 use Rattle.tagmem.specs.Granules.{Entry}
 use Rattle.capdiag.proofs.judges.judge_asked.Goals as goal
 

@@ -1,21 +1,18 @@
 use Rattle.std.proofs.Common.{rules, ◌≡◌, ℕ, List, [], ◌++◌, ◌∙◌, ap, true}
-use Rattle.cap_json.specs.declared.rows.LogKind.{LogKind}
-use Rattle.cap_program.specs.Judging.{StopsJudging}
-use Rattle.cap_run_judge.specs.Judgings.{IsAnswerOf as IsRunAnswerOf}
-use Rattle.capdiag.specs.Answers.{ShowsRun}
-use Rattle.capdiag.specs.Renderings.{rendered}
+use Rattle.capdiag.specs.{Judgings.{ShowsJudged, StopsJudged, kind_of}, Renderings.rendered}
 use Rattle.capdiag.proofs.RenderingLemmas.{if_some, kept_done, kept_read}
-use Rattle.capdiag.proofs.renderings.judge_run_kept.Goals as goal
+use Rattle.capdiag.proofs.renderings.judge_kept.Goals as goal
 
 pub returns : goal.returns
 returns g c =
-    let e = c.judge_run_source-done.ensures in
+    let e = c.judge_source-done.ensures in
     let o = c.push_report.ensures in
     let given = e.done.0 in
     let gives = e.done.1 in
-    let shows = ShowsRun c.args.asks c.args.owners c.args.why given in
-    let stops = StopsJudging (IsRunAnswerOf c.args.asks given true) in
-    let new_source = c.judge_run_source-done.new.source.source.now in
+    let kind = kind_of c.args.judging in
+    let shows = ShowsJudged c.args.judging given in
+    let stops = StopsJudged c.args.judging given in
+    let new_source = c.judge_source-done.new.source.source.now in
     let ended = g.S.Source.ended new_source in
     let took = g.K.Sink.took c.args.sink.now c.push_report.new.sink in
     let source_is = c.source-1.given.1 (search rules) in
@@ -23,22 +20,22 @@ returns g c =
     let empty : c.new.result.writer.now.items ≡ [] = search rules in
     let none : c.new-recorder.result.kept.now.items ≡ [] = search rules in
     let report = c.report-2-1.given.0.items in
-    let report_is : c.judge_run_source-done.new.sink.writer.ghost_name ≡ c.new.result.writer.ghost_name
-    → report ≡ c.judge_run_source-done.new.sink.writer.now.items = λ same. search (rules, c.report-2-1.given.1) in
-    let kept : c.judge_run_source-done.new.source.is_whole ≡ true → c.as_slice.result.now ≡ given = λ whole.
-    let items : c.as_slice.result.now ≡ c.judge_run_source-done.new.source.kept.now.items = search (rules, kept_is) in
+    let report_is : c.judge_source-done.new.sink.writer.ghost_name ≡ c.new.result.writer.ghost_name
+    → report ≡ c.judge_source-done.new.sink.writer.now.items = λ same. search (rules, c.report-2-1.given.1) in
+    let kept : c.judge_source-done.new.source.is_whole ≡ true → c.as_slice.result.now ≡ given = λ whole.
+    let items : c.as_slice.result.now ≡ c.judge_source-done.new.source.kept.now.items = search (rules, kept_is) in
     items ∙ (gives.3 whole).1 ∙ ap (λ (held : List ℕ). held ++ given) none in
-    let put = o.put given (if_some c.recorded.result c.recorded.ensures.some
-    (λ bytes known. known.1 ∙ kept (search (rules, known.0)))) in
-    let done = c.judge_run_source-done.result in
+    let put = rw c.kind_of.ensures.value at (o.put given (if_some c.recorded.result c.recorded.ensures.some
+    (λ bytes known. known.1 ∙ kept (search (rules, known.0))))) in
+    let done = c.judge_source-done.result in
     let answer = c.push_report.result in
     rw source_is (record {
       done = (
         given,
         rw c.new-recorder.ensures.source at gives.2,
-        kept_done c.args.form LogKind.Run given shows stops ended report _
+        kept_done c.args.form kind given shows stops ended report _
             (λ text told. report_is told.0 ∙ told.1 ∙ ap (λ (held : List ℕ). held ++ text) empty) took done answer e.done.2 put,
       );
-      read = kept_read (rendered c.args.form LogKind.Run given report) took _ _ done answer put (rw c.new-recorder.ensures.source at e.read);
+      read = kept_read (rendered c.args.form kind given report) took _ _ done answer put (rw c.new-recorder.ensures.source at e.read);
       written = o.written;
     })
