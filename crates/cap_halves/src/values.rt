@@ -3,7 +3,7 @@
 /// A number of 128 bits as its two halves: a word in the register layout, or a number of more than 64
 /// bits (in C `capcheck_word` and `capcheck_wide`).
 #[repr(C)]
-#[derive(Debug, Clone, Copy, PartialEq, Eq)]
+#[derive(Clone, Copy)]
 pub struct Halves {
     /// Bits 127 to 64.
     pub high: u64,
@@ -13,7 +13,7 @@ pub struct Halves {
 
 /// A capability (in C `capcheck_cap`).
 #[repr(C)]
-#[derive(Debug, Clone, Copy, PartialEq, Eq)]
+#[derive(Clone, Copy)]
 pub struct Capability {
     /// Its word.
     pub word: Halves,
@@ -23,7 +23,7 @@ pub struct Capability {
 
 /// A place of a machine, or none (in C `capcheck_place`).
 #[repr(C)]
-#[derive(Debug, Clone, Copy, PartialEq, Eq)]
+#[derive(Clone, Copy)]
 pub struct PassedPlace {
     /// The number of a register, or an address in a granule; in a result the granule's first address, and 0 if
     /// there is no place.

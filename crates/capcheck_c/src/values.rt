@@ -11,7 +11,7 @@ use cap_word::Cap;
 
 /// The fields of a word (in C `capcheck_fields`).
 #[repr(C)]
-#[derive(Debug, Clone, Copy, PartialEq, Eq)]
+#[derive(Clone, Copy)]
 pub struct WordFields {
     /// The address.
     pub address: u64,
@@ -35,7 +35,7 @@ pub struct WordFields {
 
 /// A word, or none (in C `capcheck_optional_word`).
 #[repr(C)]
-#[derive(Debug, Clone, Copy, PartialEq, Eq)]
+#[derive(Clone, Copy)]
 pub struct OptionalWord {
     /// The word; 0 if there is none.
     pub word: Halves,
@@ -45,7 +45,7 @@ pub struct OptionalWord {
 
 /// The text of a word (in C `capcheck_word_text`).
 #[repr(C)]
-#[derive(Debug, Clone, Copy, PartialEq, Eq)]
+#[derive(Clone, Copy)]
 pub struct WordText {
     /// 32 digits and a byte 0.
     pub digits: [u8; 33],
@@ -53,7 +53,7 @@ pub struct WordText {
 
 /// The bounds of a word (in C `capcheck_bounds`).
 #[repr(C)]
-#[derive(Debug, Clone, Copy, PartialEq, Eq)]
+#[derive(Clone, Copy)]
 pub struct Bounds {
     /// The lowest address.
     pub base: u64,
@@ -63,7 +63,7 @@ pub struct Bounds {
 
 /// The rounding of a request (in C `capcheck_rounded`).
 #[repr(C)]
-#[derive(Debug, Clone, Copy, PartialEq, Eq)]
+#[derive(Clone, Copy)]
 pub struct RoundedRequest {
     /// The requested base, rounded down.
     pub base: u64,
@@ -83,7 +83,7 @@ pub struct RoundedRequest {
 
 /// The addresses that keep a word's bounds (in C `capcheck_range`).
 #[repr(C)]
-#[derive(Debug, Clone, Copy, PartialEq, Eq)]
+#[derive(Clone, Copy)]
 pub struct AddressRange {
     /// The first address; 0 if every address keeps the bounds.
     pub start: u64,
@@ -95,7 +95,7 @@ pub struct AddressRange {
 
 /// What an operation answers (in C `capcheck_made`).
 #[repr(C)]
-#[derive(Debug, Clone, Copy, PartialEq, Eq)]
+#[derive(Clone, Copy)]
 pub struct Made {
     /// The result; NULL without a tag if the operation is refused.
     pub cap: Capability,
@@ -105,7 +105,7 @@ pub struct Made {
 
 /// What the test of an access answers (in C `capcheck_access`).
 #[repr(C)]
-#[derive(Debug, Clone, Copy, PartialEq, Eq)]
+#[derive(Clone, Copy)]
 pub struct AccessAnswer {
     /// The address of the access; 0 if it is refused.
     pub address: u64,
@@ -115,7 +115,7 @@ pub struct AccessAnswer {
 
 /// A name (in C `capcheck_name`).
 #[repr(C)]
-#[derive(Debug, Clone, Copy, PartialEq, Eq)]
+#[derive(Clone, Copy)]
 pub struct RefusalName {
     /// The name, and bytes 0 after it.
     pub text: [u8; 24],
@@ -123,7 +123,7 @@ pub struct RefusalName {
 
 /// A sentence (in C `capcheck_sentence`).
 #[repr(C)]
-#[derive(Debug, Clone, Copy, PartialEq, Eq)]
+#[derive(Clone, Copy)]
 pub struct Sentence {
     /// The sentence, and bytes 0 after it.
     pub text: [u8; 96],
@@ -131,7 +131,7 @@ pub struct Sentence {
 
 /// How many lines were read (in C `capcheck_read`).
 #[repr(C)]
-#[derive(Debug, Clone, Copy, PartialEq, Eq)]
+#[derive(Clone, Copy)]
 pub struct LinesCount {
     /// The number of lines.
     pub lines: u64,
@@ -141,7 +141,7 @@ pub struct LinesCount {
 
 /// A line that was read (in C `capcheck_line`).
 #[repr(C)]
-#[derive(Debug, Clone, Copy, PartialEq, Eq)]
+#[derive(Clone, Copy)]
 pub struct LineRead {
     /// What a step records, or the word of a root with a tag; else NULL without a tag.
     pub cap: Capability,
@@ -166,7 +166,7 @@ pub struct LineRead {
 
 /// A line of a run log that was read (in C `capcheck_run_line`).
 #[repr(C)]
-#[derive(Debug, Clone, Copy, PartialEq, Eq)]
+#[derive(Clone, Copy)]
 pub struct RunLineRead {
     /// The line as [`LineRead`] has it, with 18 to 26 for the kinds that only run logs have.
     pub line: LineRead,

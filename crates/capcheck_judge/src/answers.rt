@@ -4,7 +4,7 @@ use cap_halves::values::Capability;
 
 /// A capability, or none (in C `capcheck_optional_cap`).
 #[repr(C)]
-#[derive(Debug, Clone, Copy, PartialEq, Eq)]
+#[derive(Clone, Copy)]
 pub struct OptionalCap {
     /// The capability; NULL without a tag if there is none.
     pub cap: Capability,
@@ -14,7 +14,7 @@ pub struct OptionalCap {
 
 /// What was taken of some lines (in C `capcheck_taken`).
 #[repr(C)]
-#[derive(Debug, Clone, Copy, PartialEq, Eq)]
+#[derive(Clone, Copy)]
 pub struct LinesTaken {
     /// The number of bytes, all of whole lines.
     pub bytes: u64,
@@ -24,7 +24,7 @@ pub struct LinesTaken {
 
 /// What the rules give for a step (in C `capcheck_expected`).
 #[repr(C)]
-#[derive(Debug, Clone, Copy, PartialEq, Eq)]
+#[derive(Clone, Copy)]
 pub struct PassedExpected {
     /// The capability that the step's register gets; NULL without a tag if there is none.
     pub cap: Capability,

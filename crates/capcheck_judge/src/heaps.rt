@@ -13,7 +13,7 @@ use std::alloc::Global;
 
 /// What the judge of allocators' logs answers (in C `capcheck_heap_answer`).
 #[repr(C)]
-#[derive(Debug, Clone, Copy, PartialEq, Eq)]
+#[derive(Clone, Copy)]
 pub struct HeapAnswer {
     /// After a `no` the number of the faulty line, from 1 on, else 0.
     pub line: u64,
@@ -29,7 +29,7 @@ pub struct HeapAnswer {
 
 /// What the judge of allocators' logs answers that explains it (in C `capcheck_heap_why`).
 #[repr(C)]
-#[derive(Debug, Clone, Copy, PartialEq, Eq)]
+#[derive(Clone, Copy)]
 pub struct HeapWhy {
     /// The answer.
     pub answer: HeapAnswer,

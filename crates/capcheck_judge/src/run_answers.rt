@@ -12,7 +12,7 @@ use cap_run_judge::{RunVerdict, run_refusal_number};
 
 /// What is asked of freed objects, and of authorities without owner (in C `capcheck_asks`): any number but 0 asks for it.
 #[repr(C)]
-#[derive(Debug, Clone, Copy, PartialEq, Eq)]
+#[derive(Clone, Copy)]
 pub struct PassedAsks {
     /// That memory isn't handed out again while a capability of a freed object reaches it.
     pub held: u8,
@@ -24,7 +24,7 @@ pub struct PassedAsks {
 
 /// What the judge of run logs answers (in C `capcheck_run_answer`).
 #[repr(C)]
-#[derive(Debug, Clone, Copy, PartialEq, Eq)]
+#[derive(Clone, Copy)]
 pub struct RunAnswer {
     /// After a `no` the number of the faulty line, from 1 on, else 0.
     pub line: u64,
@@ -42,7 +42,7 @@ pub struct RunAnswer {
 
 /// An object, or none (in C `capcheck_object`).
 #[repr(C)]
-#[derive(Debug, Clone, Copy, PartialEq, Eq)]
+#[derive(Clone, Copy)]
 pub struct PassedObject {
     /// The base of its extent.
     pub base: u64,
