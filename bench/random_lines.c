@@ -34,6 +34,11 @@ static uint64_t number(void) {
 }
 
 
+/* A register, mostly one of those that hold roots. */
+static uint64_t any(void) {
+    return below(4) ? 1 + below(7) : below(32);
+}
+
 static bool in_memory(uint64_t address) {
     return address - base < 16 * GRANULES;
 }
@@ -44,7 +49,7 @@ static size_t granule_of(uint64_t address) {
 
 /* A step that makes a capability in a register from another one. */
 static size_t operation(char *line) {
-    uint64_t target = 1 + below(31), source = below(32), authority = below(8) ? 2 + below(3) : below(32);
+    uint64_t target = 1 + below(31), source = any(), authority = below(8) ? 2 + below(3) : below(32);
     capcheck_cap from = registers[source], by = registers[authority];
     unsigned kind = (unsigned)below(8);
     uint64_t n = kind == 3 && below(4) ? base + below(16 * GRANULES) : kind == 2 && below(4) ? ~(1ull << below(64)) : number();
@@ -65,7 +70,7 @@ static size_t operation(char *line) {
         return 0;
     capcheck_cap result = clear ? cleared : made.cap;
     /* The registers that hold roots keep them, mostly. */
-    if (target < 8 && below(64))
+    if (target < 8 && below(4096))
         target += 8;
     switch (kind) {
     case 0: return registers[target] = result, capcheck_line_move(line, target, source, result);
@@ -81,7 +86,7 @@ static size_t operation(char *line) {
 
 /* An access to memory. */
 static size_t access(char *line) {
-    uint64_t authority = below(32), size = 1ull << below(4), other = 1 + below(31);
+    uint64_t authority = below(4) ? 5 + below(3) : below(32), size = 1ull << below(4), other = 1 + below(31);
     unsigned kind = (unsigned)below(4);
     int64_t offset = below(3) ? (int64_t)(16 * below(8)) : (int64_t)below(4096) - 2048;
     capcheck_cap by = registers[authority];
@@ -97,7 +102,7 @@ static size_t access(char *line) {
         at = 0;
     switch (kind) {
     case 0:
-        if (other < 8 && below(64))
+        if (other < 8 && below(4096))
             other += 8;
         registers[other] = capcheck_loaded(by, (capcheck_cap){capcheck_from_memory(bytes[granule]), memory[granule].tag});
         return capcheck_line_lc(line, other, authority, offset, registers[other]);
@@ -154,7 +159,7 @@ int main(int count, char **words) {
     uint64_t steps = 0, wild = below(3) ? lines - 1 - below(lines / 8 + 1) : lines;
     while (steps < lines) {
         is_wild = steps >= wild && steps < wild + 4;
-        size_t length = below(2) ? operation(line) : access(line);
+        size_t length = below(3) ? access(line) : operation(line);
         if (!length)
             continue;
         if (is_wild && below(2))
