@@ -94,7 +94,10 @@ export async function runsHaveOptions(page) {
         for (const value of ["used", "both", ""]) await choose("freed", value);
         await choose("owned");
         type("freed", "both");
-        await new Promise((done) => setTimeout(done, 500));
+        // The page writes its link some time later.
+        for (let left = 100; left > 0 && !location.hash.includes("freed=both"); left--) {
+            await new Promise((done) => setTimeout(done, 50));
+        }
         await globalThis.settled();
         return [verdicts, location.hash];
     });
