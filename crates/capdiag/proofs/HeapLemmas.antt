@@ -9,7 +9,7 @@ use Rattle.cap_heap.specs.HeapLogs.{CanBeGuardedThroughout, IsFirstHeapFault}
 use Rattle.cap_heap.specs.{HeapVerdicts.{BeginsHeapLog, IsHeapAnswerOf, Lasts}, HeapWhys.IsHeapReport}
 use Rattle.cap_heap.specs.VerdictLines.{IsHeapTold, TellsHeap, heap_status}
 use Rattle.cap_program.specs.{Doings.IsDone, Judging.{StopsJudging, judged}}
-use Rattle.capdiag.specs.Answers.{ShowsHeap}
+use Rattle.capdiag.specs.Judgings.{ShowsHeap}
 
 -- no bytes are the beginning of a log
 pub nothing_begins : BeginsHeapLog []

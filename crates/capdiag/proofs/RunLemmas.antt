@@ -7,20 +7,18 @@ use Rattle.cap_streams.specs.declared.judging.judge_faults.JudgeToFault.TheVaria
 use Rattle.cap_heap.specs.HeapVerdicts.{IsHeapAnswerOf}
 use Rattle.cap_judge.specs.{declared.verdict.Verdict.{Verdict, TheVariants.{Yes, No}}, Judgings.IsAnswerOf}
 use Rattle.cap_judge.specs.{Judgings.IsVerdictOf, Reports.IsPushedFor, VerdictLines.verdict_status, Verdicts.IsVerdict}
-use Rattle.cap_judge.proofs.{ReportLemmas.{tells_known, unanswered, verdict_few}, SourceLemmas.of_all}
+use Rattle.cap_judge.proofs.{ReportLemmas.{nothing_given, tells_known, unanswered, verdict_few}, SourceLemmas.of_all}
 use Rattle.cap_report.specs.{FaultReports.IsReport, Whys.Explains}
-use Rattle.cap_program.specs.declared.faults.Fault.{Fault, TheVariants.{BadWords}}
+use Rattle.cap_program.specs.declared.faults.Fault.{Fault, TheVariants.{BadWords, Read}}
 use Rattle.cap_program.specs.{Commands.IsMeant, Doings.IsDone}
 use Rattle.cap_program.specs.{Faults.status_of, Judging.{ShowsVerdict, StopsJudging, judged}}
 use Rattle.cap_program.proofs.Judgements.{known_of}
-use Rattle.capdiag.specs.declared.words.Order.{Order, TheVariants.{Help, Version, Why, Heap, Run}}
 use Rattle.cap_run_judge.specs.Judgings.{IsAnswerOf as IsRunAnswerOf}
-use Rattle.capdiag.specs.Forms.{is_kept}
-use Rattle.capdiag.specs.Answers.{Fails, IsFaulty, Prints, PrintsWhy, Shows, ShowsHeap, ShowsRun, ShowsWhy, asks_of, order_meaning}
-use Rattle.capdiag.proofs.{HeapLemmas.{heap_few, heap_known}, RenderingLemmas.{lacking_unfaulty, renders_few}}
-use Rattle.capdiag.proofs.RunLogLemmas.{run_few, run_known}
-use Rattle.cap_json.specs.declared.rows.LogKind.{LogKind}
-use Rattle.cap_run.specs.declared.asks.Asks.{Asks}
+use Rattle.capdiag.specs.declared.orders.{Order.{Order, TheVariants.{Help, Version, Judge}}, Judging.{Judging, TheVariants.{Why, Heap, Run}}}
+use Rattle.capdiag.specs.{Answers.{Fails, IsFaulty, Prints, Shows, order_meaning}, Forms.is_kept, Renderings.Lacks}
+use Rattle.capdiag.specs.Judgings.{PrintsJudged, PrintsWhy, ShowsHeap, ShowsJudged, ShowsRun, ShowsWhy, StopsJudged, asks_of, kind_of}
+use Rattle.capdiag.proofs.{HeapLemmas.{heap_few, heap_known, nothing_begins}, RenderingLemmas.{lacking_unfaulty, lacks_read, renders_few}}
+use Rattle.capdiag.proofs.RunLogLemmas.{nothing_answered, run_few, run_known}
 
 -- what was pushed for an answer is what was done for the order
 pub judged_done : (tells : Verdict → List ℕ → Type 0) (given : List ℕ) (ended : Bool) (took : List ℕ → Type 0)
@@ -61,17 +59,34 @@ why_known origins known given rest ended text status are end shows =
     let both = verdict_known origins known given rest ended shows.0 text are end shows.1 shows.2 in
     (shows.0, both.0, both.1, shows.3)
 
+-- what a judge shows of the bytes given it prints for all bytes
+judged_known : (judging : Judging) (known given rest : List ℕ) (ended : Bool) (text : List ℕ) (status : ℕ) → known ≡ given ++ rest
+    → (ended ≡ true → rest ≡ []) → ShowsJudged judging given ended text status → PrintsJudged judging known text status
+judged_known (Why origins) = why_known origins
+judged_known (Heap report why) = heap_known report why
+judged_known (Run freed owned owners why) = run_known (asks_of freed owned) owners why
+
 -- the statuses of what is shown
-why_few : (origins : Bool) (given : List ℕ) (ended : Bool) (text : List ℕ) (status : ℕ) → ShowsWhy origins given ended text status → status ≤ 1
-why_few origins given ended text status shows = let is = shows.3 in let at = verdict_few shows.0 in omega arith
+judged_few : (judging : Judging) (given : List ℕ) (ended : Bool) (text : List ℕ) (status : ℕ) → ShowsJudged judging given ended text status → status ≤ 1
+judged_few (Why origins) given ended text status shows = let is = shows.3 in let at = verdict_few shows.0 in omega arith
+judged_few (Heap report why) given ended text status shows = let is = shows.3 in let at = heap_few shows.0 in omega arith
+judged_few (Run freed owned owners why) given ended text status shows = let is = shows.3 in let at = run_few shows.0 in omega arith
 
-shown_heap_few : (report why : Bool) (given : List ℕ) (ended : Bool) (text : List ℕ) (status : ℕ)
-    → ShowsHeap report why given ended text status → status ≤ 1
-shown_heap_few report why given ended text status shows = let is = shows.3 in let at = heap_few shows.0 in omega arith
+-- an order that judges is not at fault where there is no text
+judged_unfaulty : (judging : Judging) (kept : Bool) (given : List ℕ) (fault : Fault)
+    → Lacks kept (ShowsJudged judging given) (StopsJudged judging given) fault → (status_of fault ≡ 2) ↔ ⊥
+judged_unfaulty (Why origins) kept given = lacking_unfaulty kept (ShowsWhy origins given) (IsAnswerOf given true)
+judged_unfaulty (Heap report why) kept given = lacking_unfaulty kept (ShowsHeap report why given) (IsHeapAnswerOf given true)
+judged_unfaulty (Run freed owned owners why) kept given =
+    lacking_unfaulty kept (ShowsRun (asks_of freed owned) owners why given) (IsRunAnswerOf (asks_of freed owned) given true)
 
-shown_run_few : (asks : Asks) (owners why : Bool) (given : List ℕ) (ended : Bool) (text : List ℕ) (status : ℕ)
-    → ShowsRun asks owners why given ended text status → status ≤ 1
-shown_run_few asks owners why given ended text status shows = let is = shows.3 in let at = run_few shows.0 in omega arith
+-- there is no text where the input fails
+pub unread_lacks : (judging : Judging) (kept : Bool) → Lacks kept (ShowsJudged judging []) (StopsJudged judging []) Read
+unread_lacks (Why origins) kept = lacks_read kept (ShowsWhy origins []) (IsAnswerOf [] true) nothing_given
+unread_lacks (Heap report why) kept =
+    lacks_read kept (ShowsHeap report why []) (IsHeapAnswerOf [] true) (record { verdict = tt; optimal = tt; fault = nothing_begins })
+unread_lacks (Run freed owned owners why) kept =
+    let asks = asks_of freed owned in lacks_read kept (ShowsRun asks owners why []) (IsRunAnswerOf asks [] true) (nothing_answered asks)
 
 -- the text that belongs to the bytes given is printed for an input that gave them
 shows_known : (order : Option Order) (left rest : Option (List ℕ)) (given : List ℕ) (ended : Bool) (text : List ℕ) (status : ℕ)
@@ -80,7 +95,7 @@ shows_known : (order : Option Order) (left rest : Option (List ℕ)) (given : Li
 shows_known None left rest given ended text status gives all shows = absurd shows
 shows_known (Some Help) left rest given ended text status gives all shows = shows
 shows_known (Some Version) left rest given ended text status gives all shows = shows
-shows_known (Some (Why origins form file)) left rest given ended text status gives all shows =
+shows_known (Some (Judge judging form file)) left rest given ended text status gives all shows =
     let k = known_of left rest given ended gives all in (
       k.bytes,
       k.are,
@@ -90,36 +105,7 @@ shows_known (Some (Why origins form file)) left rest given ended text status giv
         (k.more, k.bytes_are, k.none_more),
         shows.0,
         shows.1,
-        why_known origins k.bytes given k.more ended shows.0 status k.bytes_are k.none_more shows.1,
-        shows.2,
-      ),
-    )
-shows_known (Some (Heap report why form file)) left rest given ended text status gives all shows =
-    let k = known_of left rest given ended gives all in (
-      k.bytes,
-      k.are,
-      (
-        given,
-        ended,
-        (k.more, k.bytes_are, k.none_more),
-        shows.0,
-        shows.1,
-        heap_known report why k.bytes given k.more ended shows.0 status k.bytes_are k.none_more shows.1,
-        shows.2,
-      ),
-    )
-shows_known (Some (Run freed owned owners why form file)) left rest given ended text status gives all shows =
-    let k = known_of left rest given ended gives all in
-    let asks = asks_of freed owned in (
-      k.bytes,
-      k.are,
-      (
-        given,
-        ended,
-        (k.more, k.bytes_are, k.none_more),
-        shows.0,
-        shows.1,
-        run_known asks owners why k.bytes given k.more ended shows.0 status k.bytes_are k.none_more shows.1,
+        judged_known judging k.bytes given k.more ended shows.0 status k.bytes_are k.none_more shows.1,
         shows.2,
       ),
     )
@@ -130,14 +116,9 @@ few : (order : Option Order) (given : List ℕ) (ended : Bool) (text : List ℕ)
 few None given ended text status shows = absurd shows
 few (Some Help) given ended text status shows = let is = shows.1 in omega arith
 few (Some Version) given ended text status shows = let is = shows.1 in omega arith
-few (Some (Why origins form file)) given ended text status shows =
-    renders_few form LogKind.Machine given (ShowsWhy origins given ended) text status (λ report is. why_few origins given ended report status is) shows
-few (Some (Heap report why form file)) given ended text status shows =
-    renders_few form LogKind.Heap given (ShowsHeap report why given ended) text status
-    (λ told is. shown_heap_few report why given ended told status is) shows
-few (Some (Run freed owned owners why form file)) given ended text status shows =
-    renders_few form LogKind.Run given (ShowsRun (asks_of freed owned) owners why given ended) text status
-    (λ report is. shown_run_few (asks_of freed owned) owners why given ended report status is) shows
+few (Some (Judge judging form file)) given ended text status shows =
+    renders_few form (kind_of judging) given (ShowsJudged judging given ended) text status
+    (λ report is. judged_few judging given ended report status is) shows
 
 -- an order with a text can be followed
 unfaulty : (order : Option Order) (given : List ℕ) (ended : Bool) (text : List ℕ) (status : ℕ) → Shows order given ended text status
@@ -152,12 +133,7 @@ asked_fault None given BadWords fails = (λ two. tt, λ faulty. refl)
 asked_fault None given fault fails = absurd fails
 asked_fault (Some Help) given fault fails = absurd fails
 asked_fault (Some Version) given fault fails = absurd fails
-asked_fault (Some (Why origins form file)) given fault fails =
-    lacking_unfaulty (is_kept form) (ShowsWhy origins given) (IsAnswerOf given true) fault fails
-asked_fault (Some (Heap report why form file)) given fault fails =
-    lacking_unfaulty (is_kept form) (ShowsHeap report why given) (IsHeapAnswerOf given true) fault fails
-asked_fault (Some (Run freed owned owners why form file)) given fault fails =
-    lacking_unfaulty (is_kept form) (ShowsRun (asks_of freed owned) owners why given) (IsRunAnswerOf (asks_of freed owned) given true) fault fails
+asked_fault (Some (Judge judging form file)) given fault fails = judged_unfaulty judging (is_kept form) given fault fails
 
 -- the meaning of an order, its faults and its status agree
 pub orders_meant : IsMeant order_meaning

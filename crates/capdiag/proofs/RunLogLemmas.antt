@@ -8,7 +8,7 @@ use Rattle.cap_run_judge.specs.declared.verdict.RunVerdict.{RunVerdict, TheVaria
 use Rattle.cap_judge.proofs.{TurnLaws.ended_front, TurnLemmas.front_more}
 use Rattle.cap_run_judge.specs.{Judgings.{IsAnswerOf, StopsBefore}, Reports.IsRunPushed, Turns.unread, VerdictLines.run_verdict_status, Verdicts.IsFirstFault}
 use Rattle.cap_program.specs.{Doings.IsDone, Judging.{StopsJudging, judged}}
-use Rattle.capdiag.specs.Answers.{ShowsRun, TellsAsked}
+use Rattle.capdiag.specs.Judgings.{ShowsRun, TellsAsked}
 
 -- what was pushed for an answer is what was done for the order
 pub run_done : (asks : Asks) (owners why : Bool) (given : List ℕ) (ended : Bool) (took : List ℕ → Type 0) (answer : Result RunVerdict JudgeToFault)

@@ -1,9 +1,10 @@
 pub mod Complaints
 pub mod Guesses
+pub mod Hints
 pub mod Showings
 pub mod Forms
 pub mod Orders
 pub mod Readings
 pub mod Renderings
-pub mod Answers
 pub mod Judgings
+pub mod Answers

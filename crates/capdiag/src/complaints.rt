@@ -103,15 +103,7 @@ fn put_subject(buffer: &mut [u8], at: usize, complaint: Complaint, word: &str) -
 {
     match complaint {
         Complaint::NoCommand => at,
-        Complaint::UnknownCommand
-        | Complaint::UnknownOption
-        | Complaint::NoValue
-        | Complaint::UnknownValue
-        | Complaint::NoCount
-        | Complaint::UnknownCount
-        | Complaint::SecondFile
-        | Complaint::Twice
-        | Complaint::Alone => put_quoted(buffer, at, word),
+        _ => put_quoted(buffer, at, word),
     }
 }
 

@@ -1,9 +1,9 @@
 //! The first bytes of an input, which tell the kinds of logs apart.
 
 ghost use Rattle.std.specs.Prelude.{◌≡◌, ◌≤◌, IfOk, option_map};
-ghost use Rattle.capdiag.specs.Orders.{hint_for, order_on};
+ghost use Rattle.capdiag.specs.Hints.{hint_for, order_on};
 
-use crate::words::Order;
+use crate::orders::{Judging, Order};
 use std::io::{self, ErrorKind, Read};
 
 // The first line of a run log, with its line feed.
@@ -18,18 +18,23 @@ pub fn order_on<'a>(order: Order<'a>, front: &[u8]) -> Order<'a>
     ensures value { result ≡ order_on order.entry front.now }
 {
     match order {
-        Order::Why {
-            origins,
+        Order::Judge {
+            judging: Judging::Why { origins },
             form,
             file,
-        } if front == RUN_HEADER.as_slice() => Order::Run {
-            freed: None,
-            owned: false,
-            owners: origins,
-            why: true,
-            form,
-            file,
-        },
+        } if front == RUN_HEADER.as_slice() => {
+            let judging = Judging::Run {
+                freed: None,
+                owned: false,
+                owners: origins,
+                why: true,
+            };
+            Order::Judge {
+                judging,
+                form,
+                file,
+            }
+        }
         _ => order,
     }
 }
@@ -39,8 +44,11 @@ pub fn order_on<'a>(order: Order<'a>, front: &[u8]) -> Order<'a>
 pub fn hint_for(order: Order<'_>, front: &[u8]) -> Option<&'static str>
     ensures value { option_map (λ it. it.now) result ≡ hint_for order.entry front.now }
 {
-    match order {
-        Order::Run { why: false, .. } => {
+    let Order::Judge { judging, .. } = order else {
+        return None;
+    };
+    match judging {
+        Judging::Run { why: false, .. } => {
             if front == b"capche".as_slice() {
                 Some(OF_MACHINE)
             } else if front == b"heap 1".as_slice() {
@@ -49,7 +57,7 @@ pub fn hint_for(order: Order<'_>, front: &[u8]) -> Option<&'static str>
                 None
             }
         }
-        Order::Heap { why: false, .. } => {
+        Judging::Heap { why: false, .. } => {
             if front == b"capche".as_slice() {
                 Some(OF_MACHINE)
             } else if front == RUN_HEADER.as_slice() {

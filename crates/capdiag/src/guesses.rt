@@ -74,14 +74,7 @@ fn known_words(complaint: Complaint, words: &[&str]) -> &'static [&'static str]
             Some((command, _)) => options_of(command),
             None => &[],
         },
-        Complaint::NoCommand
-        | Complaint::NoValue
-        | Complaint::UnknownValue
-        | Complaint::NoCount
-        | Complaint::UnknownCount
-        | Complaint::SecondFile
-        | Complaint::Twice
-        | Complaint::Alone => &[],
+        _ => &[],
     }
 }
 

@@ -2,7 +2,7 @@
 
 ghost use Rattle.std.specs.Prelude.{◌≡◌, ◌≢◌, [], Err, Some, false};
 ghost use Rattle.cap_program.specs.Doings.{IsCounted, IsDone};
-ghost use Rattle.capdiag.specs.{declared.words.Order.TheVariants.{Help, Version}, Answers.{Fails, Shows}};
+ghost use Rattle.capdiag.specs.{declared.orders.Order.TheVariants.{Help, Version}, Answers.{Fails, Shows}};
 
 use cap_log::Sink;
 use cap_program::{Fault, show};

@@ -8,9 +8,9 @@ ghost use Rattle.cap_program.specs.{Doings.{IsCounted, IsDone}, Judging.{ShowsVe
 ghost use Rattle.cap_run_judge.specs.{Judgings.IsAnswerOf as IsRunAnswerOf, VerdictLines.run_verdict_status};
 ghost use Rattle.cap_run_judge.specs.Reports.{RunReported};
 ghost use Rattle.cap_streams.specs.{declared.judging.judge_faults.JudgeToFault.TheVariants.{Pull, Push}, Streams.CountsOnly};
-ghost use Rattle.capdiag.specs.Answers.{ShowsHeap, ShowsRun, TellsAsked, asks_of};
+ghost use Rattle.capdiag.specs.Judgings.{ShowsHeap, ShowsRun, TellsAsked, asks_of};
 
-use crate::words::Freed;
+use crate::orders::Freed;
 use cap_heap::{HeapVerdict, heap_status, judge_heap_to};
 use cap_judge::{JudgeToFault, Verdict, verdict_status};
 use cap_log::{Sink, Source};

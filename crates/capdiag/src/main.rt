@@ -8,6 +8,7 @@ mod fronts;
 mod guesses;
 mod help;
 mod judges;
+mod orders;
 mod renderings;
 mod runs;
 mod words;
@@ -17,8 +18,9 @@ pub use crate::complaints::{
 };
 pub use crate::forms::Form;
 pub use crate::fronts::{hint_for, order_on, read_front};
+pub use crate::orders::Order;
 pub use crate::runs::run;
-pub use crate::words::{Order, read_words};
+pub use crate::words::read_words;
 use cap_log::{Sink, WriteSink};
 pub use cap_program::carry_out;
 use cap_program::{Fault, collect_words, exit_status, tell};
@@ -137,7 +139,7 @@ fn open(rt: &HostRuntime, path: &str) -> Result<File, Unopened> {
 // Whether an order judges a log.
 fn reads_log(order: Order) -> bool {
     match order {
-        Order::Why { .. } | Order::Heap { .. } | Order::Run { .. } => true,
+        Order::Judge { .. } => true,
         Order::Help | Order::Version => false,
     }
 }
@@ -145,7 +147,7 @@ fn reads_log(order: Order) -> bool {
 // The file that an order names.
 fn file_of<'a>(order: Order<'a>) -> Option<&'a str> {
     match order {
-        Order::Why { file, .. } | Order::Heap { file, .. } | Order::Run { file, .. } => file,
+        Order::Judge { file, .. } => file,
         Order::Help | Order::Version => None,
     }
 }

@@ -5,39 +5,13 @@ ghost use Rattle.cap_program.specs.Doings.{IsCounted, IsDone};
 ghost use Rattle.capdiag.specs.{Forms.is_kept, Judgings.{ShowsJudged, StopsJudged, kind_of}, Renderings.{Lacks, Renders}};
 
 use crate::forms::{Form, is_kept, push_report, recorded};
-use crate::judges::{explain_source, judge_heap_source, judge_run_source};
+use crate::judges::{asks_of, explain_source, judge_heap_source, judge_run_source};
+use crate::orders::Judging;
 use cap_context::Recorder;
 use cap_json::LogKind;
 use cap_log::{Sink, Source, WriteSink};
 use cap_program::Fault;
-use cap_run::Asks;
 use std::alloc::Global;
-
-/// A judge, and the reports that it is asked for.
-#[derive(Clone, Copy)]
-pub enum Judging {
-    /// That of `why`.
-    Why {
-        /// Whether after a `yes` the origins are asked for.
-        origins: bool,
-    },
-    /// That of `heap`.
-    Heap {
-        /// Whether after a `yes` the report is asked for.
-        report: bool,
-        /// Whether after a `no` the report is asked for.
-        why: bool,
-    },
-    /// That of `run`.
-    Run {
-        /// What is asked of the log.
-        asks: Asks,
-        /// Whether after a `yes` the owners are asked for.
-        owners: bool,
-        /// Whether after a `no` the report is asked for.
-        why: bool,
-    },
-}
 
 // The kind of the log that is judged.
 fn kind_of(judging: Judging) -> LogKind
@@ -65,9 +39,15 @@ fn judge_source<S: Source, K: Sink>(
     match judging {
         Judging::Why { origins } => explain_source(alloc, origins, source, sink),
         Judging::Heap { report, why } => judge_heap_source(alloc, report, why, source, sink),
-        Judging::Run { asks, owners, why } => judge_run_source(
-            alloc, asks, owners, why, source, sink,
-        ),
+        Judging::Run {
+            freed,
+            owned,
+            owners,
+            why,
+        } => {
+            let asks = asks_of(freed, owned);
+            judge_run_source(alloc, asks, owners, why, source, sink)
+        }
     }
 }
 

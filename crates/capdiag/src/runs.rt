@@ -5,9 +5,8 @@ ghost use Rattle.cap_program.specs.{Doings.known_bytes, Runs.IsRan};
 ghost use Rattle.capdiag.specs.Answers.{order_meaning};
 
 use crate::help::{show_help, show_version};
-use crate::judges::asks_of;
-use crate::renderings::{Judging, judge_as};
-use crate::words::Order;
+use crate::orders::Order;
+use crate::renderings::judge_as;
 use cap_log::{Sink, Source};
 use cap_program::{Command, Fault};
 use std::alloc::Global;
@@ -36,32 +35,8 @@ impl Command for Order<'_> {
         match self {
             Order::Help => show_help(out),
             Order::Version => show_version(out),
-            Order::Why { origins, form, .. } => match input {
-                Some(source) => judge_as(alloc, Judging::Why { origins }, form, source, out),
-                None => Err(Fault::Read),
-            },
-            Order::Heap {
-                report,
-                why,
-                form,
-                ..
-            } => match input {
-                Some(source) => judge_as(alloc, Judging::Heap { report, why }, form, source, out),
-                None => Err(Fault::Read),
-            },
-            Order::Run {
-                freed,
-                owned,
-                owners,
-                why,
-                form,
-                ..
-            } => match input {
-                Some(source) => {
-                    let asks = asks_of(freed, owned);
-                    let judging = Judging::Run { asks, owners, why };
-                    judge_as(alloc, judging, form, source, out)
-                }
+            Order::Judge { judging, form, .. } => match input {
+                Some(source) => judge_as(alloc, judging, form, source, out),
                 None => Err(Fault::Read),
             },
         }

@@ -1,14 +1,9 @@
-use Rattle.std.proofs.Common.{[], true, sym, subst, Some}
-use Rattle.cap_judge.proofs.ReportLemmas.{nothing_given}
+use Rattle.std.proofs.Common.{[], sym, subst, Some}
 use Rattle.cap_program.specs.{declared.faults.Fault.TheVariants.Read, Doings.{IsDone, ended_by}}
 use Rattle.cap_program.proofs.Doing.{followed_missing, followed_unread}
-use Rattle.cap_heap.specs.HeapVerdicts.{IsHeapAnswerOf}
-use Rattle.cap_judge.specs.Judgings.{IsAnswerOf}
-use Rattle.cap_run_judge.specs.Judgings.{IsAnswerOf as IsRunAnswerOf}
-use Rattle.capdiag.specs.declared.words.Order.{Order}
-use Rattle.capdiag.specs.Forms.{is_kept}
-use Rattle.capdiag.specs.Answers.{Fails, ReadsInput, Shows, ShowsHeap, ShowsRun, ShowsWhy, asks_of, order_meaning}
-use Rattle.capdiag.proofs.{HeapLemmas.nothing_begins, RenderingLemmas.lacks_read, RunLogLemmas.nothing_answered}
+use Rattle.capdiag.specs.declared.orders.Order.{Order}
+use Rattle.capdiag.specs.{Answers.{Fails, ReadsInput, Shows, order_meaning}, Forms.is_kept}
+use Rattle.capdiag.proofs.RunLemmas.{unread_lacks}
 use Rattle.capdiag.proofs.runs.OrderCommand.follow.Goals as goal
 
 pub returns-in-Help : goal.returns-in-Help
@@ -35,27 +30,9 @@ returns-in-Version g c =
           e.written;
     }
 
-pub returns-in-None-input : goal.returns-in-None-input
-returns-in-None-input g c = record {
-  followed = followed_missing order_meaning (Some c.args.self) g.S.Source.gave g.S.Source.ended g.S.Source.faults g.K.Sink.took
-      g.K.Sink.faults c.args.input.now c.args.out.now c.in-None-input.is (g.met.K.Sink.nothing c.args.out.now)
-      (subst (λ (o : Order). Fails (Some o) [] Read) (sym c.in-Heap.is)
-      (lacks_read (is_kept c.in-Heap.form) (ShowsHeap c.in-Heap.report c.in-Heap.why []) (IsHeapAnswerOf [] true)
-      (record { verdict = tt; optimal = tt; fault = nothing_begins })));
-}
-
 pub returns-in-None : goal.returns-in-None
 returns-in-None g c = record {
   followed = followed_missing order_meaning (Some c.args.self) g.S.Source.gave g.S.Source.ended g.S.Source.faults g.K.Sink.took
       g.K.Sink.faults c.args.input.now c.args.out.now c.in-None.is (g.met.K.Sink.nothing c.args.out.now)
-      (subst (λ (o : Order). Fails (Some o) [] Read) (sym c.in-Why.is)
-      (lacks_read (is_kept c.in-Why.form) (ShowsWhy c.in-Why.origins []) (IsAnswerOf [] true) nothing_given));
-}
-
-pub returns-in-None-input-2 : goal.returns-in-None-input-2
-returns-in-None-input-2 g c = let asks = asks_of c.in-Run.freed c.in-Run.owned in record {
-  followed = followed_missing order_meaning (Some c.args.self) g.S.Source.gave g.S.Source.ended g.S.Source.faults g.K.Sink.took
-      g.K.Sink.faults c.args.input.now c.args.out.now c.in-None-input-2.is (g.met.K.Sink.nothing c.args.out.now)
-      (subst (λ (o : Order). Fails (Some o) [] Read) (sym c.in-Run.is)
-      (lacks_read (is_kept c.in-Run.form) (ShowsRun asks c.in-Run.owners c.in-Run.why []) (IsRunAnswerOf asks [] true) (nothing_answered asks)));
+      (subst (λ (o : Order). Fails (Some o) [] Read) (sym c.in-Judge.is) (unread_lacks c.in-Judge.judging (is_kept c.in-Judge.form)));
 }

@@ -1,0 +1,26 @@
+-- What an order means of an input by its first bytes, and which other command they ask for. All of it is this profile's own.
+use Rattle.std.specs.Prelude.{ℕ, true, false, List, codes, bytes_eq, if◌then◌else◌, Option, Some, None}
+use Rattle.capdiag.specs.declared.orders.{Order.{Order, TheVariants.Judge}, Judging.TheVariants.{Why, Heap, Run}}
+
+-- an order on an input that begins with these bytes: `why` judges a run log as `run --why` does, with the owners if the
+-- origins are asked for
+abbrev pub order_on : Order → List ℕ → Order
+order_on (Judge (Why origins) form file) front =
+    if bytes_eq front (codes "run 1\n") then Judge (Run None false origins true) form file else Judge (Why origins) form file
+order_on order front = order
+
+-- the line on standard error that names the command for a log of another kind, by the first bytes of the input; none if the
+-- report of a no says it
+abbrev pub machine_hint : List ℕ
+machine_hint = codes "capdiag: this is a log of version 1 or 2; capdiag why judges it\n"
+
+abbrev pub hint_for : Order → List ℕ → Option (List ℕ)
+hint_for (Judge (Run freed owned owners false) form file) front =
+    if bytes_eq front (codes "capche") then Some machine_hint
+    else if bytes_eq front (codes "heap 1") then Some (codes "capdiag: this is the log of an allocator; capdiag heap judges it\n")
+    else None
+hint_for (Judge (Heap report false) form file) front =
+    if bytes_eq front (codes "capche") then Some machine_hint
+    else if bytes_eq front (codes "run 1\n") then Some (codes "capdiag: this is a run log; capdiag run judges it\n")
+    else None
+hint_for order front = None
