@@ -22,7 +22,6 @@ LEFT_OUT = {
     "capcheck_kind_sentence": "an enum", "capcheck_state_name": "an enum", "capcheck_state_sentence": "an enum",
     "capcheck_judge_report": "capcheck_judge_end_report", "capcheck_judge_text": "a debugger's",
     "capcheck_judge_memory": "the judge uses malloc", "capcheck_run_judge_report": "capcheck_run_judge_end_report",
-    **dict.fromkeys(("capcheck_heap_judge_why", "capcheck_heap_answer", "capcheck_heap_why"), "capdiag heap"),
 }
 NUMBERS = {"uint64_t": "u64", "int64_t": "i64", "uint32_t": "u32", "uint16_t": "u16", "size_t": "usize", "int16_t": "i16",
            "uint8_t": "u8", "char": "u8", "bool": "bool", "void": "c_void"}
@@ -63,14 +62,14 @@ def compare_structs(header, compared):
 
 
 def compare_constants(header, compared):
-    refusals = dict(re.findall(r"(\w+) = (\d+)", SOURCES["refusals"]))
+    refusals, heaps = (dict(re.findall(r"(\w+) = (\d+)", SOURCES[it])) for it in ("refusals", "heaps"))
     constants = dict(re.findall(r"const (\w+): \w+ = (\w+);", "\n".join(SOURCES.values())))
     for name, number in header.constants.items():
         short = name.removeprefix("CAPCHECK_")
-        found = constants.get(short, refusals.get(camel(short.lower())))
+        found = constants.get(short, (heaps | refusals).get(camel(short.lower())))
         if found is not None:
             compared.same(name, number, int(found, 0))
-    compared.same("refusals", 39, len(refusals))
+    compared.same("refusals", (39, 11), (len(refusals), len(heaps)))
 
 
 def main():

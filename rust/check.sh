@@ -1,7 +1,7 @@
 #!/bin/sh
 # Checks the Rust crate: compares it with the headers, makes 20,000 random calls whose answers are those of the Python package,
-# judges the run logs of the corpus, and builds a program over the installed crate in an empty environment. Without cargo it says
-# that all but the first is left out.
+# judges the run logs and the allocators' logs of the corpus, and builds a program over the installed crate in an empty
+# environment. Without cargo it says that all but the first is left out.
 #
 #   sh rust/check.sh [PREFIX]
 #

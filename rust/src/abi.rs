@@ -208,6 +208,23 @@ pub struct Object {
     pub state: u8,
 }
 
+#[repr(C)]
+#[derive(Clone, Copy)]
+pub struct HeapAnswer {
+    pub line: u64,
+    pub live: u64,
+    pub events: u32,
+    pub state: u8,
+    pub refusal: u8,
+}
+
+#[repr(C)]
+#[derive(Clone, Copy)]
+pub struct HeapWhy {
+    pub answer: HeapAnswer,
+    pub length: u64,
+}
+
 extern "C" {
     pub fn capcheck_version() -> Name;
     pub fn capcheck_split(word: Word) -> Fields;
@@ -332,4 +349,5 @@ extern "C" {
     pub fn capcheck_run_judge_holder(judge: *const RunJudge, number: u32) -> Place;
     pub fn capcheck_run_judge_end_report(judge: *const RunJudge, text: *mut u8, room: usize) -> u64;
     pub fn capcheck_run_judge_close(judge: *mut RunJudge);
+    pub fn capcheck_heap_judge_why(bytes: *const u8, length: usize, text: *mut u8, room: usize) -> HeapWhy;
 }

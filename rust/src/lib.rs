@@ -1,5 +1,6 @@
 //! 128-bit CHERI capabilities with 64-bit addresses, over the proved C libraries `libcapcheck_c` and `libcapcheck_judge`:
-//! words, bounds, operations, the lines of logs and of run logs, and their judges, which an emulator asks after each step.
+//! words, bounds, operations, the lines of logs and of run logs, and their judges, which an emulator asks after each step; and
+//! the judge of allocators' logs.
 //!
 //! ```
 //! use capcheck::{permissions, Capability, Judge, Line, Refusal, Verdict};
@@ -23,6 +24,7 @@
 #![warn(missing_docs)]
 
 mod abi;
+mod heaps;
 mod judges;
 mod lines;
 pub mod permissions;
@@ -30,6 +32,7 @@ mod refusals;
 mod runs;
 mod words;
 
+pub use heaps::{explain_heap_bytes, judge_heap_bytes, HeapRefusal, HeapVerdict};
 pub use judges::{judge_bytes, Expected, Fault, Judge, Place, Verdict};
 pub use lines::{read_lines, Line, LineText, OutOfRange, ReadLines};
 pub use refusals::Refusal;
