@@ -1,12 +1,25 @@
 -- Laws of what is shown of a report.
-use Rattle.std.proofs.Common.{◌≡◌, ◌≤◌, ◌↔◌, inl, inr, ℕ, Bool, true, false, ◌||◌, is_some, List, Option, Some, None, IfSome, Result, Ok, Err}
-use Rattle.std.proofs.Common.{refl, sym, ap, subst}
+use Rattle.std.proofs.Common.{◌≡◌, ◌≤◌, ◌↔◌, inl, inr, ℕ, Bool, true, false, not, ◌||◌, is_some, List, Option, Some, None, IfSome, Result, Ok, Err}
+use Rattle.std.proofs.Common.{[], ◌∷◌, ◌++◌, ◌+◌, ◌<◌, length, take, get_or, append_assoc, ◌∙◌, refl, sym, ap, subst}
+use Rattle.std.proofs.lemmas.{Grind.flat_map-append, List.take_more}
 use Rattle.cap_streams.specs.declared.judging.judge_faults.JudgeFault.{JudgeFault}
 use Rattle.cap_json.specs.declared.rows.LogKind.{LogKind}
 use Rattle.cap_program.specs.declared.faults.Fault.{Fault, TheVariants.{BadWords, BadWord, BadRequest, Read, Write, NoMemory}}
 use Rattle.cap_program.specs.{Doings.{IsCounted, IsDone}, Faults.status_of, Judging.StopsJudging}
 use Rattle.cap_program.proofs.Judgements.{stopped_unfaulty}
-use Rattle.capdiag.specs.{declared.forms.Form.Form, Renderings.{IsPut, Lacks, Renders, in_context, in_object, rendered}}
+use Rattle.cap_texts.specs.ShownBytes.{shown, shown_byte}
+use Rattle.capdiag.specs.declared.forms.{Form.Form, Look.{Look, TheVariants.{Plain, Colored, Json}}}
+use Rattle.capdiag.specs.{Forms.is_plain, Renderings.{IsPut, Lacks, Renders, in_context, looking, rendered, with_name}}
+
+-- bytes are shown one by one
+pub shown_more : (bytes start items new : List ℕ) (i : ℕ) → i < length bytes → items ≡ start ++ shown (take i bytes)
+    → new ≡ items ++ shown (get_or bytes i 0 ∷ []) → new ≡ start ++ shown (take (i + 1) bytes)
+shown_more bytes start items new i within so_far more =
+    let byte = get_or bytes i 0 in
+    let text : shown (take i bytes) ++ shown (byte ∷ []) ≡ shown (take (i + 1) bytes) =
+    sym (ap shown (take_more bytes i 0 within) ∙ flat_map-append shown_byte (take i bytes) (byte ∷ [])) in
+    more ∙ ap (λ (t : List ℕ). t ++ shown (byte ∷ [])) so_far ∙ append_assoc start (shown (take i bytes)) (shown (byte ∷ []))
+    ∙ ap (λ (t : List ℕ). start ++ t) text
 
 -- what holds of a value, if there is one
 pub if_some : {A : Type 0} {P Q : A → Type 0} (found : Option A) → IfSome found P → ((a : A) → P a → Q a) → IfSome found Q
@@ -14,21 +27,21 @@ if_some None holds more = tt
 if_some (Some a) holds more = more a holds
 
 -- what was done for an order whose report was kept: what is shown of it was pushed
-module _ (form : Form) (kind : LogKind) (bytes : List ℕ) (shows : Bool → List ℕ → ℕ → Type 0) (stops : Fault → Type 0) (ended : Bool)
+module _ (form : Form) (name : Option (List ℕ)) (kind : LogKind) (bytes : List ℕ) (shows : Bool → List ℕ → ℕ → Type 0) (stops : Fault → Type 0) (ended : Bool)
     (report : List ℕ) (kept : List ℕ → Type 0) (is_kept : (text : List ℕ) → kept text → report ≡ text) (took : List ℕ → Type 0) where
   -- it is what is shown of the report
-  text_is : (text : List ℕ) → kept text → rendered form kind bytes report ≡ rendered form kind bytes text
-  text_is text k = ap (rendered form kind bytes) (is_kept text k)
+  text_is : (text : List ℕ) → kept text → rendered form name kind bytes report ≡ rendered form name kind bytes text
+  text_is text k = ap (rendered form name kind bytes) (is_kept text k)
 
   -- what was done then
   abbrev AnswerIs : Result ℕ Fault → Type 0
-  AnswerIs answer = IsDone (Renders form kind bytes (shows ended)) (Lacks true shows stops) took answer
+  AnswerIs answer = IsDone (Renders form name kind bytes (shows ended)) (Lacks true shows stops) took answer
 
   pub kept_done : (done answer : Result ℕ Fault) → IsDone (shows ended) stops kept done
-      → IsPut (rendered form kind bytes report) took done answer → IsDone (Renders form kind bytes (shows ended)) (Lacks true shows stops) took answer
+      → IsPut (rendered form name kind bytes report) took done answer → IsDone (Renders form name kind bytes (shows ended)) (Lacks true shows stops) took answer
   kept_done (Ok status) (Ok other) d o =
-      (rendered form kind bytes report, (d.0, subst (λ (s : ℕ). shows ended d.0 s) (sym o.0) d.1, text_is d.0 d.2), o.1)
-  kept_done (Ok status) (Err Write) d o = (rendered form kind bytes report, status, (d.0, d.1, text_is d.0 d.2), o.0, o.1)
+      (rendered form name kind bytes report, (d.0, subst (λ (s : ℕ). shows ended d.0 s) (sym o.0) d.1, text_is d.0 d.2), o.1)
+  kept_done (Ok status) (Err Write) d o = (rendered form name kind bytes report, status, (d.0, d.1, text_is d.0 d.2), o.0, o.1)
   kept_done (Ok status) (Err NoMemory) d o = (inr (ended, d.0, status, d.1), o)
   kept_done (Ok status) (Err BadWords) d o = absurd o
   kept_done (Ok status) (Err BadWord) d o = absurd o
@@ -54,13 +67,19 @@ module _ (kind : LogKind) (bytes : List ℕ) (shows : Bool → List ℕ → ℕ 
   plain_forms (Err BadRequest) d = d
   plain_forms (Err Read) d = d
 
-  pub plain_done : (json : Bool) (context : Option ℕ) (answer : Result ℕ Fault) → (json || is_some context) ≡ false
-      → IsDone (shows ended) stops took answer
-      → IsDone (λ text status. (report : List ℕ) × shows ended report status × (text ≡ in_object json kind (in_context context bytes report)))
-      (Lacks (json || is_some context) shows stops) took answer
-  plain_done true context answer plain d = absurd (cc)
-  plain_done false (Some count) answer plain d = absurd (cc)
-  plain_done false None answer plain d = plain_forms answer d
+  -- what is shown by its parts
+  abbrev Shown : Look → Option ℕ → Option (List ℕ) → List ℕ → ℕ → Type 0
+  Shown look context name text status =
+      (report : List ℕ) × shows ended report status × (text ≡ looking look kind (with_name name (in_context context bytes report)))
+
+  pub plain_done : (look : Look) (context : Option ℕ) (name : Option (List ℕ)) (answer : Result ℕ Fault)
+      → (not (is_plain look) || (is_some context || is_some name)) ≡ false → IsDone (shows ended) stops took answer
+      → IsDone (Shown look context name) (Lacks (not (is_plain look) || (is_some context || is_some name)) shows stops) took answer
+  plain_done Colored context name answer plain d = absurd (cc)
+  plain_done Json context name answer plain d = absurd (cc)
+  plain_done Plain (Some count) name answer plain d = absurd (cc)
+  plain_done Plain None (Some name) answer plain d = absurd (cc)
+  plain_done Plain None None answer plain d = plain_forms answer d
 
 -- a fault of the input is one of what was done for the order
 pub kept_read : (text : List ℕ) (took : List ℕ → Type 0) (before after : ℕ) (done answer : Result ℕ Fault)
@@ -90,9 +109,9 @@ kept_read text took before after (Err Read) answer o c =
     subst (λ (a : Result ℕ Fault). IsCounted Read a before after) (sym o.0) c
 
 -- the status of what is shown is that of the report
-pub renders_few : (form : Form) (kind : LogKind) (bytes : List ℕ) (shows : List ℕ → ℕ → Type 0) (text : List ℕ) (status : ℕ)
-    → ((report : List ℕ) → shows report status → status ≤ 1) → Renders form kind bytes shows text status → status ≤ 1
-renders_few form kind bytes shows text status few renders = few renders.0 renders.1
+pub renders_few : (form : Form) (name : Option (List ℕ)) (kind : LogKind) (bytes : List ℕ) (shows : List ℕ → ℕ → Type 0) (text : List ℕ) (status : ℕ)
+    → ((report : List ℕ) → shows report status → status ≤ 1) → Renders form name kind bytes shows text status → status ≤ 1
+renders_few form name kind bytes shows text status few renders = few renders.0 renders.1
 
 -- an order that judges is not at fault where there is no text
 pub lacking_unfaulty : {V : Type 0} (kept : Bool) (shows : Bool → List ℕ → ℕ → Type 0) (answers : Result V JudgeFault → Type 0) (fault : Fault)

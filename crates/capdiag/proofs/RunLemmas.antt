@@ -1,6 +1,6 @@
 -- What was done for an order, told of an input whose bytes are known.
 use Rattle.std.specs.Io.KnownBytes.{Consumes}
-use Rattle.std.proofs.Common.{◌≡◌, ◌≤◌, ◌↔◌, ℕ, Bool, true, List, [], ◌++◌, Option, None, Some, Result, Ok, Err, refl}
+use Rattle.std.proofs.Common.{◌≡◌, ◌≤◌, ◌↔◌, ℕ, Bool, true, List, [], ◌++◌, Option, None, Some, option_map, Result, Ok, Err, refl}
 use Rattle.std.proofs.Common.{sym, ap, subst, ◌∙◌, append-nil, arith}
 use Rattle.cap_streams.specs.declared.judging.judge_faults.{JudgeFault.JudgeFault, JudgeToFault.JudgeToFault}
 use Rattle.cap_streams.specs.declared.judging.judge_faults.JudgeToFault.TheVariants.{Pull, Push}
@@ -15,7 +15,7 @@ use Rattle.cap_program.specs.{Faults.status_of, Judging.{ShowsVerdict, StopsJudg
 use Rattle.cap_program.proofs.Judgements.{known_of}
 use Rattle.cap_run_judge.specs.Judgings.{IsAnswerOf as IsRunAnswerOf}
 use Rattle.capdiag.specs.declared.orders.{Order.{Order, TheVariants.{Help, Version, Judge}}, Judging.{Judging, TheVariants.{Why, Heap, Run}}}
-use Rattle.capdiag.specs.{Answers.{Fails, IsFaulty, Prints, Shows, order_meaning}, Forms.is_kept, Renderings.Lacks}
+use Rattle.capdiag.specs.{Answers.{Fails, IsFaulty, Prints, Shows, order_meaning}, Forms.is_kept, Renderings.{Lacks, name_of}}
 use Rattle.capdiag.specs.Judgings.{PrintsJudged, PrintsWhy, ShowsHeap, ShowsJudged, ShowsRun, ShowsWhy, StopsJudged, asks_of, kind_of}
 use Rattle.capdiag.proofs.{HeapLemmas.{heap_few, heap_known, nothing_begins}, RenderingLemmas.{lacking_unfaulty, lacks_read, renders_few}}
 use Rattle.capdiag.proofs.RunLogLemmas.{nothing_answered, run_few, run_known}
@@ -95,7 +95,7 @@ shows_known : (order : Option Order) (left rest : Option (List ℕ)) (given : Li
 shows_known None left rest given ended text status gives all shows = absurd shows
 shows_known (Some Help) left rest given ended text status gives all shows = shows
 shows_known (Some Version) left rest given ended text status gives all shows = shows
-shows_known (Some (Judge judging form file)) left rest given ended text status gives all shows =
+shows_known (Some (Judge judging form file files)) left rest given ended text status gives all shows =
     let k = known_of left rest given ended gives all in (
       k.bytes,
       k.are,
@@ -116,8 +116,8 @@ few : (order : Option Order) (given : List ℕ) (ended : Bool) (text : List ℕ)
 few None given ended text status shows = absurd shows
 few (Some Help) given ended text status shows = let is = shows.1 in omega arith
 few (Some Version) given ended text status shows = let is = shows.1 in omega arith
-few (Some (Judge judging form file)) given ended text status shows =
-    renders_few form (kind_of judging) given (ShowsJudged judging given ended) text status
+few (Some (Judge judging form file files)) given ended text status shows =
+    renders_few form (name_of files (option_map (λ it. it.now) file)) (kind_of judging) given (ShowsJudged judging given ended) text status
     (λ report is. judged_few judging given ended report status is) shows
 
 -- an order with a text can be followed
@@ -133,7 +133,7 @@ asked_fault None given BadWords fails = (λ two. tt, λ faulty. refl)
 asked_fault None given fault fails = absurd fails
 asked_fault (Some Help) given fault fails = absurd fails
 asked_fault (Some Version) given fault fails = absurd fails
-asked_fault (Some (Judge judging form file)) given fault fails = judged_unfaulty judging (is_kept form) given fault fails
+asked_fault (Some (Judge judging form file files)) given fault fails = judged_unfaulty judging (is_kept form (name_of files (option_map (λ it. it.now) file))) given fault fails
 
 -- the meaning of an order, its faults and its status agree
 pub orders_meant : IsMeant order_meaning

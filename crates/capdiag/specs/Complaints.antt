@@ -4,7 +4,7 @@ use Rattle.std.specs.Prelude.{ℕ, List, [], ◌++◌, Option, Some, None, take,
 use Rattle.cap_texts.specs.ShownBytes.{shown}
 use Rattle.capdiag.specs.declared.complaints.Complaint.{Complaint}
 use Rattle.capdiag.specs.declared.complaints.Complaint.TheVariants.{NoCommand, UnknownCommand, UnknownOption, NoValue}
-use Rattle.capdiag.specs.declared.complaints.Complaint.TheVariants.{UnknownValue, NoCount, UnknownCount, SecondFile, Twice, Alone}
+use Rattle.capdiag.specs.declared.complaints.Complaint.TheVariants.{UnknownValue, NoCount, UnknownCount, Twice, Alone}
 use Rattle.capdiag.specs.declared.complaints.Unopened.{Unopened}
 use Rattle.capdiag.specs.declared.complaints.Unopened.TheVariants.{Missing, Denied, Directory, Through, Long, Circle, Other}
 
@@ -21,7 +21,6 @@ front_text NoValue = codes "held, used or both is missing after "
 front_text UnknownValue = codes "--freed takes held, used or both, not "
 front_text NoCount = codes "a number from 0 to 99 is missing after "
 front_text UnknownCount = codes "--context takes a number from 0 to 99, not "
-front_text SecondFile = codes "one file at most: "
 front_text Twice = codes "given twice: "
 front_text Alone = codes "other words beside "
 

@@ -5,8 +5,8 @@ use Rattle.capdiag.specs.declared.orders.{Order.{Order, TheVariants.Judge}, Judg
 -- an order on an input that begins with these bytes: `why` judges a run log as `run --why` does, with the owners if the
 -- origins are asked for
 abbrev pub order_on : Order → List ℕ → Order
-order_on (Judge (Why origins) form file) front =
-    if bytes_eq front (codes "run 1\n") then Judge (Run None false origins true) form file else Judge (Why origins) form file
+order_on (Judge (Why origins) form file files) front =
+    if bytes_eq front (codes "run 1\n") then Judge (Run None false origins true) form file files else Judge (Why origins) form file files
 order_on order front = order
 
 -- the line on standard error that names the command for a log of another kind, by the first bytes of the input; none if the
@@ -15,11 +15,11 @@ abbrev pub machine_hint : List ℕ
 machine_hint = codes "capdiag: this is a log of version 1 or 2; capdiag why judges it\n"
 
 abbrev pub hint_for : Order → List ℕ → Option (List ℕ)
-hint_for (Judge (Run freed owned owners false) form file) front =
+hint_for (Judge (Run freed owned owners false) form file files) front =
     if bytes_eq front (codes "capche") then Some machine_hint
     else if bytes_eq front (codes "heap 1") then Some (codes "capdiag: this is the log of an allocator; capdiag heap judges it\n")
     else None
-hint_for (Judge (Heap report false) form file) front =
+hint_for (Judge (Heap report false) form file files) front =
     if bytes_eq front (codes "capche") then Some machine_hint
     else if bytes_eq front (codes "run 1\n") then Some (codes "capdiag: this is a run log; capdiag run judges it\n")
     else None

@@ -1,27 +1,30 @@
 -- What the words after the program's name ask for, or what is wrong with them. All of it is this profile's own.
-use Rattle.std.specs.Prelude.{ℕ, Bool, true, false, ◌||◌, List, [], ◌∷◌, codes, bytes_eq, if◌then◌else◌}
+use Rattle.std.specs.Prelude.{ℕ, ◌+◌, ◌-◌, ◌^◌, ◌==◌, min, Bool, true, false, ◌||◌, List, [], ◌∷◌, codes, bytes_eq, if◌then◌else◌}
 use Rattle.std.specs.Prelude.{Option, Some, None, is_some, ok_or, option_map, Result, Ok, Err}
 use Rattle.cap_program.specs.Words.{is_operand}
 use Rattle.capdiag.specs.declared.complaints.Complaint.{Complaint}
 use Rattle.capdiag.specs.declared.complaints.Complaint.TheVariants.{NoCommand, UnknownCommand, UnknownOption, NoValue, UnknownValue}
-use Rattle.capdiag.specs.declared.complaints.Complaint.TheVariants.{NoCount, UnknownCount, SecondFile, Twice, Alone}
+use Rattle.capdiag.specs.declared.complaints.Complaint.TheVariants.{NoCount, UnknownCount, Twice, Alone}
 use Rattle.capdiag.specs.declared.forms.Form.{Form}
 use Rattle.capdiag.specs.declared.orders.{Judging.{Judging, TheVariants.{Why, Heap, Run}}, Freed.TheVariants.{Held, Used, Both}}
 use Rattle.capdiag.specs.declared.words.Due.{Due, TheVariants.{Any, FreedValue, ContextValue, File}}
-use Rattle.capdiag.specs.Forms.{count_of, plain, with_json, with_lines}
+use Rattle.capdiag.specs.Forms.{count_of, is_json, plain, with_json, with_lines}
 
--- what words ask for: help; the version; or what a judge says of a log, how it is shown, and the log's file, if that isn't
--- standard input
+-- what words ask for: help; the version; or what a judge says of one of the files that they name, how it is shown, the
+-- file, if that isn't standard input, and how many files there are
 pub data Request : Type 0 where
   Help : Request
   Version : Request
-  Judge : (judging : Judging) (form : Form) (file : Option (List ℕ)) → Request
+  Judge : (judging : Judging) (form : Form) (file : Option (List ℕ)) (files : ℕ) → Request
 
--- what the words that were read ask for: what the next word is; the judge, and how what it says is shown; and the operand
+-- what the words that were read ask for: what the next word is; the judge, and how what it says is shown; how many operands
+-- there are, and that which has this number among them, from 0
 pub record Asked : Type 0 where
   pub due : Due
   pub judging : Judging
   pub form : Form
+  pub number : ℕ
+  pub files : ℕ
   pub operand : Option (List ℕ)
 
 -- what all words ask for, or what is wrong, and with which word
@@ -60,7 +63,7 @@ abbrev pub after_option : Asked → List ℕ → Result Asked Complaint
 after_option asked word =
     if bytes_eq word (codes "--") then Ok (record asked { due = File })
     else if bytes_eq word (codes "--help") then Err Alone
-    else if bytes_eq word (codes "--json") then once asked.form.json (record asked { form = with_json asked.form })
+    else if bytes_eq word (codes "--json") then once (is_json asked.form.look) (record asked { form = with_json asked.form })
     else if bytes_eq word (codes "--context") then once (is_some asked.form.context) (record asked { due = ContextValue })
     else after_flag asked word
 
@@ -73,9 +76,12 @@ with_freed (Run freed owned owners why) word =
     else None
 with_freed judging word = None
 
--- what is asked for with one operand more: there is one at most
-abbrev pub with_operand : Asked → List ℕ → Result Asked Complaint
-with_operand asked word = if is_some asked.operand then Err SecondFile else Ok (record asked { operand = Some word })
+-- what is asked for with one operand more, of which no more are counted than a u32 holds
+abbrev pub with_operand : Asked → List ℕ → Asked
+with_operand asked word = record asked {
+  files = min (asked.files + 1) (2 ^ 32 - 1);
+  operand = if asked.files == asked.number then Some word else asked.operand;
+}
 
 -- whether a word is an operand before the options have ended: it is a minus sign alone, or doesn't begin with one
 abbrev pub is_taken : List ℕ → Bool
@@ -87,8 +93,8 @@ with_due FreedValue asked word =
     ok_or (option_map (λ more. record asked { due = Any; judging = more }) (with_freed asked.judging word)) UnknownValue
 with_due ContextValue asked word =
     ok_or (option_map (λ count. record asked { due = Any; form = with_lines asked.form count }) (count_of word)) UnknownCount
-with_due Any asked word = if is_taken word then with_operand asked word else after_option asked word
-with_due File asked word = with_operand asked word
+with_due Any asked word = if is_taken word then Ok (with_operand asked word) else after_option asked word
+with_due File asked word = Ok (with_operand asked word)
 
 abbrev pub with_word : Asked → List ℕ → Result Asked Complaint
 with_word asked word = with_due asked.due asked word
@@ -102,7 +108,7 @@ file_of (Some word) = if bytes_eq word (codes "-") then None else Some word
 abbrev pub ended_by : Due → Asked → Read
 ended_by FreedValue asked = Err (NoValue, codes "--freed")
 ended_by ContextValue asked = Err (NoCount, codes "--context")
-ended_by due asked = Ok (Judge asked.judging asked.form (file_of asked.operand))
+ended_by due asked = Ok (Judge asked.judging asked.form (file_of asked.operand) asked.files)
 
 abbrev pub at_end : Asked → Read
 at_end asked = ended_by asked.due asked
@@ -123,23 +129,23 @@ is_help (word ∷ []) = bytes_eq word (codes "--help")
 is_help words = false
 
 -- what a command and the words after it ask for
-abbrev pub after_command : Judging → List (List ℕ) → Read
-after_command judge words =
+abbrev pub after_command : ℕ → Judging → List (List ℕ) → Read
+after_command at judge words =
     if is_help words then Ok Help
-    else with_words (Ok (record { due = Any; judging = judge; form = plain; operand = None })) words
+    else with_words (Ok (record { due = Any; judging = judge; form = plain; number = at; files = 0; operand = None })) words
 
 -- what an option in place of a command asks for: no other word stands beside it
 abbrev pub alone : Request → List ℕ → List (List ℕ) → Read
 alone request option [] = Ok request
 alone request option (word ∷ words) = Err (Alone, option)
 
--- what the words ask for
-abbrev pub read_words : List (List ℕ) → Read
-read_words [] = Err (NoCommand, [])
-read_words (command ∷ words) =
-    if bytes_eq command (codes "why") then after_command (Why false) words
-    else if bytes_eq command (codes "heap") then after_command (Heap false false) words
-    else if bytes_eq command (codes "run") then after_command (Run None false false false) words
+-- what the words ask for, of the file with this number among those that they name
+abbrev pub read_words : ℕ → List (List ℕ) → Read
+read_words at [] = Err (NoCommand, [])
+read_words at (command ∷ words) =
+    if bytes_eq command (codes "why") then after_command at (Why false) words
+    else if bytes_eq command (codes "heap") then after_command at (Heap false false) words
+    else if bytes_eq command (codes "run") then after_command at (Run None false false false) words
     else if bytes_eq command (codes "--help") then alone Help command words
     else if bytes_eq command (codes "--version") then alone Version command words
     else if is_operand command then Err (UnknownCommand, command)

@@ -10,6 +10,8 @@ asked_of it = record {
   due = it.due;
   judging = it.judging;
   form = it.form;
+  number = it.number;
+  files = it.files;
   operand = option_map (λ word. word.now) it.operand;
 }
 
@@ -21,7 +23,7 @@ more_of (Err complaint) = Err complaint
 abbrev pub request_of : Order → orders.Request
 request_of Help = orders.Help
 request_of Version = orders.Version
-request_of (Judge judging form file) = orders.Judge judging form (option_map (λ word. word.now) file)
+request_of (Judge judging form file files) = orders.Judge judging form (option_map (λ word. word.now) file) files
 
 -- what was read
 abbrev pub read_of : Result Order Wrong → orders.Read

@@ -1,27 +1,47 @@
 -- What is shown of a report. All of it is this profile's own.
-use Rattle.std.specs.Prelude.{◌≡◌, ◌⊎◌, ℕ, Bool, true, false, List, [], ◌++◌, take, Option, Some, None, Result, Ok, Err}
+use Rattle.std.specs.Prelude.{◌≡◌, ◌⊎◌, ℕ, Bool, true, false, nat_lt, if◌then◌else◌, List, [], ◌∷◌, ◌++◌, codes, take}
+use Rattle.std.specs.Prelude.{Option, Some, None, unwrap_or, Result, Ok, Err}
 use Rattle.cap_context.specs.Contexts.{context_of}
-use Rattle.cap_json.specs.{declared.rows.LogKind.LogKind, Objects.json_of}
+use Rattle.cap_json.specs.{declared.rows.LogKind.LogKind, Objects.json_of, Words.{begins, past, upto}}
 use Rattle.cap_program.specs.declared.faults.Fault.{Fault, TheVariants.{NoMemory, Write}}
-use Rattle.capdiag.specs.declared.forms.Form.{Form}
+use Rattle.cap_texts.specs.ShownBytes.{shown}
+use Rattle.capdiag.specs.declared.forms.{Form.Form, Look.{Look, TheVariants.{Plain, Colored, Json}}}
+
+-- the name that is shown of a file, if there are more: that of standard input is a minus sign
+abbrev pub name_of : ℕ → Option (List ℕ) → Option (List ℕ)
+name_of files file = if nat_lt 1 files then Some (unwrap_or file (codes "-")) else None
 
 -- a report, followed by the context of the line that it refuses in the bytes of its log, where that is asked for
 abbrev pub in_context : Option ℕ → List ℕ → List ℕ → List ℕ
 in_context None bytes report = report
 in_context (Some count) bytes report = report ++ context_of count bytes report
 
--- a text, as an object of JSON where that is asked for
-abbrev pub in_object : Bool → LogKind → List ℕ → List ℕ
-in_object false kind text = text
-in_object true kind text = json_of kind text
+-- a report, with the name of its file after the line of the verdict, where that is shown
+abbrev pub with_name : Option (List ℕ) → List ℕ → List ℕ
+with_name None report = report
+with_name (Some name) report = upto 10 report ++ codes "\nfile " ++ shown name ++ codes "\n" ++ past 10 report
+
+-- what switches a terminal to green for a yes, and to red for a no
+abbrev pub color_of : List ℕ → List ℕ
+color_of verdict = if begins (codes "yes") verdict then 27 ∷ codes "[32m" else 27 ∷ codes "[31m"
+
+-- a report whose verdict has its color on a terminal
+abbrev pub colored : List ℕ → List ℕ
+colored report = color_of (upto 10 report) ++ upto 10 report ++ (27 ∷ codes "[0m\n") ++ past 10 report
+
+-- a text as it looks: colored on a terminal, or an object of JSON
+abbrev pub looking : Look → LogKind → List ℕ → List ℕ
+looking Plain kind text = text
+looking Colored kind text = colored text
+looking Json kind text = json_of kind text
 
 -- what is shown of a report on these bytes
-abbrev pub rendered : Form → LogKind → List ℕ → List ℕ → List ℕ
-rendered form kind bytes report = in_object form.json kind (in_context form.context bytes report)
+abbrev pub rendered : Form → Option (List ℕ) → LogKind → List ℕ → List ℕ → List ℕ
+rendered form name kind bytes report = looking form.look kind (with_name name (in_context form.context bytes report))
 
 -- a text that is shown of a report on bytes that were read
-abbrev pub Renders : Form → LogKind → List ℕ → (List ℕ → ℕ → Type 0) → List ℕ → ℕ → Type 0
-Renders form kind given shows text status = (report : List ℕ) × shows report status × (text ≡ rendered form kind given report)
+abbrev pub Renders : Form → Option (List ℕ) → LogKind → List ℕ → (List ℕ → ℕ → Type 0) → List ℕ → ℕ → Type 0
+Renders form name kind given shows text status = (report : List ℕ) × shows report status × (text ≡ rendered form name kind given report)
 
 -- some bytes are a beginning of all, and all where the input has ended
 abbrev pub Begins : List ℕ → Bool → List ℕ → Type 0
@@ -29,10 +49,11 @@ Begins given ended bytes = (rest : List ℕ) × (bytes ≡ given ++ rest) × (en
 
 -- a text that is shown of a report on all bytes: the bytes that were read are a beginning of them, with the same report, and
 -- hold the context
-abbrev pub RendersAll : Form → LogKind → List ℕ → (List ℕ → Bool → List ℕ → ℕ → Type 0) → (List ℕ → ℕ → Type 0) → List ℕ → ℕ → Type 0
-RendersAll form kind bytes shows prints text status =
+abbrev pub RendersAll : Form → Option (List ℕ) → LogKind → List ℕ → (List ℕ → Bool → List ℕ → ℕ → Type 0) → (List ℕ → ℕ → Type 0) → List ℕ → ℕ
+    → Type 0
+RendersAll form name kind bytes shows prints text status =
     (given : List ℕ) × (ended : Bool) × Begins given ended bytes
-    × (report : List ℕ) × shows given ended report status × prints report status × (text ≡ rendered form kind given report)
+    × (report : List ℕ) × shows given ended report status × prints report status × (text ≡ rendered form name kind given report)
 
 -- why there is no text: as the judge stops; of a report that is kept also since there was no memory for it
 abbrev pub Lacks : Bool → (Bool → List ℕ → ℕ → Type 0) → (Fault → Type 0) → Fault → Type 0

@@ -28,8 +28,6 @@ pub enum Complaint {
     NoCount,
     /// A word is no number of lines of context.
     UnknownCount,
-    /// A word names a second file.
-    SecondFile,
     /// An option is given twice.
     Twice,
     /// An option that takes no other word is given with one.
@@ -202,7 +200,6 @@ fn front_text(complaint: Complaint) -> &'static [u8]
         Complaint::UnknownValue => b"--freed takes held, used or both, not ",
         Complaint::NoCount => b"a number from 0 to 99 is missing after ",
         Complaint::UnknownCount => b"--context takes a number from 0 to 99, not ",
-        Complaint::SecondFile => b"one file at most: ",
         Complaint::Twice => b"given twice: ",
         Complaint::Alone => b"other words beside ",
     }

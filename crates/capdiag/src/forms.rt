@@ -1,20 +1,35 @@
-//! How a report is shown: as it is, with the context of the line that it refuses, or as an object of JSON.
+//! How a report is shown: as it is, with colors, with its file or the context of the line that it refuses, or as an object of
+//! JSON.
 
-ghost use Rattle.std.specs.Prelude.{◌≡◌, ◌==◌, ◌&&◌, not, ℕ, List, true, IfOk, IfSome};
+ghost use Rattle.std.specs.Prelude.{◌≡◌, ◌==◌, ◌&&◌, ◌++◌, not, ℕ, List, true, IfOk, IfSome, OnOk, option_map, [], ◌∷◌};
 ghost use Rattle.cap_program.specs.Doings.{IsCounted};
-ghost use Rattle.capdiag.specs.{Forms.{count_of, is_digit, is_kept, plain, with_json, with_lines}, Renderings.{IsPut, in_context, in_object, rendered}};
+ghost use Rattle.cap_texts.specs.ShownBytes.{shown};
+ghost use Rattle.capdiag.specs.Forms.{count_of, is_digit, is_json, is_kept, is_plain, plain, with_json, with_lines};
+ghost use Rattle.capdiag.specs.Renderings.{IsPut, color_of, colored, in_context, looking, rendered, with_name};
 
 use cap_context::push_context;
-use cap_json::{LogKind, json_of};
+use cap_json::{LogKind, begins, cut, json_of};
 use cap_log::{PushFault, Sink, push_all};
 use cap_program::Fault;
+use cap_texts::shown_bytes::put_shown;
 use std::alloc::{AllocError, Global};
+
+/// How a text looks.
+#[derive(Clone, Copy)]
+pub enum Look {
+    /// As it is.
+    Plain,
+    /// With the verdict in its color on a terminal: green for a `yes`, red for a `no`.
+    Colored,
+    /// As an object of JSON.
+    Json,
+}
 
 /// How a report is shown.
 #[derive(Clone, Copy)]
 pub struct Form {
-    /// Whether it is an object of JSON.
-    pub json: bool,
+    /// How its text looks.
+    pub look: Look,
     /// At most how many lines before a line that is refused follow its report, with those that last wrote the registers that it
     /// reads; none of these where that isn't asked for.
     pub context: Option<u8>,
@@ -22,15 +37,38 @@ pub struct Form {
 
 /// A report as it is.
 pub(crate) const PLAIN: Form = Form {
-    json: false,
+    look: Look::Plain,
     context: None,
 };
+
+/// Whether a text looks as it is.
+pub fn is_plain(look: Look) -> bool
+    ensures value { result ≡ is_plain look }
+{
+    match look {
+        Look::Plain => true,
+        Look::Colored | Look::Json => false,
+    }
+}
+
+/// Whether a text is an object of JSON.
+pub(crate) fn is_json(look: Look) -> bool
+    ensures value { result ≡ is_json look }
+{
+    match look {
+        Look::Json => true,
+        Look::Plain | Look::Colored => false,
+    }
+}
 
 /// The same form, as an object of JSON.
 pub(crate) fn with_json(form: Form) -> Form
     ensures value { result ≡ with_json form }
 {
-    Form { json: true, ..form }
+    Form {
+        look: Look::Json,
+        ..form
+    }
 }
 
 /// The same form, with at most this many lines before a line that is refused.
@@ -70,11 +108,11 @@ pub(crate) fn count_of(word: &str) -> Option<u8>
     }
 }
 
-/// Whether a report is kept before it is shown.
-pub(crate) fn is_kept(form: Form) -> bool
-    ensures value { result ≡ is_kept form }
+/// Whether a report is kept before it is shown, in this form and with this name of its file.
+pub(crate) fn is_kept(form: Form, name: Option<&str>) -> bool
+    ensures value { result ≡ is_kept form (option_map (λ it. it.now) name.entry) }
 {
-    form.json || form.context.is_some()
+    !is_plain(form.look) || form.context.is_some() || name.is_some()
 }
 
 /// The bytes that were kept, if each was.
@@ -103,14 +141,74 @@ fn in_context(
     Ok(report)
 }
 
-// A text, as an object of JSON where that is asked for.
-fn in_object(alloc: Global, json: bool, kind: LogKind, text: Vec<u8>) -> Result<Vec<u8>, AllocError>
-    ensures object { IfOk result (λ object. object.items ≡ in_object json kind text.items) }
+// Appends a byte as it is shown.
+fn push_shown_byte(text: &mut Vec<u8>, byte: u8) -> Result<(), AllocError>
+    ensures ok { OnOk result (text.new.items ≡ text.old.items ++ shown (byte ∷ [])) }
 {
-    if json {
-        json_of(alloc, kind, text.as_slice())
+    let mut buffer = [0u8; 4];
+    let length = put_shown(&mut buffer, 0, &[byte]);
+    text.extend_from_slice(&buffer[..length])
+}
+
+// Appends bytes as they are shown.
+fn push_shown(text: &mut Vec<u8>, bytes: &[u8]) -> Result<(), AllocError>
+    ensures ok { OnOk result (text.new.items ≡ text.old.items ++ shown bytes.now) }
+{
+    for byte in bytes {
+        push_shown_byte(text, *byte)?;
+    }
+    Ok(())
+}
+
+// A report, with the name of its file after the line of the verdict, if that is shown.
+fn with_name(alloc: Global, name: Option<&str>, report: Vec<u8>) -> Result<Vec<u8>, AllocError>
+    ensures text { IfOk result (λ text. text.items ≡ with_name (option_map (λ it. it.now) name.entry) report.items) }
+{
+    let Some(name) = name else {
+        return Ok(report);
+    };
+    let (verdict, lines) = cut(b'\n', report.as_slice());
+    let mut text = Vec::new(alloc);
+    text.extend_from_slice(verdict)?;
+    text.extend_from_slice(b"\nfile ")?;
+    push_shown(&mut text, name.as_bytes())?;
+    text.push(b'\n')?;
+    text.extend_from_slice(lines)?;
+    Ok(text)
+}
+
+// What switches a terminal to the color of a verdict.
+fn color_of(verdict: &[u8]) -> &'static [u8]
+    ensures value { result.now ≡ color_of verdict.now }
+{
+    if begins(b"yes", verdict) {
+        b"\x1b[32m"
     } else {
-        Ok(text)
+        b"\x1b[31m"
+    }
+}
+
+// A report whose verdict has its color on a terminal.
+fn colored(alloc: Global, report: &[u8]) -> Result<Vec<u8>, AllocError>
+    ensures text { IfOk result (λ text. text.items ≡ colored report.now) }
+{
+    let (verdict, lines) = cut(b'\n', report);
+    let mut text = Vec::new(alloc);
+    text.extend_from_slice(color_of(verdict))?;
+    text.extend_from_slice(verdict)?;
+    text.extend_from_slice(b"\x1b[0m\n")?;
+    text.extend_from_slice(lines)?;
+    Ok(text)
+}
+
+// A text as it looks.
+fn looking(alloc: Global, look: Look, kind: LogKind, text: Vec<u8>) -> Result<Vec<u8>, AllocError>
+    ensures text { IfOk result (λ shown. shown.items ≡ looking look kind text.items) }
+{
+    match look {
+        Look::Plain => Ok(text),
+        Look::Colored => colored(alloc, text.as_slice()),
+        Look::Json => json_of(alloc, kind, text.as_slice()),
     }
 }
 
@@ -118,21 +216,24 @@ fn in_object(alloc: Global, json: bool, kind: LogKind, text: Vec<u8>) -> Result<
 fn rendered(
     alloc: Global,
     form: Form,
+    name: Option<&str>,
     kind: LogKind,
     report: Vec<u8>,
     recorded: Option<&[u8]>,
 ) -> Result<Vec<u8>, AllocError>
     ensures text { IfOk result (λ text. (bytes : List ℕ) → IfSome recorded.entry (λ kept. kept.now ≡ bytes)
-        → text.items ≡ rendered form kind bytes report.items) }
+        → text.items ≡ rendered form (option_map (λ it. it.now) name.entry) kind bytes report.items) }
 {
     let text = in_context(form.context, report, recorded)?;
-    in_object(alloc, form.json, kind, text)
+    let text = with_name(alloc, name, text)?;
+    looking(alloc, form.look, kind, text)
 }
 
 /// Pushes what is shown of a report that was kept, by what was done for it and by the bytes of its log that were recorded.
 pub(crate) fn push_report<K: Sink>(
     alloc: Global,
     form: Form,
+    name: Option<&str>,
     kind: LogKind,
     done: Result<u8, Fault>,
     report: Vec<u8>,
@@ -140,11 +241,11 @@ pub(crate) fn push_report<K: Sink>(
     sink: &mut K,
 ) -> Result<u8, Fault>
     ensures put { (bytes : List ℕ) → IfSome recorded.entry (λ kept. kept.now ≡ bytes)
-        → IsPut (rendered form kind bytes report.items) (K.took sink.old sink.new) done result }
+        → IsPut (rendered form (option_map (λ it. it.now) name.entry) kind bytes report.items) (K.took sink.old sink.new) done result }
     ensures written { IsCounted Fault.Write result (K.faults sink.old) (K.faults sink.new) }
 {
     match done {
-        Ok(status) => match rendered(alloc, form, kind, report, recorded) {
+        Ok(status) => match rendered(alloc, form, name, kind, report, recorded) {
             Ok(text) => match push_all(sink, text.as_slice()) {
                 Ok(()) => Ok(status),
                 Err(PushFault) => Err(Fault::Write),

@@ -22,6 +22,7 @@ pub fn order_on<'a>(order: Order<'a>, front: &[u8]) -> Order<'a>
             judging: Judging::Why { origins },
             form,
             file,
+            files,
         } if front == RUN_HEADER.as_slice() => {
             let judging = Judging::Run {
                 freed: None,
@@ -33,6 +34,7 @@ pub fn order_on<'a>(order: Order<'a>, front: &[u8]) -> Order<'a>
                 judging,
                 form,
                 file,
+                files,
             }
         }
         _ => order,

@@ -16,7 +16,7 @@ mod words;
 pub use crate::complaints::{
     Complaint, Unopened, Wrong, tell_hint, tell_unopened, tell_waiting, tell_words,
 };
-pub use crate::forms::Form;
+pub use crate::forms::{Form, Look, is_plain};
 pub use crate::fronts::{hint_for, order_on, read_front};
 pub use crate::orders::Order;
 pub use crate::runs::run;
@@ -25,6 +25,7 @@ use cap_log::{Sink, WriteSink};
 pub use cap_program::carry_out;
 use cap_program::{Fault, collect_words, exit_status, tell};
 use std::alloc::AllocError;
+use std::env;
 use std::fs::File;
 use std::io::{ErrorKind, IsTerminal, Read, Write};
 use std::process::ExitCode;
@@ -40,7 +41,8 @@ fn main(rt: HostRuntime) -> ExitCode {
     })
 }
 
-// Collects the words, and follows the order that they ask for, or says why they ask for none.
+// Collects the words, and follows the orders that they ask for, one for each file, or says why they ask for none. The status is
+// the greatest of theirs.
 fn answer(rt: &HostRuntime) -> Result<u8, AllocError> {
     let Some(texts) = collect_words(rt)? else {
         let done = Err(Fault::BadWords);
@@ -51,19 +53,69 @@ fn answer(rt: &HostRuntime) -> Result<u8, AllocError> {
     for text in &texts {
         words.push(text.as_str())?;
     }
-    let order = match read_words(words.as_slice()) {
-        Ok(order) => order,
-        Err(wrong) => {
-            tell_words(
-                words.as_slice(),
-                wrong,
-                &mut WriteSink::new(&mut rt.stderr()),
-            );
-            return Ok(Fault::BadWords.status());
+    let has_colors = has_colors(rt);
+    let mut status = 0u8;
+    for number in 0..u32::MAX {
+        let order = match read_words(number, words.as_slice()) {
+            Ok(order) => order,
+            Err(wrong) => {
+                tell_words(
+                    words.as_slice(),
+                    wrong,
+                    &mut WriteSink::new(&mut rt.stderr()),
+                );
+                return Ok(Fault::BadWords.status());
+            }
+        };
+        status = status.max(carry_out_alone(rt, with_colors(has_colors, order)));
+        if number + 1 >= files_of(order) {
+            break;
         }
-    };
+    }
+    Ok(status)
+}
+
+// Whether standard output shows colors: it is a terminal that isn't dumb, and NO_COLOR isn't set or is empty.
+fn has_colors(rt: &HostRuntime) -> bool {
+    if !rt.stdout().is_terminal() {
+        return false;
+    }
+    if let Ok(value) = env::var(rt, "NO_COLOR") {
+        if !value.is_empty() {
+            return false;
+        }
+    }
+    match env::var(rt, "TERM") {
+        Ok(terminal) => terminal.as_str() != "dumb",
+        Err(_) => false,
+    }
+}
+
+// An order whose text has colors, if there are any and it is shown as it is otherwise.
+fn with_colors<'a>(has_colors: bool, order: Order<'a>) -> Order<'a> {
+    match order {
+        Order::Judge {
+            judging,
+            form,
+            file,
+            files,
+        } if has_colors && is_plain(form.look) => Order::Judge {
+            judging,
+            form: Form {
+                look: Look::Colored,
+                ..form
+            },
+            file,
+            files,
+        },
+        _ => order,
+    }
+}
+
+// Follows an order on its file or on standard input, and answers its status.
+fn carry_out_alone(rt: &HostRuntime, order: Order) -> u8 {
     let (out, errors) = (&mut rt.stdout(), &mut rt.stderr());
-    Ok(match file_of(order) {
+    match file_of(order) {
         Some(path) => match open(rt, path) {
             Ok(file) => follow(rt, order, file, out, errors),
             Err(reason) => {
@@ -78,7 +130,7 @@ fn answer(rt: &HostRuntime) -> Result<u8, AllocError> {
             }
             follow(rt, order, input, out, errors)
         }
-    })
+    }
 }
 
 // Follows an order on an input, whose first line says what `why` judges, and whether another command was meant.
@@ -149,6 +201,14 @@ fn file_of<'a>(order: Order<'a>) -> Option<&'a str> {
     match order {
         Order::Judge { file, .. } => file,
         Order::Help | Order::Version => None,
+    }
+}
+
+// How many files there are, as an order of one of them has it.
+fn files_of(order: Order) -> u32 {
+    match order {
+        Order::Judge { files, .. } => files,
+        Order::Help | Order::Version => 0,
     }
 }
 

@@ -9,8 +9,8 @@ pub enum Order<'a> {
     Help,
     /// `--version`: tell its version.
     Version,
-    /// `why`, `heap` or `run`, each with `[--context N] [--json] [FILE]`: judge a log, and print the verdict with the reports
-    /// that are asked for.
+    /// `why`, `heap` or `run`, each with `[--context N] [--json] [FILE..]`: judge a log, and print the verdict with the
+    /// reports that are asked for.
     Judge {
         /// The judge, and the reports that it is asked for.
         judging: Judging,
@@ -18,6 +18,8 @@ pub enum Order<'a> {
         form: Form,
         /// The file's name, which is not `-`; none for standard input.
         file: Option<&'a str>,
+        /// How many files there are: each is judged by an order of its own.
+        files: u32,
     },
 }
 

@@ -1,8 +1,8 @@
 //! Judging an input, and pushing what is shown of the report.
 
-ghost use Rattle.std.specs.Prelude.{◌≡◌, ℕ, List, true};
+ghost use Rattle.std.specs.Prelude.{◌≡◌, ℕ, List, option_map, true};
 ghost use Rattle.cap_program.specs.Doings.{IsCounted, IsDone};
-ghost use Rattle.capdiag.specs.{Forms.is_kept, Judgings.{ShowsJudged, StopsJudged, kind_of}, Renderings.{Lacks, Renders}};
+ghost use Rattle.capdiag.specs.{Forms.is_kept, Judgings.{ShowsJudged, StopsJudged, kind_of}, Renderings.{Lacks, Renders, name_of}};
 
 use crate::forms::{Form, is_kept, push_report, recorded};
 use crate::judges::{asks_of, explain_source, judge_heap_source, judge_run_source};
@@ -12,6 +12,17 @@ use cap_json::LogKind;
 use cap_log::{Sink, Source, WriteSink};
 use cap_program::Fault;
 use std::alloc::Global;
+
+// The name that is shown of a file, if there are more: that of standard input is `-`.
+fn name_of<'a>(files: u32, file: Option<&'a str>) -> Option<&'a str>
+    ensures value { option_map (λ it. it.now) result ≡ name_of files (option_map (λ it. it.now) file.entry) }
+{
+    if files > 1 {
+        Some(file.unwrap_or("-"))
+    } else {
+        None
+    }
+}
 
 // The kind of the log that is judged.
 fn kind_of(judging: Judging) -> LogKind
@@ -56,11 +67,12 @@ fn judge_kept<S: Source, K: Sink>(
     alloc: Global,
     judging: Judging,
     form: Form,
+    name: Option<&str>,
     source: &mut S,
     sink: &mut K,
 ) -> Result<u8, Fault>
     ensures done { (given : List ℕ) × S.gave source.old source.new given
-        × IsDone (Renders form (kind_of judging) given (ShowsJudged judging given (S.ended source.new)))
+        × IsDone (Renders form (option_map (λ it. it.now) name.entry) (kind_of judging) given (ShowsJudged judging given (S.ended source.new)))
         (Lacks true (ShowsJudged judging given) (StopsJudged judging given)) (K.took sink.old sink.new) result }
     ensures read { IsCounted Fault.Read result (S.faults source.old) (S.faults source.new) }
     ensures written { IsCounted Fault.Write result (K.faults sink.old) (K.faults sink.new) }
@@ -78,6 +90,7 @@ fn judge_kept<S: Source, K: Sink>(
     push_report(
         alloc,
         form,
+        name,
         kind_of(judging),
         done,
         report,
@@ -86,24 +99,44 @@ fn judge_kept<S: Source, K: Sink>(
     )
 }
 
-/// Judges what a source gives, pushes what is shown of the line of the verdict and of the reports that are asked for, and
-/// answers the status that goes with the verdict.
-pub fn judge_as<S: Source, K: Sink>(
+// Judges what a source gives, and pushes what is shown of the report, with this name of the file.
+fn judge_named<S: Source, K: Sink>(
     alloc: Global,
     judging: Judging,
     form: Form,
+    name: Option<&str>,
     source: &mut S,
     sink: &mut K,
 ) -> Result<u8, Fault>
     ensures done { (given : List ℕ) × S.gave source.old source.new given
-        × IsDone (Renders form (kind_of judging) given (ShowsJudged judging given (S.ended source.new)))
-        (Lacks (is_kept form) (ShowsJudged judging given) (StopsJudged judging given)) (K.took sink.old sink.new) result }
+        × IsDone (Renders form (option_map (λ it. it.now) name.entry) (kind_of judging) given (ShowsJudged judging given (S.ended source.new)))
+        (Lacks (is_kept form (option_map (λ it. it.now) name.entry)) (ShowsJudged judging given) (StopsJudged judging given)) (K.took sink.old sink.new) result }
     ensures read { IsCounted Fault.Read result (S.faults source.old) (S.faults source.new) }
     ensures written { IsCounted Fault.Write result (K.faults sink.old) (K.faults sink.new) }
 {
-    if is_kept(form) {
-        judge_kept(alloc, judging, form, source, sink)
+    if is_kept(form, name) {
+        judge_kept(alloc, judging, form, name, source, sink)
     } else {
         judge_source(alloc, judging, source, sink)
     }
+}
+
+/// Judges what a source gives, one of so many files, pushes what is shown of the line of the verdict and of the reports that are
+/// asked for, and answers the status that goes with the verdict.
+pub fn judge_as<S: Source, K: Sink>(
+    alloc: Global,
+    judging: Judging,
+    form: Form,
+    file: Option<&str>,
+    files: u32,
+    source: &mut S,
+    sink: &mut K,
+) -> Result<u8, Fault>
+    ensures done { (given : List ℕ) × S.gave source.old source.new given
+        × IsDone (Renders form (name_of files (option_map (λ it. it.now) file.entry)) (kind_of judging) given (ShowsJudged judging given (S.ended source.new)))
+        (Lacks (is_kept form (name_of files (option_map (λ it. it.now) file.entry))) (ShowsJudged judging given) (StopsJudged judging given)) (K.took sink.old sink.new) result }
+    ensures read { IsCounted Fault.Read result (S.faults source.old) (S.faults source.new) }
+    ensures written { IsCounted Fault.Write result (K.faults sink.old) (K.faults sink.new) }
+{
+    judge_named(alloc, judging, form, name_of(files, file), source, sink)
 }

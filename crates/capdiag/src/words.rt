@@ -6,7 +6,7 @@ ghost use Rattle.capdiag.specs.Orders.{with_flag, with_freed, with_operand, with
 ghost use Rattle.capdiag.specs.Readings.{asked_of, more_of, read_of, request_of};
 
 use crate::complaints::{Complaint, Wrong};
-use crate::forms::{Form, PLAIN, count_of, with_json, with_lines};
+use crate::forms::{Form, PLAIN, count_of, is_json, with_json, with_lines};
 use crate::orders::{Freed, Judging, Order};
 use cap_program::is_operand;
 
@@ -32,7 +32,11 @@ struct Asked<'a> {
     judging: Judging,
     // How they are shown.
     form: Form,
-    // The operand, if there is one.
+    // The number of the operand that is asked for, from 0.
+    number: u32,
+    // How many operands there are.
+    files: u32,
+    // The operand with that number, if there is one.
     operand: Option<&'a str>,
 }
 
@@ -134,7 +138,7 @@ fn after_option<'a>(asked: Asked<'a>, word: &str) -> Result<Asked<'a>, Complaint
         }),
         "--help" => Err(Complaint::Alone),
         "--json" => once(
-            form.json,
+            is_json(form.look),
             Asked {
                 form: with_json(form),
                 ..asked
@@ -186,15 +190,18 @@ fn is_taken(word: &str) -> bool
 }
 
 // What is asked for with one operand more.
-fn with_operand<'a>(asked: Asked<'a>, word: &'a str) -> Result<Asked<'a>, Complaint>
-    ensures value { with_operand (asked_of asked.entry) word.now ≡ more_of result }
+fn with_operand<'a>(asked: Asked<'a>, word: &'a str) -> Asked<'a>
+    ensures value { with_operand (asked_of asked.entry) word.now ≡ asked_of result }
 {
-    match asked.operand {
-        Some(_) => Err(Complaint::SecondFile),
-        None => Ok(Asked {
-            operand: Some(word),
-            ..asked
-        }),
+    let operand = if asked.files == asked.number {
+        Some(word)
+    } else {
+        asked.operand
+    };
+    Asked {
+        files: asked.files.saturating_add(1),
+        operand,
+        ..asked
     }
 }
 
@@ -220,7 +227,7 @@ fn with_word<'a>(asked: Asked<'a>, word: &'a str) -> Result<Asked<'a>, Complaint
             None => Err(Complaint::UnknownCount),
         },
         Due::Any if !is_taken(word) => after_option(asked, word),
-        Due::Any | Due::File => with_operand(asked, word),
+        Due::Any | Due::File => Ok(with_operand(asked, word)),
     }
 }
 
@@ -251,6 +258,7 @@ fn at_end<'a>(asked: Asked<'a>) -> Result<Order<'a>, Wrong<'a>>
             judging: asked.judging,
             form: asked.form,
             file: file_of(asked.operand),
+            files: asked.files,
         }),
     }
 }
@@ -279,8 +287,12 @@ fn is_help(words: &[&str]) -> bool
 }
 
 // What a command and the words after it ask for.
-fn after_command<'a>(judging: Judging, words: &[&'a str]) -> Result<Order<'a>, Wrong<'a>>
-    ensures value { after_command judging (map (λ word. word.now) words.now) ≡ read_of result }
+fn after_command<'a>(
+    number: u32,
+    judging: Judging,
+    words: &[&'a str],
+) -> Result<Order<'a>, Wrong<'a>>
+    ensures value { after_command number judging (map (λ word. word.now) words.now) ≡ read_of result }
 {
     if is_help(words) {
         return Ok(Order::Help);
@@ -289,6 +301,8 @@ fn after_command<'a>(judging: Judging, words: &[&'a str]) -> Result<Order<'a>, W
         due: Due::Any,
         judging,
         form: PLAIN,
+        number,
+        files: 0,
         operand: None,
     };
     with_words(asked, words)
@@ -307,10 +321,11 @@ fn alone<'a>(order: Order<'a>, option: &'a str, words: &[&'a str]) -> Result<Ord
     })
 }
 
-/// Reads the words after the program's name: the order that they ask for, and where they ask for none what is wrong
-/// with them. Options stand before the file or after it, in any order.
-pub fn read_words<'a>(words: &[&'a str]) -> Result<Order<'a>, Wrong<'a>>
-    ensures value { read_words (map (λ word. word.now) words.now) ≡ read_of result }
+/// Reads the words after the program's name: what they ask for of the file with this number among those that they name,
+/// counted from 0, and if they ask for nothing what is wrong with them. Options stand before, after and between files, in any
+/// order.
+pub fn read_words<'a>(number: u32, words: &[&'a str]) -> Result<Order<'a>, Wrong<'a>>
+    ensures value { read_words number (map (λ word. word.now) words.now) ≡ read_of result }
 {
     let Some((command, words)) = words.split_first() else {
         return Err(Wrong {
@@ -319,8 +334,9 @@ pub fn read_words<'a>(words: &[&'a str]) -> Result<Order<'a>, Wrong<'a>>
         });
     };
     match *command {
-        "why" => after_command(Judging::Why { origins: false }, words),
+        "why" => after_command(number, Judging::Why { origins: false }, words),
         "heap" => after_command(
+            number,
             Judging::Heap {
                 report: false,
                 why: false,
@@ -328,6 +344,7 @@ pub fn read_words<'a>(words: &[&'a str]) -> Result<Order<'a>, Wrong<'a>>
             words,
         ),
         "run" => after_command(
+            number,
             Judging::Run {
                 freed: None,
                 owned: false,

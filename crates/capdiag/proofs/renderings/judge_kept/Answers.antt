@@ -1,4 +1,4 @@
-use Rattle.std.proofs.Common.{rules, ◌≡◌, ℕ, List, [], ◌++◌, ◌∙◌, ap, true}
+use Rattle.std.proofs.Common.{rules, ◌≡◌, option_map, ℕ, List, [], ◌++◌, ◌∙◌, ap, true}
 use Rattle.capdiag.specs.{Judgings.{ShowsJudged, StopsJudged, kind_of}, Renderings.rendered}
 use Rattle.capdiag.proofs.RenderingLemmas.{if_some, kept_done, kept_read}
 use Rattle.capdiag.proofs.renderings.judge_kept.Goals as goal
@@ -10,6 +10,7 @@ returns g c =
     let given = e.done.0 in
     let gives = e.done.1 in
     let kind = kind_of c.args.judging in
+    let name = option_map (λ it. it.now) c.args.name in
     let shows = ShowsJudged c.args.judging given in
     let stops = StopsJudged c.args.judging given in
     let new_source = c.judge_source-done.new.source.source.now in
@@ -33,9 +34,9 @@ returns g c =
       done = (
         given,
         rw c.new-recorder.ensures.source at gives.2,
-        kept_done c.args.form kind given shows stops ended report _
+        kept_done c.args.form name kind given shows stops ended report _
             (λ text told. report_is told.0 ∙ told.1 ∙ ap (λ (held : List ℕ). held ++ text) empty) took done answer e.done.2 put,
       );
-      read = kept_read (rendered c.args.form kind given report) took _ _ done answer put (rw c.new-recorder.ensures.source at e.read);
+      read = kept_read (rendered c.args.form name kind given report) took _ _ done answer put (rw c.new-recorder.ensures.source at e.read);
       written = o.written;
     })
