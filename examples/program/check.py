@@ -8,6 +8,7 @@ which are wrong logs and wrong words, and where their input or their output fail
 CAPCHECK and CAPDIAG name built programs, where these are not those of `rt ci`. The status is 1 where anything differs."""
 import ctypes
 import os
+import pty
 import re
 import resource
 import shlex
@@ -59,7 +60,7 @@ class Room:
             it.write(text)
         return f"{self.folder}/{name}"
 
-    def run(self, words, given=subprocess.DEVNULL, out=subprocess.PIPE, err=subprocess.PIPE, closed=(), room=None, obeys=False):
+    def run(self, words, given=subprocess.DEVNULL, out=subprocess.PIPE, err=subprocess.PIPE, closed=(), room=None, obeys=False, env=None):
         """What a run with these words gives: its status, and what it wrote where no other place is named. Standard
         input is a file, a socket or bytes. The descriptors that are `closed` are not there at its start, and with
         `room` no file may grow above so many bytes. One that `obeys` opens only files whose mode lets it."""
@@ -74,7 +75,7 @@ class Room:
 
         how = {"input": given} if isinstance(given, bytes) else {"stdin": given}
         # At a limit Python's own signals stay: a write above it is then an error, and no signal that ends the program.
-        how.update(preexec_fn=prepare, restore_signals=room is None, timeout=60)
+        how.update(preexec_fn=prepare, restore_signals=room is None, timeout=60, env=env)
         file = os.environ.get(self.program.upper()) or f"crates/{self.program}/out/{self.program}"
         ran = subprocess.run([os.path.join(os.path.abspath(ROOT), file), *words], cwd=self.folder, stdout=out, stderr=err, **how)
         return ran.returncode, ran.stdout, ran.stderr
@@ -257,12 +258,36 @@ def errors(room):
         room.wants("both full", room.run(judge, YES, full, full), (3, None, None))
 
 
+def terminals(room):
+    """A verdict has its color on a terminal, unless the environment or --json forbids it."""
+    if room.program != "capdiag":
+        return
+    for given, plain, shown in ((YES, SAID_YES, b"\x1b[32myes 0 0\x1b[0m\n"), (NO, room.said_no, b"\x1b[31mno 2 6 WrongCount\x1b[0m\n")):
+        shown += plain.partition(b"\n")[2]
+        room.put("log", given)
+        json = room.run(["why", "--json", "log"])[1]
+        for names, words, wanted in (({}, [], shown), ({"NO_COLOR": ""}, [], shown), ({"NO_COLOR": "1"}, [], plain), ({"TERM": "dumb"}, [], plain),
+                                     ({"TERM": None}, [], plain), ({}, ["--json"], json)):
+            environment = {name: it for name, it in {**os.environ, "TERM": "xterm", "NO_COLOR": None, **names}.items() if it is not None}
+            ours, theirs = pty.openpty()
+            status, out, err = room.run(["why", *words, "log"], out=theirs, env=environment)
+            os.close(theirs)
+            room.wants(f"why {words}, {names}, on a terminal", (status, os.read(ours, 4096).replace(b"\r\n", b"\n"), err), (int(given == NO), wanted, b""))
+            os.close(ours)
+    ours, theirs = pty.openpty()
+    os.write(ours, YES + b"\x04")
+    told = b"capdiag: reading a log from the terminal; Ctrl-D ends it\n"
+    room.wants("why, typed on a terminal", room.run(["why"], theirs), (0, SAID_YES, told))
+    os.close(ours)
+    os.close(theirs)
+
+
 def main(programs):
     wrong = []
     for program in programs or PROGRAMS:
         with tempfile.TemporaryDirectory() as folder:
             room = Room(folder, program)
-            for part in (printed, inputs, unopened, verdicts, outputs, errors):
+            for part in (printed, inputs, unopened, verdicts, outputs, errors, terminals):
                 part(room)
         print("\n".join([*room.wrong, f"{room.count} runs of {program}, {len(room.wrong)} otherwise than is wanted"]))
         wrong += room.wrong

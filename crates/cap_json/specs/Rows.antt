@@ -20,6 +20,7 @@ verdict_rows Run = (codes "yes ", Alone, codes "'verdict':'yes','steps':$,'roots
 -- the lines that describe no capability
 unfoldable pub lone_rows : List Row
 lone_rows =
+    (codes "file ", Alone, codes "'file':'*'") ∷
     (codes "line ", Alone, codes "'text':'*'") ∷
     (codes "found ", Alone, codes "'found':'*'") ∷
     (codes "expected ", Alone, codes "'expected':'*'") ∷

@@ -87,6 +87,7 @@ fn lone_rows() -> &'static [Row]
     ensures value { map row_parts result.now ≡ lone_rows }
 {
     &[
+        Row("file ", Place::Alone, "'file':'*'"),
         Row("line ", Place::Alone, "'text':'*'"),
         Row("found ", Place::Alone, "'found':'*'"),
         Row("expected ", Place::Alone, "'expected':'*'"),

@@ -1,7 +1,7 @@
 -- How a report is shown, by what the words after the program's name ask for. All of it is this profile's own.
 use Rattle.std.specs.Prelude.{ℕ, ◌+◌, ◌-◌, ◌*◌, Bool, true, false, ◌&&◌, ◌||◌, ◌==◌, not, nat_le, if◌then◌else◌}
 use Rattle.std.specs.Prelude.{List, [], ◌∷◌, Option, Some, None, is_some}
-use Rattle.capdiag.specs.declared.forms.{Form.Form, Look.{Look, TheVariants.{Plain, Colored, Json}}}
+use Rattle.capdiag.specs.declared.forms.{Form.Form, Look.{Look, TheVariants.{Plain, Json}}}
 
 -- as it is
 abbrev pub plain : Form

@@ -1,5 +1,5 @@
 -- What is shown of a report. All of it is this profile's own.
-use Rattle.std.specs.Prelude.{◌≡◌, ◌⊎◌, ℕ, Bool, true, false, nat_lt, if◌then◌else◌, List, [], ◌∷◌, ◌++◌, codes, take}
+use Rattle.std.specs.Prelude.{◌≡◌, ◌⊎◌, ℕ, Bool, true, nat_lt, if◌then◌else◌, List, [], ◌∷◌, ◌++◌, codes, take}
 use Rattle.std.specs.Prelude.{Option, Some, None, unwrap_or, Result, Ok, Err}
 use Rattle.cap_context.specs.Contexts.{context_of}
 use Rattle.cap_json.specs.{declared.rows.LogKind.LogKind, Objects.json_of, Words.{begins, past, upto}}
