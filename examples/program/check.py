@@ -28,7 +28,7 @@ VECTOR = b"memory 00001ffffc0180040000000000000000 = 000000000000000000000000000
 PROGRAMS = {
     "capcheck": ("judge", SAID_NO, [["vectors", "file"], ["round", "0000000000000001", "0000000000001fff"],
                                     ["explain", "00001ffffc0180040000000000000000"]], ["judges"]),
-    "capdiag": ("why", SAID_NO + b"line end 1\nroots 0\nsteps 0\ngranules 0\nexpected end 0\n", [["heap"], ["heap", "--report", "log"]], ["judge"]),
+    "capdiag": ("why", SAID_NO + b"line end 1\nroots 0\nsteps 0\ngranules 0\nexpected end 0\n", [["heap"], ["heap", "--report", "log"], ["why", "log", "log"]], ["judge"]),
 }
 
 

@@ -57,7 +57,7 @@ fn answer(rt: &HostRuntime) -> Result<u8, AllocError> {
     let mut status = 0u8;
     for number in 0..u32::MAX {
         let order = match read_words(number, words.as_slice()) {
-            Ok(order) => order,
+            Ok(order) => with_colors(has_colors, order),
             Err(wrong) => {
                 tell_words(
                     words.as_slice(),
@@ -67,8 +67,9 @@ fn answer(rt: &HostRuntime) -> Result<u8, AllocError> {
                 return Ok(Fault::BadWords.status());
             }
         };
-        status = status.max(carry_out_alone(rt, with_colors(has_colors, order)));
-        if number + 1 >= files_of(order) {
+        let (own, goes_on) = follow_alone(rt, order);
+        status = status.max(own);
+        if !goes_on || number + 1 >= files_of(order) {
             break;
         }
     }
@@ -112,15 +113,16 @@ fn with_colors<'a>(has_colors: bool, order: Order<'a>) -> Order<'a> {
     }
 }
 
-// Follows an order on its file or on standard input, and answers its status.
-fn carry_out_alone(rt: &HostRuntime, order: Order) -> u8 {
+// Follows an order on its file or on standard input: the status, and whether the next file can be judged, which no fault of
+// reading, writing or memory lets.
+fn follow_alone(rt: &HostRuntime, order: Order) -> (u8, bool) {
     let (out, errors) = (&mut rt.stdout(), &mut rt.stderr());
-    match file_of(order) {
+    let status = match file_of(order) {
         Some(path) => match open(rt, path) {
             Ok(file) => follow(rt, order, file, out, errors),
             Err(reason) => {
                 tell_unopened(path, reason, &mut WriteSink::new(errors));
-                Fault::Read.status()
+                return (Fault::Read.status(), true);
             }
         },
         None => {
@@ -130,7 +132,8 @@ fn carry_out_alone(rt: &HostRuntime, order: Order) -> u8 {
             }
             follow(rt, order, input, out, errors)
         }
-    }
+    };
+    (status, status < Fault::Read.status())
 }
 
 // Follows an order on an input, whose first line says what `why` judges, and whether another command was meant.
