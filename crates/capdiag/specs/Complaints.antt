@@ -60,3 +60,11 @@ unopened_line path reason = codes "capdiag: cannot open " ++ quoted path ++ code
 -- the line that says that a log is read from the terminal
 abbrev pub waiting_line : List ℕ
 waiting_line = codes "capdiag: reading a log from the terminal; Ctrl-D ends it\n"
+
+-- the line of a hint, with the name of the file, if that is one of several
+abbrev pub named : Option (List ℕ) → List ℕ
+named None = []
+named (Some name) = quoted name ++ codes ": "
+
+unfoldable pub hint_line : Option (List ℕ) → List ℕ → List ℕ
+hint_line name hint = codes "capdiag: " ++ named name ++ hint ++ codes "\n"

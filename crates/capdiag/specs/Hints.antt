@@ -9,18 +9,18 @@ order_on (Judge (Why origins) form file files) front =
     if bytes_eq front (codes "run 1\n") then Judge (Run None false origins true) form file files else Judge (Why origins) form file files
 order_on order front = order
 
--- the line on standard error that names the command for a log of another kind, by the first bytes of the input; none if the
--- report of a no says it
+-- the hint that names the command for a log of another kind, by the first bytes of the input; none if the report of a no
+-- says it
 abbrev pub machine_hint : List ℕ
-machine_hint = codes "capdiag: this is a log of version 1 or 2; capdiag why judges it\n"
+machine_hint = codes "this is a log of version 1 or 2; capdiag why judges it"
 
 abbrev pub hint_for : Order → List ℕ → Option (List ℕ)
 hint_for (Judge (Run freed owned owners false) form file files) front =
     if bytes_eq front (codes "capche") then Some machine_hint
-    else if bytes_eq front (codes "heap 1") then Some (codes "capdiag: this is the log of an allocator; capdiag heap judges it\n")
+    else if bytes_eq front (codes "heap 1") then Some (codes "this is the log of an allocator; capdiag heap judges it")
     else None
 hint_for (Judge (Heap report false) form file files) front =
     if bytes_eq front (codes "capche") then Some machine_hint
-    else if bytes_eq front (codes "run 1\n") then Some (codes "capdiag: this is a run log; capdiag run judges it\n")
+    else if bytes_eq front (codes "run 1\n") then Some (codes "this is a run log; capdiag run judges it")
     else None
 hint_for order front = None

@@ -4,7 +4,7 @@ ghost use Rattle.std.specs.Prelude.{◌≡◌, ◌+◌, ◌≤◌, length, map, 
 ghost use Rattle.cap_streams.specs.Written.{Writes};
 ghost use Rattle.cap_program.specs.Doings.{IsPushed};
 ghost use Rattle.capdiag.specs.Guesses.{guess_of};
-ghost use Rattle.capdiag.specs.Complaints.{asked, complaint_line, front_text, question, quoted, reason_text, subject, unopened_line, waiting_line};
+ghost use Rattle.capdiag.specs.Complaints.{asked, complaint_line, front_text, hint_line, named, question, quoted, reason_text, subject, unopened_line, waiting_line};
 
 use crate::guesses::guess_of;
 use cap_log::buffers::put;
@@ -160,11 +160,43 @@ pub fn tell_waiting<F: Sink>(faults: &mut F)
     );
 }
 
-/// Pushes a hint. Where the sink fails it took a beginning of it.
-pub fn tell_hint<F: Sink>(hint: &str, faults: &mut F)
-    ensures told { IsPushed F.took F.faults faults.old faults.new hint.now }
+/// Pushes the line of a hint, with the name of the file if that is one of several. Where the sink fails it took a beginning of
+/// the line.
+pub fn tell_hint<F: Sink>(name: Option<&str>, hint: &str, faults: &mut F)
+    requires short { length hint.now ≤ 64 }
+    ensures told { IsPushed F.took F.faults faults.old faults.new (hint_line (option_map (λ it. it.now) name.entry) hint.now) }
 {
-    let _pushed = push_all(faults, hint.as_bytes());
+    let mut line = [0u8; 512];
+    let length = put_hint(name, hint, &mut line);
+    let _pushed = push_all(faults, &line[..length]);
+}
+
+// Writes that line at the front of a buffer, and answers its length.
+#[tactic(auto, unfolding(crate::specs::Complaints::hint_line))]
+fn put_hint(name: Option<&str>, hint: &str, buffer: &mut [u8; 512]) -> usize
+    requires short { length hint.now ≤ 64 }
+    ensures fits { result ≤ 512 }
+    ensures line { take result buffer.new ≡ hint_line (option_map (λ it. it.now) name.entry) hint.now }
+{
+    let at = put(buffer, 0, b"capdiag: ");
+    let at = put_name(buffer, at, name);
+    let at = put(buffer, at, hint.as_bytes());
+    put(buffer, at, b"\n")
+}
+
+// Writes the name of a file, if there is one.
+fn put_name(buffer: &mut [u8], at: usize, name: Option<&str>) -> usize
+    requires room { at + 260 ≤ length buffer.old }
+    ensures written { Writes at (named (option_map (λ it. it.now) name.entry)) buffer.old buffer.new result }
+    ensures fits { result ≤ at + 260 }
+{
+    match name {
+        Some(name) => {
+            let at = put_quoted(buffer, at, name);
+            put(buffer, at, b": ")
+        }
+        None => at,
+    }
 }
 
 // Writes the first 64 bytes of a word in quotes.

@@ -1,6 +1,6 @@
 //! The first bytes of an input, which tell the kinds of logs apart.
 
-ghost use Rattle.std.specs.Prelude.{◌≡◌, ◌≤◌, IfOk, option_map};
+ghost use Rattle.std.specs.Prelude.{◌≡◌, ◌≤◌, IfOk, IfSome, length, option_map};
 ghost use Rattle.capdiag.specs.Hints.{hint_for, order_on};
 
 use crate::orders::{Judging, Order};
@@ -10,7 +10,7 @@ use std::io::{self, ErrorKind, Read};
 const RUN_HEADER: &[u8; 6] = b"run 1\n";
 
 // What is told of the log of a machine.
-const OF_MACHINE: &str = "capdiag: this is a log of version 1 or 2; capdiag why judges it\n";
+const OF_MACHINE: &str = "this is a log of version 1 or 2; capdiag why judges it";
 
 /// What an order means of an input that begins with these bytes: `why` judges a run log as `run --why` does, with the
 /// owners where the origins are asked for.
@@ -41,10 +41,11 @@ pub fn order_on<'a>(order: Order<'a>, front: &[u8]) -> Order<'a>
     }
 }
 
-/// The line that names the command for a log of another kind, by the first bytes of the input; none if the report of a `no`
+/// The hint that names the command for a log of another kind, by the first bytes of the input; none if the report of a `no`
 /// says it.
 pub fn hint_for(order: Order<'_>, front: &[u8]) -> Option<&'static str>
     ensures value { option_map (λ it. it.now) result ≡ hint_for order.entry front.now }
+    ensures short { IfSome result (λ it. length it.now ≤ 64) }
 {
     let Order::Judge { judging, .. } = order else {
         return None;
@@ -54,7 +55,7 @@ pub fn hint_for(order: Order<'_>, front: &[u8]) -> Option<&'static str>
             if front == b"capche".as_slice() {
                 Some(OF_MACHINE)
             } else if front == b"heap 1".as_slice() {
-                Some("capdiag: this is the log of an allocator; capdiag heap judges it\n")
+                Some("this is the log of an allocator; capdiag heap judges it")
             } else {
                 None
             }
@@ -63,7 +64,7 @@ pub fn hint_for(order: Order<'_>, front: &[u8]) -> Option<&'static str>
             if front == b"capche".as_slice() {
                 Some(OF_MACHINE)
             } else if front == RUN_HEADER.as_slice() {
-                Some("capdiag: this is a run log; capdiag run judges it\n")
+                Some("this is a run log; capdiag run judges it")
             } else {
                 None
             }

@@ -19,6 +19,7 @@ pub use crate::complaints::{
 pub use crate::forms::{Form, Look, is_plain};
 pub use crate::fronts::{hint_for, order_on, read_front};
 pub use crate::orders::Order;
+pub use crate::renderings::name_of;
 pub use crate::runs::run;
 pub use crate::words::read_words;
 use cap_log::{Sink, WriteSink};
@@ -175,7 +176,7 @@ fn follow<R: Read + Drop, O: Write, F: Write>(
 // Tells which command judges a log of another kind, by its first bytes.
 fn tell_other_log<F: Sink>(order: Order, front: &[u8], errors: &mut F) {
     if let Some(hint) = hint_for(order, front) {
-        tell_hint(hint, errors);
+        tell_hint(name_of(files_of(order), file_of(order)), hint, errors);
     }
 }
 

@@ -13,8 +13,8 @@ use cap_log::{Sink, Source, WriteSink};
 use cap_program::Fault;
 use std::alloc::Global;
 
-// The name that is shown of a file, if there are more: that of standard input is `-`.
-fn name_of<'a>(files: u32, file: Option<&'a str>) -> Option<&'a str>
+/// The name that is shown of a file, if there are more: that of standard input is `-`.
+pub fn name_of<'a>(files: u32, file: Option<&'a str>) -> Option<&'a str>
     ensures value { option_map (λ it. it.now) result ≡ name_of files (option_map (λ it. it.now) file.entry) }
 {
     if files > 1 {
