@@ -26,7 +26,7 @@ use cap_log::{Sink, WriteSink};
 pub use cap_program::carry_out;
 use cap_program::{Fault, collect_words, exit_status, tell};
 use std::alloc::AllocError;
-use std::env;
+use std::env::{self, VarError};
 use std::fs::File;
 use std::io::{ErrorKind, IsTerminal, Read, Write};
 use std::process::ExitCode;
@@ -82,10 +82,10 @@ fn has_colors(rt: &HostRuntime) -> bool {
     if !rt.stdout().is_terminal() {
         return false;
     }
-    if let Ok(value) = env::var(rt, "NO_COLOR") {
-        if !value.is_empty() {
-            return false;
-        }
+    match env::var(rt, "NO_COLOR") {
+        Err(VarError::NotPresent) => {}
+        Ok(value) if value.is_empty() => {}
+        _ => return false,
     }
     match env::var(rt, "TERM") {
         Ok(terminal) => terminal.as_str() != "dumb",

@@ -267,13 +267,14 @@ fn at_end<'a>(asked: Asked<'a>) -> Result<Order<'a>, Wrong<'a>>
 fn with_words<'a>(asked: Asked<'a>, words: &[&'a str]) -> Result<Order<'a>, Wrong<'a>>
     ensures value { with_words (Ok (asked_of asked.entry)) (map (λ word. word.now) words.now) ≡ read_of result }
 {
-    let Some((word, words)) = words.split_first() else {
-        return at_end(asked);
-    };
-    match with_word(asked, word) {
-        Ok(asked) => with_words(asked, words),
-        Err(complaint) => Err(Wrong { complaint, word }),
+    let mut asked = asked;
+    for word in words {
+        match with_word(asked, word) {
+            Ok(next) => asked = next,
+            Err(complaint) => return Err(Wrong { complaint, word }),
+        }
     }
+    at_end(asked)
 }
 
 // Whether the words after a command ask for help.

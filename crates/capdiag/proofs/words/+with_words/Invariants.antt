@@ -1,5 +1,0 @@
-use Rattle.std.proofs.Common.{length}
-use Rattle.capdiag.proofs.words.+with_words.Given as goal
-
-abbrev pub decreases-with_words : goal.decreases-with_words
-decreases-with_words l = length l.words.now
