@@ -29,7 +29,7 @@ def spelled(word):
 # Each recipe's heading, what its example is named by, and the crate that is the example's own.
 RECIPES = [
     ("Adding a step kind", spelled("setboundsexact"), None),
-    ("Adding a version of the log", r"Two(?:Strict|Clear)|capcheck 2|Version(?: |\()2|IsVersion", None),
+    ("Adding a version of the log", r"Two(?:Strict|Clear)|capcheck 2|Version(?: |\()2|IsVersion|LogVersion", None),
     ("Adding a store", "LentStore", "tagmem_lent"),
 ]
 
