@@ -62,7 +62,7 @@ def compare_structs(header, compared):
 
 
 def compare_constants(header, compared):
-    refusals, heaps = (dict(re.findall(r"(\w+) = (\d+)", SOURCES[it])) for it in ("refusals", "heaps"))
+    refusals, heaps = (dict(re.findall(r"\b([A-Z]\w+) = (\d+)", SOURCES[it])) for it in ("refusals", "heaps"))
     constants = dict(re.findall(r"const (\w+): \w+ = (\w+);", "\n".join(SOURCES.values())))
     for name, number in header.constants.items():
         short = name.removeprefix("CAPCHECK_")
