@@ -258,9 +258,27 @@ def errors(room):
         room.wants("both full", room.run(judge, YES, full, full), (3, None, None))
 
 
+def written(terminal):
+    """All that a program wrote to a terminal whose other end is closed, with line feeds alone."""
+    text = b""
+    try:
+        while piece := os.read(terminal, 4096):
+            text += piece
+    except OSError:
+        pass
+    os.close(terminal)
+    return text.replace(b"\r\n", b"\n")
+
+
 def terminals(room):
     """A verdict has its color on a terminal, unless the environment or --json forbids it."""
     if room.program != "capdiag":
+        return
+    try:
+        for end in pty.openpty():
+            os.close(end)
+    except OSError:
+        print(f"left out: {room.program} on a terminal, since the system has no pseudo terminals", file=sys.stderr)
         return
     for given, plain, shown in ((YES, SAID_YES, b"\x1b[32myes 0 0\x1b[0m\n"), (NO, room.said_no, b"\x1b[31mno 2 6 WrongCount\x1b[0m\n")):
         shown += plain.partition(b"\n")[2]
@@ -272,8 +290,7 @@ def terminals(room):
             ours, theirs = pty.openpty()
             status, out, err = room.run(["why", *words, "log"], out=theirs, env=environment)
             os.close(theirs)
-            room.wants(f"why {words}, {names}, on a terminal", (status, os.read(ours, 4096).replace(b"\r\n", b"\n"), err), (int(given == NO), wanted, b""))
-            os.close(ours)
+            room.wants(f"why {words}, {names}, on a terminal", (status, written(ours), err), (int(given == NO), wanted, b""))
     ours, theirs = pty.openpty()
     os.write(ours, YES + b"\x04")
     told = b"capdiag: reading a log from the terminal; Ctrl-D ends it\n"
