@@ -1,10 +1,12 @@
 -- What the program says of words that spell no order, of a file that cannot be opened, and where it waits for a terminal. All of it is this profile's
 -- own.
 use Rattle.std.specs.Prelude.{ℕ, List, [], ◌++◌, Option, Some, None, take, codes}
+use Rattle.cap_json.specs.declared.rows.LogKind.{LogKind}
 use Rattle.cap_texts.specs.ShownBytes.{shown}
 use Rattle.capdiag.specs.declared.complaints.Complaint.{Complaint}
 use Rattle.capdiag.specs.declared.complaints.Complaint.TheVariants.{NoCommand, UnknownCommand, UnknownOption, NoValue}
 use Rattle.capdiag.specs.declared.complaints.Complaint.TheVariants.{UnknownValue, NoCount, UnknownCount, Twice, Alone}
+use Rattle.capdiag.specs.Hints.{hint_text}
 use Rattle.capdiag.specs.declared.complaints.Unopened.{Unopened}
 use Rattle.capdiag.specs.declared.complaints.Unopened.TheVariants.{Missing, Denied, Directory, Through, Long, Circle, Other}
 
@@ -66,5 +68,5 @@ abbrev pub named : Option (List ℕ) → List ℕ
 named None = []
 named (Some name) = quoted name ++ codes ": "
 
-unfoldable pub hint_line : Option (List ℕ) → List ℕ → List ℕ
-hint_line name hint = codes "capdiag: " ++ named name ++ hint ++ codes "\n"
+unfoldable pub hint_line : Option (List ℕ) → LogKind → List ℕ
+hint_line name kind = codes "capdiag: " ++ named name ++ hint_text kind ++ codes "\n"

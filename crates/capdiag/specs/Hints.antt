@@ -1,5 +1,6 @@
 -- What an order means of an input by its first bytes, and which other command they ask for. All of it is this profile's own.
 use Rattle.std.specs.Prelude.{ℕ, true, false, List, codes, bytes_eq, if◌then◌else◌, Option, Some, None}
+use Rattle.cap_json.specs.declared.rows.LogKind.{LogKind, TheVariants.{Machine as OfMachine, Heap as OfHeap, Run as OfRun}}
 use Rattle.capdiag.specs.declared.orders.{Order.{Order, TheVariants.Judge}, Judging.TheVariants.{Why, Heap, Run}}
 
 -- an order on an input that begins with these bytes: `why` judges a run log as `run --why` does, with the owners if the
@@ -9,18 +10,16 @@ order_on (Judge (Why origins) form file files) front =
     if bytes_eq front (codes "run 1\n") then Judge (Run None false origins true) form file files else Judge (Why origins) form file files
 order_on order front = order
 
--- the hint that names the command for a log of another kind, by the first bytes of the input; none if the report of a no
--- says it
-abbrev pub machine_hint : List ℕ
-machine_hint = codes "this is a log of version 1 or 2; capdiag why judges it"
+-- the kind of a log that another command judges, by the first bytes of the input; none if the report of a no says it
+abbrev pub other_kind : Order → List ℕ → Option LogKind
+other_kind (Judge (Run freed owned owners false) form file files) front =
+    if bytes_eq front (codes "capche") then Some OfMachine else if bytes_eq front (codes "heap 1") then Some OfHeap else None
+other_kind (Judge (Heap report false) form file files) front =
+    if bytes_eq front (codes "capche") then Some OfMachine else if bytes_eq front (codes "run 1\n") then Some OfRun else None
+other_kind order front = None
 
-abbrev pub hint_for : Order → List ℕ → Option (List ℕ)
-hint_for (Judge (Run freed owned owners false) form file files) front =
-    if bytes_eq front (codes "capche") then Some machine_hint
-    else if bytes_eq front (codes "heap 1") then Some (codes "this is the log of an allocator; capdiag heap judges it")
-    else None
-hint_for (Judge (Heap report false) form file files) front =
-    if bytes_eq front (codes "capche") then Some machine_hint
-    else if bytes_eq front (codes "run 1\n") then Some (codes "this is a run log; capdiag run judges it")
-    else None
-hint_for order front = None
+-- what is told of it
+abbrev pub hint_text : LogKind → List ℕ
+hint_text OfMachine = codes "this is a log of version 1 or 2; capdiag why judges it"
+hint_text OfHeap = codes "this is the log of an allocator; capdiag heap judges it"
+hint_text OfRun = codes "this is a run log; capdiag run judges it"

@@ -3,10 +3,11 @@
 ghost use Rattle.std.specs.Prelude.{◌≡◌, ◌+◌, ◌≤◌, length, map, option_map, take};
 ghost use Rattle.cap_streams.specs.Written.{Writes};
 ghost use Rattle.cap_program.specs.Doings.{IsPushed};
-ghost use Rattle.capdiag.specs.Guesses.{guess_of};
+ghost use Rattle.capdiag.specs.{Guesses.guess_of, Hints.hint_text};
 ghost use Rattle.capdiag.specs.Complaints.{asked, complaint_line, front_text, hint_line, named, question, quoted, reason_text, subject, unopened_line, waiting_line};
 
 use crate::guesses::guess_of;
+use cap_json::LogKind;
 use cap_log::buffers::put;
 use cap_log::{Sink, push_all};
 use cap_texts::shown_bytes::put_shown;
@@ -160,28 +161,38 @@ pub fn tell_waiting<F: Sink>(faults: &mut F)
     );
 }
 
-/// Pushes the line of a hint, with the name of the file if that is one of several. Where the sink fails it took a beginning of
-/// the line.
-pub fn tell_hint<F: Sink>(name: Option<&str>, hint: &str, faults: &mut F)
-    requires short { length hint.now ≤ 64 }
-    ensures told { IsPushed F.took F.faults faults.old faults.new (hint_line (option_map (λ it. it.now) name.entry) hint.now) }
+/// Pushes the line that names the command for a log of another kind, with the name of its file if that is one of several. Where
+/// the sink fails it took a beginning of the line.
+pub fn tell_hint<F: Sink>(name: Option<&str>, kind: LogKind, faults: &mut F)
+    ensures told { IsPushed F.took F.faults faults.old faults.new (hint_line (option_map (λ it. it.now) name.entry) kind) }
 {
     let mut line = [0u8; 512];
-    let length = put_hint(name, hint, &mut line);
+    let length = put_hint(name, kind, &mut line);
     let _pushed = push_all(faults, &line[..length]);
 }
 
 // Writes that line at the front of a buffer, and answers its length.
 #[tactic(auto, unfolding(crate::specs::Complaints::hint_line))]
-fn put_hint(name: Option<&str>, hint: &str, buffer: &mut [u8; 512]) -> usize
-    requires short { length hint.now ≤ 64 }
+fn put_hint(name: Option<&str>, kind: LogKind, buffer: &mut [u8; 512]) -> usize
     ensures fits { result ≤ 512 }
-    ensures line { take result buffer.new ≡ hint_line (option_map (λ it. it.now) name.entry) hint.now }
+    ensures line { take result buffer.new ≡ hint_line (option_map (λ it. it.now) name.entry) kind }
 {
     let at = put(buffer, 0, b"capdiag: ");
     let at = put_name(buffer, at, name);
-    let at = put(buffer, at, hint.as_bytes());
+    let at = put(buffer, at, hint_text(kind));
     put(buffer, at, b"\n")
+}
+
+// What is told of a log of this kind.
+fn hint_text(kind: LogKind) -> &'static [u8]
+    ensures text { result.now ≡ hint_text kind }
+    ensures short { length result.now ≤ 64 }
+{
+    match kind {
+        LogKind::Machine => b"this is a log of version 1 or 2; capdiag why judges it",
+        LogKind::Heap => b"this is the log of an allocator; capdiag heap judges it",
+        LogKind::Run => b"this is a run log; capdiag run judges it",
+    }
 }
 
 // Writes the name of a file, if there is one.

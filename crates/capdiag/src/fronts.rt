@@ -1,16 +1,14 @@
 //! The first bytes of an input, which tell the kinds of logs apart.
 
-ghost use Rattle.std.specs.Prelude.{◌≡◌, ◌≤◌, IfOk, IfSome, length, option_map};
-ghost use Rattle.capdiag.specs.Hints.{hint_for, order_on};
+ghost use Rattle.std.specs.Prelude.{◌≡◌, ◌≤◌, IfOk};
+ghost use Rattle.capdiag.specs.Hints.{order_on, other_kind};
 
 use crate::orders::{Judging, Order};
+use cap_json::LogKind;
 use std::io::{self, ErrorKind, Read};
 
 // The first line of a run log, with its line feed.
 const RUN_HEADER: &[u8; 6] = b"run 1\n";
-
-// What is told of the log of a machine.
-const OF_MACHINE: &str = "this is a log of version 1 or 2; capdiag why judges it";
 
 /// What an order means of an input that begins with these bytes: `why` judges a run log as `run --why` does, with the
 /// owners where the origins are asked for.
@@ -41,11 +39,9 @@ pub fn order_on<'a>(order: Order<'a>, front: &[u8]) -> Order<'a>
     }
 }
 
-/// The hint that names the command for a log of another kind, by the first bytes of the input; none if the report of a `no`
-/// says it.
-pub fn hint_for(order: Order<'_>, front: &[u8]) -> Option<&'static str>
-    ensures value { option_map (λ it. it.now) result ≡ hint_for order.entry front.now }
-    ensures short { IfSome result (λ it. length it.now ≤ 64) }
+/// The kind of a log that another command judges, by the first bytes of the input; none if the report of a `no` says it.
+pub fn other_kind(order: Order<'_>, front: &[u8]) -> Option<LogKind>
+    ensures value { result ≡ other_kind order.entry front.now }
 {
     let Order::Judge { judging, .. } = order else {
         return None;
@@ -53,18 +49,18 @@ pub fn hint_for(order: Order<'_>, front: &[u8]) -> Option<&'static str>
     match judging {
         Judging::Run { why: false, .. } => {
             if front == b"capche".as_slice() {
-                Some(OF_MACHINE)
+                Some(LogKind::Machine)
             } else if front == b"heap 1".as_slice() {
-                Some("this is the log of an allocator; capdiag heap judges it")
+                Some(LogKind::Heap)
             } else {
                 None
             }
         }
         Judging::Heap { why: false, .. } => {
             if front == b"capche".as_slice() {
-                Some(OF_MACHINE)
+                Some(LogKind::Machine)
             } else if front == RUN_HEADER.as_slice() {
-                Some("this is a run log; capdiag run judges it")
+                Some(LogKind::Run)
             } else {
                 None
             }

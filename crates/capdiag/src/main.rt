@@ -17,7 +17,7 @@ pub use crate::complaints::{
     Complaint, Unopened, Wrong, tell_hint, tell_unopened, tell_waiting, tell_words,
 };
 pub use crate::forms::{Form, Look, is_plain};
-pub use crate::fronts::{hint_for, order_on, read_front};
+pub use crate::fronts::{order_on, other_kind, read_front};
 pub use crate::orders::Order;
 pub use crate::renderings::name_of;
 pub use crate::runs::run;
@@ -175,8 +175,8 @@ fn follow<R: Read + Drop, O: Write, F: Write>(
 
 // Tells which command judges a log of another kind, by its first bytes.
 fn tell_other_log<F: Sink>(order: Order, front: &[u8], errors: &mut F) {
-    if let Some(hint) = hint_for(order, front) {
-        tell_hint(name_of(files_of(order), file_of(order)), hint, errors);
+    if let Some(kind) = other_kind(order, front) {
+        tell_hint(name_of(files_of(order), file_of(order)), kind, errors);
     }
 }
 
