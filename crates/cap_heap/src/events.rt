@@ -22,7 +22,7 @@ pub enum Event {
 /// Why an event did not happen.
 #[derive(Clone, Copy, Debug, PartialEq, Eq)]
 pub enum EventEnd {
-    /// A test refuses it.
+    /// A check refuses it.
     Refused(HeapRefusal),
     /// There was no memory for a new object.
     NoMemory,

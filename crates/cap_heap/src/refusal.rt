@@ -2,7 +2,7 @@
 
 ghost use Rattle.std.specs.Prelude.{◌≡◌, ◌≤◌, length};
 
-/// Why an allocator's log is refused: the first test that a line fails. The numbers and names are this
+/// Why an allocator's log is refused: the first check that a line fails. The numbers and names are this
 /// profile's own, and the first seven are those of the log of operations.
 #[derive(Debug, Clone, Copy, PartialEq, Eq)]
 pub enum HeapRefusal {

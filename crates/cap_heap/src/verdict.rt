@@ -16,7 +16,7 @@ pub enum HeapVerdict {
     No {
         /// The number of the faulty line, from 1 on.
         line: u64,
-        /// The first test that this line fails.
+        /// The first check that this line fails.
         refusal: HeapRefusal,
     },
 }

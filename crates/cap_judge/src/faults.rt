@@ -12,7 +12,7 @@ use cap_streams::judging::FaultLine;
 pub struct RefusedLine {
     /// Its number, from 1 on.
     pub line: u64,
-    /// The first test that it fails.
+    /// The first check that it fails.
     pub refusal: Refusal,
     /// Its bytes.
     pub text: FaultLine,

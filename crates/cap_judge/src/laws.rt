@@ -45,7 +45,7 @@ pub fn other_bytes_are_of_version_one()
 {}
 
 /// A beginning of a log is accepted exactly where its lines are in range and each is allowed in its turn: no
-/// test of a line holds in what the lines before it lead to.
+/// check of a line fails in what the lines before it lead to.
 pub fn accepted_in_turn()
     ensures law { (beginning : Beginning) → IsAccepted beginning
         ↔ (AllByRecursion IsInRange (lines_of beginning) × ((stage : Stage) × Reads unread (lines_of beginning) stage)) }

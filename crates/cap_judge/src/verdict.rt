@@ -22,7 +22,7 @@ pub enum Verdict {
     No {
         /// The number of the faulty line, from 1 on.
         line: u64,
-        /// The first test that this line fails.
+        /// The first check that this line fails.
         refusal: Refusal,
     },
 }

@@ -3,6 +3,7 @@ mod Decimals
 pub mod DecidedLines
 pub mod ElementLemmas
 mod FewLemmas
+mod FourDigits
 mod OffsetLemmas
 pub mod OperandLemmas
 pub mod PartLemmas

@@ -260,7 +260,7 @@ impl<M: TaggedStore> Machine<M> {
         Ok(())
     }
 
-    // The first test that refuses a root.
+    // The first check that refuses a root.
     fn root_fault(&self, place: Place, word: Word) -> Option<Refusal>
         requires { IsPlace place }
         ensures { result ≡ first_of (root_checks (account_of self.now) place word) }

@@ -64,7 +64,7 @@ pub struct Reached {
 /// What the rules give for the result that a line records.
 #[derive(Debug, Clone, Copy, PartialEq, Eq)]
 pub enum Given {
-    /// Nothing: the line records none, or a test refuses the load of a number.
+    /// Nothing: the line records none, or a check refuses the load of a number.
     Nothing,
     /// A capability.
     Capability {

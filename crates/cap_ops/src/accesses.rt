@@ -40,7 +40,7 @@ fn is_aligned(address: u64, access: Access) -> bool
     address & u64::from(access.size - 1) == 0
 }
 
-/// The first test that refuses an access after those of its authority: of its address, and of what it stores.
+/// The first check that refuses an access after those of its authority: of its address, and of what it stores.
 #[inline(always)]
 fn other_fault(authority: Word, access: Access, address: u64) -> Option<OpFault>
     ensures { option_map refusal_of result
@@ -72,7 +72,7 @@ fn target_of(authority: Word, offset: i16) -> u64
     authority.address().wrapping_add_signed(i64::from(offset))
 }
 
-/// The first test of an authority that refuses an access to these bytes.
+/// The first check of an authority that refuses an access to these bytes.
 fn authority_fault(
     tag: bool,
     word: Word,
@@ -97,7 +97,7 @@ fn authority_fault(
     }
 }
 
-/// The first test that refuses an access at an address.
+/// The first check that refuses an access at an address.
 #[tactic(auto, unfolding(crate::specs::Accesses::access_checks))]
 #[inline(always)]
 fn access_fault(authority: Cap, access: Access, address: u64) -> Option<OpFault>
@@ -134,7 +134,7 @@ pub fn may_access(authority: Cap, access: Access) -> Result<u64, OpFault>
     )
 }
 
-/// The answer to both, by the first test that refuses the access.
+/// The answer to both, by the first check that refuses the access.
 #[inline(always)]
 fn answer(
     authority: Cap,

@@ -28,7 +28,7 @@ fn replace_address(word: Word, address: u64) -> Word
     Word(((word.0 >> 64) << 64) + u128::from(address))
 }
 
-/// The first test that refuses a new address.
+/// The first check that refuses a new address.
 #[tactic(auto, unfolding(crate::specs::Operations::set_addr_checks))]
 #[inline(always)]
 fn set_addr_fault(source: Cap, address: u64) -> Option<OpFault>

@@ -5,7 +5,7 @@ ghost use Rattle.cap_ops.specs.Permissions.{has_permission, with_perms, with_typ
 
 use cap_word::Word;
 
-// The numbers of the permissions that operations test, alike in the architectural view and in the field.
+// The numbers of the permissions that operations check, alike in the architectural view and in the field.
 
 /// The number of the bit that says that a capability is global.
 pub const GLOBAL: u32 = 0;

@@ -2,7 +2,7 @@
 
 use crate::refusal::Refusal;
 
-/// The test that refuses an operation or an access.
+/// The check that refuses an operation or an access.
 #[derive(Debug, Clone, Copy, PartialEq, Eq)]
 pub enum OpFault {
     /// The source of a sealing or an unsealing has no tag.

@@ -59,7 +59,7 @@ fn permitted(source: Cap, length: u64, exact: bool) -> Result<Rounded, OpFault>
 /// CSetBoundsExact).
 ///
 /// A tagged source is refused where it is sealed, then where the rounded bounds do not lie inside its own,
-/// then where they are to be exact and are not. For a sound source the second test is that of the
+/// then where they are to be exact and are not. For a sound source the second check is that of the
 /// instruction: the requested bounds do not lie inside its own.
 #[inline(always)]
 pub fn set_bounds(source: Cap, length: u64, exact: bool) -> Result<Cap, OpFault>

@@ -37,7 +37,7 @@ pub fn clear_tag(source: Cap) -> Cap
     }
 }
 
-/// The first test that refuses to take permissions from a source.
+/// The first check that refuses to take permissions from a source.
 #[tactic(auto, unfolding(crate::specs::Operations::and_perm_checks))]
 fn and_perm_fault(source: Cap) -> Option<OpFault>
     ensures { option_map refusal_of result ≡ first_of (and_perm_checks source) }

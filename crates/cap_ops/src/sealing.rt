@@ -35,7 +35,7 @@ fn holds(word: Word, address: u64) -> bool
     bounds(word).holds(address)
 }
 
-/// The first test that refuses an authority for object types.
+/// The first check that refuses an authority for object types.
 #[inline(always)]
 fn authority_fault(authority: Cap, permission: u32) -> Option<OpFault>
     requires { permission < 12 }
@@ -55,7 +55,7 @@ fn authority_fault(authority: Cap, permission: u32) -> Option<OpFault>
     }
 }
 
-/// The first test that refuses a sealing.
+/// The first check that refuses a sealing.
 #[tactic(auto, unfolding(crate::specs::Operations::seal_checks))]
 #[inline(always)]
 fn seal_fault(source: Cap, authority: Cap) -> Option<OpFault>
@@ -90,7 +90,7 @@ pub(crate) fn with_authority_type(source: Cap, authority: Cap) -> Cap
 
 /// Seals the source with the authority's address as its object type (CSeal).
 ///
-/// The tests come in this order: the authority is tagged, unsealed, has Seal, holds its own address in its
+/// The checks come in this order: the authority is tagged, unsealed, has Seal, holds its own address in its
 /// bounds, and that address is at most `0x3fffb`; the source is tagged and unsealed.
 #[inline(always)]
 pub fn seal(source: Cap, authority: Cap) -> Result<Cap, OpFault>
@@ -114,7 +114,7 @@ fn sealed_with(word: Word, address: u64) -> bool
     u64::from(object_type) == address && object_type <= GREATEST_TYPE
 }
 
-/// The first test that refuses an unsealing.
+/// The first check that refuses an unsealing.
 #[tactic(auto, unfolding(crate::specs::Operations::unseal_checks))]
 #[inline(always)]
 fn unseal_fault(source: Cap, authority: Cap) -> Option<OpFault>
@@ -158,7 +158,7 @@ pub(crate) fn without_type(source: Cap, authority: Cap) -> Cap
 /// Unseals the source, which is sealed with the authority's address (CUnseal). The result is global only
 /// where both are.
 ///
-/// The tests come in this order: the authority is tagged, unsealed, has Unseal, and holds its own address
+/// The checks come in this order: the authority is tagged, unsealed, has Unseal, and holds its own address
 /// in its bounds; the source is tagged, and its object type is that address and not reserved.
 #[inline(always)]
 pub fn unseal(source: Cap, authority: Cap) -> Result<Cap, OpFault>

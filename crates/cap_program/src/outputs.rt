@@ -1,4 +1,4 @@
-//! If the text of an order goes.
+//! Sinks that keep bytes back, and texts that are shown on them.
 
 ghost use Rattle.std.specs.Prelude.{◌≡◌, ℕ, Bool, true, [], take, IfOk, IfErr, OnOk, Ok, Err};
 ghost use Rattle.cap_streams.specs.{Streams.CountsFault, Wrapped.has_flushed};

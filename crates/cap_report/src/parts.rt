@@ -33,7 +33,7 @@ pub enum ReportPart {
     Needs(u32),
     /// What the rules give for a place, without a tag if a check fails.
     Gives(Place, Cap),
-    /// The test for which it has none.
+    /// The check for which it has none.
     Cleared(Refusal),
     /// What the line records.
     Recorded(Place, Cap),

@@ -198,7 +198,7 @@ fn put_given(given: Given, buffer: &mut [u8], at: usize) -> usize
     }
 }
 
-// Writes the result that the rules give, the test for which it has no tag, the recorded result, and in which
+// Writes the result that the rules give, the check for which it has no tag, the recorded result, and in which
 // fields the two differ.
 fn put_compared(
     buffer: &mut [u8],

@@ -4,7 +4,7 @@
 //! A [`RunMachine`] is the machine of `cap_machine` with special registers beside it, and with the objects that were
 //! handed out. An object owns places: the one whose capability it was made from, and those whose capabilities descend
 //! from it. At no moment does an address lie in what two capabilities of different objects reach
-//! ([`RunMachine::kept`]).
+//! ([`RunMachine::kept`]); without [`Asks::held`], in what those of two live objects reach.
 #![tactic(auto)]
 
 mod alone_puts;

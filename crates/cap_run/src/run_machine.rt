@@ -53,7 +53,8 @@ impl<M: TaggedStore> RunMachine<M> {
     }
 
     /// What is true at each moment: no address lies in the extents of two present objects, nor in what two capabilities of
-    /// two of them reach. It does nothing: what it says is its contract.
+    /// two of them reach. If [`Asks::held`] is false, that holds of live objects alone. It does nothing: what it says is its
+    /// contract.
     pub fn kept(&self)
         ensures safe { IsSafe self.now.asks.held (numbered_run self.now.machine self.now.specials self.now.objects) }
     {

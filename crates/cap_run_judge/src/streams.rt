@@ -18,7 +18,8 @@ use std::alloc::Global;
 use tagmem::{PageStore, TaggedStore};
 
 /// Judges the bytes of a run log. It is `Yes` exactly for a run log of whose lines no check fails, and otherwise `No`
-/// with the first faulty line. After each line no address lies in what capabilities of two objects reach.
+/// with the first faulty line. After each line no address lies in what capabilities of two objects reach; without
+/// [`Asks::held`], in what those of two live objects reach.
 pub fn judge_run_bytes(alloc: Global, asks: Asks, bytes: &[u8]) -> Result<RunVerdict, JudgeFault>
     ensures verdict { IfOk result (IsRunVerdict asks bytes.now) }
 

@@ -1,5 +1,6 @@
 //! Explains why a log was rejected: judges it, and after a `no` reports what the machine held before the faulty line.
-//! Also judges the log of an allocator: whether capabilities can guard its objects.
+//! Also judges the log of a whole program's run with its objects, and that of an allocator: whether capabilities can
+//! guard its objects.
 #![tactic(auto)]
 
 mod complaints;

@@ -72,6 +72,11 @@ fn front_digits(bytes: &[u8], most: usize) -> (u64, usize)
     requires { most ≤ 10 }
     ensures front { IsFrontNumber most bytes.now result.0 result.1 }
 {
+    if most == 4 {
+        if let Some((front, _)) = bytes.split_first_chunk::<4>() {
+            return four_digits(front);
+        }
+    }
     if most < bytes.len() {
         digits_within(bytes, most)
     } else {
@@ -103,4 +108,24 @@ fn digits_within(bytes: &[u8], most: usize) -> (u64, usize)
         value = value * 10 + u64::from(bytes[index] - b'0');
     }
     (value, most)
+}
+
+// What moves so many digits at the front of four bytes to their end.
+const SHIFTS: [u32; 5] = [0, 1 << 24, 1 << 16, 1 << 8, 1];
+
+// The same of four bytes, taken as one number: without a branch on how many are digits, which is seldom guessed right.
+#[inline(always)]
+fn four_digits(front: &[u8; 4]) -> (u64, usize)
+    ensures front { IsFrontNumber 4 front.now result.0 result.1 }
+{
+    // Each byte that is a digit is its value, and each other one is more than 9.
+    let values = u32::from_le_bytes(*front) ^ 0x3030_3030;
+    // The highest bit of each byte is set if it is no digit, up to the first such byte. What follows that has no meaning.
+    let wide = u64::from(values);
+    let others = (wide + 0x7676_7676 | wide) & 0x8080_8080;
+    let count = ((others | 1 << 39).trailing_zeros() / 8) as usize;
+    // The digits as the last bytes, with zeros before them; then pairs of them, in every second byte.
+    let digits = values.wrapping_mul(SHIFTS[count]);
+    let pairs = ((u64::from(digits) * 2561) >> 8).to_le_bytes();
+    (100 * u64::from(pairs[0]) + u64::from(pairs[2]), count)
 }

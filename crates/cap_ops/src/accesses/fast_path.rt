@@ -36,7 +36,7 @@ fn fault_anew(
     authority_fault(tag, word, permission, address, size)
 }
 
-/// The first test that refuses an access at an address through an authority that is sound if it is tagged. Most accesses
+/// The first check that refuses an access at an address through an authority that is sound if it is tagged. Most accesses
 /// are through the recent authority.
 #[tactic(auto, unfolding(crate::specs::Accesses::access_checks))]
 #[inline(always)]
