@@ -11,10 +11,11 @@ use crate::recorded::{Derived, glance};
 use cap_log::kinds::{AndPerm, ClearTag, Move, SetAddr};
 use cap_log::{Head, Part};
 use cap_machine::{ByKind, Instruction, Machine, StepEnd, by_head, perform_ended};
+use cap_streams::LINE_LIMIT;
 use tagmem::TaggedStore;
 
 // The most bytes that a line has, with its line feed.
-const MOST_BYTES: usize = 96;
+const MOST_BYTES: usize = LINE_LIMIT + 1;
 
 // The most bytes that a head has, with the space after it.
 const MOST_HEAD_BYTES: usize = 15;

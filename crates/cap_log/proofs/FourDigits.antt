@@ -21,11 +21,14 @@ flags add mask x = bit_and (bit_or (x + add) x) mask
 digit-is : (b : ℕ) → b < 256 → value b < 10 → (48 ≤ b) × (b ≤ 57) × (b - 48 ≡ value b)
 digit-is b lt small =
     let both = and_parts _ _ (sym (agree_below_at (λ n. ltb (value n) 10) (λ n. leb 48 n && leb n 57) 256 b refl lt) ∙ lt-ltb _ _ small) in
-    let same = agree_below_at (λ n. leb 10 (value n) || eqb (n - 48) (value n)) (λ _. true) 256 b refl lt in
-    (leb-true _ _ both.0, leb-true _ _ both.1, elim (or_cases (leb 10 (value b)) (eqb (b - 48) (value b)) same) [
-      | inl over ↦ absurd (omega (arith, leb-true 10 (value b) over))
-      | inr is ↦ eqb-true _ _ is
-    ])
+    let same = agree_below_at (λ n. leb 10 (value n) || eqb (n - 48) (value n)) (λ _. true) 256 b refl lt in (
+      leb-true _ _ both.0,
+      leb-true _ _ both.1,
+      elim (or_cases (leb 10 (value b)) (eqb (b - 48) (value b)) same) [
+        | inl over ↦ absurd (omega (arith, leb-true 10 (value b) over))
+        | inr is ↦ eqb-true _ _ is
+      ],
+    )
 
 no_digit : (b : ℕ) → b < 256 → 10 ≤ value b → 48 ≤ b → b ≤ 57 → ⊥
 no_digit b lt great low high =
@@ -65,8 +68,7 @@ flags-digit x more add mask small =
 flags-other : (x more add mask : ℕ) → 10 ≤ x → x < 256
     → (z : ℕ) × (flags (118 + 256 * add) (128 + 256 * mask) (x + 256 * more) ≡ 256 * z + 128)
 flags-other x more add mask great lt =
-    let carry = (x + 118) / 256 in
-    (
+    let carry = (x + 118) / 256 in (
       bit_and (bit_or (more + add + carry) more) mask,
       flags-step ((x + 118) % 256) carry x more add mask (omega arith) lt (omega arith)
           ∙ ap (λ (s : ℕ). 256 * bit_and (bit_or (more + add + carry) more) mask + s) (set x great lt),

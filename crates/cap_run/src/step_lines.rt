@@ -8,10 +8,11 @@ use crate::ends::RunEnd;
 use crate::run_machine::RunMachine;
 use cap_log::{Head, Part};
 use cap_machine::{ByKind, Instruction, by_head};
+use cap_streams::LINE_LIMIT;
 use tagmem::TaggedStore;
 
 // The most bytes that a line has, with its line feed.
-const MOST_BYTES: usize = 96;
+const MOST_BYTES: usize = LINE_LIMIT + 1;
 
 impl<M: TaggedStore> RunMachine<M> {
     /// Takes the lines of steps of version 2 at the front of some bytes, as long as a line of any length has room: what

@@ -22,12 +22,12 @@ use cap_machine::{Refusal, Rules};
 use cap_run::{Asks, RunEnd, RunMachine, RunRefusal};
 use cap_run_log::{RunLine, take_derive, take_exchange, take_run_line};
 use cap_streams::judging::FaultLine;
-use cap_streams::{Front, front};
+use cap_streams::{Front, LINE_LIMIT, front};
 use std::alloc::Global;
 use tagmem::TaggedStore;
 
 // The most bytes that a line has, with its line feed.
-const MOST_BYTES: usize = 96;
+const MOST_BYTES: usize = LINE_LIMIT + 1;
 
 /// What the next line of a run log has to be.
 #[derive(Drop)]

@@ -46,7 +46,7 @@ pub fn take_decimal<const MOST: usize, const LEAST: u64, const BOUND: u64>(
     if count >= bytes.len() {
         return None;
     }
-    if !is_number(
+    if !is_number::<LEAST>(
         bytes[0],
         count,
         bytes[count] == end,
@@ -58,12 +58,17 @@ pub fn take_decimal<const MOST: usize, const LEAST: u64, const BOUND: u64>(
 }
 
 // Whether so many digits, of which this is the first, are a number's, where the byte after them ends it or
-// not, and it lies in its range or not.
+// not, and it lies in its range or not. In a range without 0 no number has 0 as its first digit.
 #[inline(always)]
-fn is_number(first: u8, count: usize, is_ended: bool, is_in_range: bool) -> bool
+fn is_number<const LEAST: u64>(first: u8, count: usize, is_ended: bool, is_in_range: bool) -> bool
+    requires above_0 { 0 < LEAST → IsTrue is_in_range → (0 < count) × (first ≡ 48 → count ≡ 1 → ⊥) }
     ensures { IsTrue result ↔ (0 < count) × IsTrue is_ended × IsTrue is_in_range × ((first ≡ 48) → (count ≡ 1)) }
 {
-    count > 0 && is_ended && is_in_range && (first != b'0' || count == 1)
+    if LEAST > 0 {
+        is_ended && is_in_range && first != b'0'
+    } else {
+        count > 0 && is_ended && is_in_range && (first != b'0' || count == 1)
+    }
 }
 
 // The number that the digits at the front spell, so many at most, and how many they are.

@@ -1,7 +1,7 @@
 //! Offsets of accesses, from -2048 to 2047.
 
-ghost use Rattle.std.specs.{Prelude.{◌≡◌, MatchOption}, Fmt.signed_decimal};
-ghost use Rattle.cap_log.specs.{Ranges.IsOffset, SpacelessLaws.offset-spaceless};
+ghost use Rattle.std.specs.{Prelude.{◌≡◌, ◌<◌, IfNone, IfSome, MatchOption, decimal}, Fmt.signed_decimal};
+ghost use Rattle.cap_log.specs.{Parts.{Begins, BeginsWithNone}, Ranges.IsOffset, SpacelessLaws.offset-spaceless};
 
 use crate::buffers::{put, put_few};
 use crate::parts::decimals::take_decimal;
@@ -59,14 +59,9 @@ impl Part for Offset {
 
     #[inline(always)]
     fn take(bytes: &[u8], end: u8) -> Option<(Offset, &[u8])> {
-        // One digit is the most usual: it and its end are compared as one number.
-        if let Some((front, rest)) = bytes.split_first_chunk::<2>() {
-            let word = u16::from_le_bytes(*front);
-            let digit = word.wrapping_sub(u16::from_le_bytes([b'0', end]));
-            if digit < 10 {
-                let number = digit as i16;
-                return Some((Offset { number }, rest));
-            }
+        if let Some((digit, rest)) = take_digit(bytes, end) {
+            let number = i16::from(digit);
+            return Some((Offset { number }, rest));
         }
         let (first, digits) = bytes.split_first()?;
         if *first == b'-' {
@@ -74,7 +69,7 @@ impl Part for Offset {
             let number = -(number as i16);
             return Some((Offset { number }, rest));
         }
-        let (number, rest) = take_decimal::<4, 0, 2048>(bytes, end)?;
+        let (number, rest) = take_decimal::<4, 10, 2048>(bytes, end)?;
         let number = number as i16;
         Some((Offset { number }, rest))
     }
@@ -92,4 +87,20 @@ impl Part for Offset {
 
 impl Single for Offset {
     ghost spaceless = { offset-spaceless };
+}
+
+// Takes a number of one digit, which is the most usual, and its end, compared as one number.
+#[inline(always)]
+fn take_digit(bytes: &[u8], end: u8) -> Option<(u8, &[u8])>
+    ensures some { IfSome result (λ p. Begins (λ n. n < 10) decimal end bytes.now p.0 p.1.now) }
+    ensures none { IfNone result (BeginsWithNone (λ n. n < 10) decimal end bytes.now) }
+{
+    let (front, rest) = bytes.split_first_chunk::<2>()?;
+    let word = u16::from_le_bytes(*front);
+    let digit = word.wrapping_sub(u16::from_le_bytes([b'0', end]));
+    if digit < 10 {
+        Some((digit as u8, rest))
+    } else {
+        None
+    }
 }
