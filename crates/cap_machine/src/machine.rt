@@ -717,14 +717,6 @@ fn number_from(bytes: &[u8; 16], byte_index: u8, size: Size) -> u64
     ensures { result ≡ number_at bytes.now byte_index size }
 {
     let rest = u128::from_le_bytes(*bytes) >> (8 * u32::from(byte_index));
-    let size = size.bytes();
-    if size == 1 {
-        (rest & 0xff) as u64
-    } else if size == 2 {
-        (rest & 0xffff) as u64
-    } else if size == 4 {
-        (rest & 0xffff_ffff) as u64
-    } else {
-        (rest & 0xffff_ffff_ffff_ffff) as u64
-    }
+    let mask = u64::MAX >> (64 - 8 * u32::from(size.bytes()));
+    (rest & u128::from(mask)) as u64
 }

@@ -15,5 +15,5 @@ pub use crate::digits::number_text;
 pub use crate::fields::Fields;
 pub use crate::layout::{join, split};
 pub use crate::memory::{from_memory, to_memory};
-pub use crate::text::{read_u64, read_word, take_bytes, take_u64, word_text};
+pub use crate::text::{read_u64, read_word, take_bytes, word_text};
 pub use crate::word::{Cap, Word, null};

@@ -39,16 +39,6 @@ pub fn word_text(word: Word) -> [u8; 32]
     text
 }
 
-/// Takes a number of 64 bits from the front of some bytes: its sixteen lower-case hexadecimal digits, most
-/// significant first, and what follows them. It is `None` where no such digits stand there.
-#[inline(always)]
-pub fn take_u64(bytes: &[u8]) -> Option<(u64, &[u8])>
-    ensures some { IfSome result (λ p. bytes.now ≡ hex_digits 16 p.0 ++ p.1.now) }
-    ensures none { IfNone result ((n : ℕ) (rest : List ℕ) → n < 2 ^ 64 → bytes.now ≡ hex_digits 16 n ++ rest → ⊥) }
-{
-    take_bytes(bytes, 8)
-}
-
 /// Reads a number of 64 bits from sixteen lower-case hexadecimal digits, most significant first.
 /// Anything else is `None`.
 #[inline(always)]
@@ -60,7 +50,7 @@ pub fn read_u64(text: &[u8]) -> Option<u64>
     ensures digits { IsSome result ↔ AreHexDigits 16 text.now }
     ensures reads_back { (n : ℕ) → n < 2 ^ 64 → text.now ≡ hex_digits 16 n → result ≡ Some n }
 {
-    let (number, rest) = take_u64(text)?;
+    let (number, rest) = take_bytes(text, 8)?;
     if rest.is_empty() { Some(number) } else { None }
 }
 

@@ -10,7 +10,7 @@ ghost use Rattle.cap_streams.specs.Written.{Writes};
 use crate::buffers::{put, put_few};
 use crate::parts::Part;
 use crate::parts::fronts::{are_four, are_two, strip_word};
-use cap_word::{number_text, take_bytes, take_u64};
+use cap_word::{number_text, take_bytes};
 use std::marker::Model;
 
 /// How many bytes a load or a store takes: 1, 2, 4 or 8.
@@ -175,24 +175,28 @@ fn put_value(buffer: &mut [u8], at: usize, size: Size, value: u64) -> usize
     }
 }
 
-// Takes a size, 1, 2, 4 or 8, a space, and `= ` where it is a load's. Eight bytes are the most usual.
+// Takes a size, 1, 2, 4 or 8, a space, and `= ` where it is a load's: without a branch on which size it is, which is
+// seldom guessed right.
 #[inline(always)]
 fn take_size<const IS_LOAD: bool>(bytes: &[u8]) -> Option<(u8, &[u8])>
     ensures some { IfSome result (λ p. Begins IsDataSize decimal 32 bytes.now p.0 (value_mark IS_LOAD ++ p.1.now)) }
     ensures none { IfNone result ((n : ℕ) (rest : List ℕ)
         → Begins IsDataSize decimal 32 bytes.now n (value_mark IS_LOAD ++ rest) → ⊥) }
 {
-    if let Some(rest) = strip_size::<IS_LOAD>(bytes, 8) {
-        return Some((8, rest));
+    let size = bytes.first()?.wrapping_sub(b'0');
+    if !is_size(size) {
+        return None;
     }
-    if let Some(rest) = strip_size::<IS_LOAD>(bytes, 4) {
-        return Some((4, rest));
-    }
-    if let Some(rest) = strip_size::<IS_LOAD>(bytes, 2) {
-        return Some((2, rest));
-    }
-    let rest = strip_size::<IS_LOAD>(bytes, 1)?;
-    Some((1, rest))
+    let rest = strip_size::<IS_LOAD>(bytes, size)?;
+    Some((size, rest))
+}
+
+// Whether a number is 1, 2, 4 or 8.
+#[inline(always)]
+fn is_size(number: u8) -> bool
+    ensures { IsTrue result ↔ IsDataSize number }
+{
+    matches!(number, 1 | 2 | 4 | 8)
 }
 
 // What follows this size and its mark, compared as one number.
@@ -222,23 +226,7 @@ fn take_value(bytes: &[u8], size: Size, end: u8) -> Option<(u64, &[u8])>
     ensures some { IfSome result (λ p. Begins (IsDataValue size) (hex_digits (2 * size)) end bytes.now p.0 p.1.now) }
     ensures none { IfNone result (BeginsWithNone (IsDataValue size) (hex_digits (2 * size)) end bytes.now) }
 {
-    let (value, others) = take_digits(bytes, size)?;
+    let (value, others) = take_bytes(bytes, size.bytes())?;
     let rest = strip_word(others, b"", end)?;
     Some((value, rest))
-}
-
-// Takes the digits of a value. Eight bytes are the most usual, and are read without asking how many.
-#[inline(always)]
-fn take_digits(bytes: &[u8], size: Size) -> Option<(u64, &[u8])>
-    ensures fits { IfSome result (λ p. IsDataValue size p.0) }
-    ensures some { IfSome result (λ p. bytes.now ≡ hex_digits (2 * size) p.0 ++ p.1.now) }
-    ensures none { IfNone result ((n : ℕ) (rest : List ℕ) → IsDataValue size n
-        → bytes.now ≡ hex_digits (2 * size) n ++ rest → ⊥) }
-{
-    let count = size.bytes();
-    if count == 8 {
-        take_u64(bytes)
-    } else {
-        take_bytes(bytes, count)
-    }
 }

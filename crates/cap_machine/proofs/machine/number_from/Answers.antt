@@ -1,38 +1,21 @@
 use Rattle.std.specs.Int.Bits.{and_mask}
-use Rattle.std.proofs.Common.{◌≡◌, ◌≢◌, ℕ, inl, inr, sym, ◌∙◌}
+use Rattle.std.proofs.Common.{◌≡◌, ℕ, ◌*◌, ◌-◌, ◌/◌, ◌%◌, ◌^◌, inl, inr, ap, refl, ◌∙◌, bit_and}
 use Rattle.cap_word.proofs.Bytes.{from_le_bytes_is}
 use Rattle.cap_log.specs.Lines.{IsDataSize}
 use Rattle.cap_machine.proofs.GranuleLemmas.{number_at-cut}
 use Rattle.cap_machine.proofs.machine.number_from.Goals as goal
 
--- a data size that is none of the smaller ones
-eight : (size : ℕ) → IsDataSize size → size ≢ 1 → size ≢ 2 → size ≢ 4 → size ≡ 8
-eight size (inl e) one two four = absurd (one e)
-eight size (inr (inl e)) one two four = absurd (two e)
-eight size (inr (inr (inl e))) one two four = absurd (four e)
-eight size (inr (inr (inr e))) one two four = e
+-- the bits of so many bytes
+masked : (rest size : ℕ) → IsDataSize size → bit_and rest (18446744073709551615 / 2 ^ (64 - 8 * size)) ≡ rest % 256 ^ size
+masked rest size (inl e) = rw e (and_mask rest 8)
+masked rest size (inr (inl e)) = rw e (and_mask rest 16)
+masked rest size (inr (inr (inl e))) = rw e (and_mask rest 32)
+masked rest size (inr (inr (inr e))) = rw e (and_mask rest 64)
 
-pub returns-then-size-eq1 : goal.returns-then-size-eq1
-returns-then-size-eq1 c =
-    and_mask _ 8 ∙ number_at-cut c.args.bytes.now c.args.byte_index 1 c.args.size _ _ c.fits-bytes
-    (c.from_le_bytes.ensures ∙ from_le_bytes_is c.args.bytes.now c.told-bytes) c.from.ensures
-    (sym c.if-size-eq1.true ∙ c.bytes-size.ensures.bytes)
-
-pub returns-then-size-eq2 : goal.returns-then-size-eq2
-returns-then-size-eq2 c =
-    and_mask _ 16 ∙ number_at-cut c.args.bytes.now c.args.byte_index 2 c.args.size _ _ c.fits-bytes
-    (c.from_le_bytes.ensures ∙ from_le_bytes_is c.args.bytes.now c.told-bytes) c.from.ensures
-    (sym c.if-size-eq2.true ∙ c.bytes-size.ensures.bytes)
-
-pub returns-then-size-eq4 : goal.returns-then-size-eq4
-returns-then-size-eq4 c =
-    and_mask _ 32 ∙ number_at-cut c.args.bytes.now c.args.byte_index 4 c.args.size _ _ c.fits-bytes
-    (c.from_le_bytes.ensures ∙ from_le_bytes_is c.args.bytes.now c.told-bytes) c.from.ensures
-    (sym c.if-size-eq4.true ∙ c.bytes-size.ensures.bytes)
-
-pub returns-else-size-eq4 : goal.returns-else-size-eq4
-returns-else-size-eq4 c =
-    and_mask _ 64 ∙ number_at-cut c.args.bytes.now c.args.byte_index 8 c.args.size _ _ c.fits-bytes
-    (c.from_le_bytes.ensures ∙ from_le_bytes_is c.args.bytes.now c.told-bytes) c.from.ensures
-    (sym (eight c.bytes-size.result (rw c.bytes-size.ensures.bytes c.bytes-size.ensures.range) c.if-size-eq1.false c.if-size-eq2.false
-    c.if-size-eq4.false) ∙ c.bytes-size.ensures.bytes)
+pub returns : goal.returns
+returns c =
+    let rest = c.from_le_bytes.result / 2 ^ (8 * c.from.result) in
+    ap (bit_and rest) (c.from-3.ensures ∙ ap (λ (size : ℕ). 18446744073709551615 / 2 ^ (64 - 8 * size)) (c.from-2.ensures ∙ c.bytes.ensures.bytes))
+    ∙ masked rest c.args.size c.bytes.ensures.range
+    ∙ number_at-cut c.args.bytes.now c.args.byte_index c.args.size c.args.size _ _ c.fits-bytes
+    (c.from_le_bytes.ensures ∙ from_le_bytes_is c.args.bytes.now c.told-bytes) c.from.ensures refl
