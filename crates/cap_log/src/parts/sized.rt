@@ -175,10 +175,34 @@ fn put_value(buffer: &mut [u8], at: usize, size: Size, value: u64) -> usize
     }
 }
 
-// Takes a size, 1, 2, 4 or 8, a space, and `= ` where it is a load's: without a branch on which size it is, which is
-// seldom guessed right.
+// Takes a size, 1, 2, 4 or 8, a space, and `= ` where it is a load's. That of a load is read without a branch on which it
+// is, which is seldom guessed right. That of a store is told by branches, since it is stored by them; eight bytes are the
+// most usual.
 #[inline(always)]
 fn take_size<const IS_LOAD: bool>(bytes: &[u8]) -> Option<(u8, &[u8])>
+    ensures some { IfSome result (λ p. Begins IsDataSize decimal 32 bytes.now p.0 (value_mark IS_LOAD ++ p.1.now)) }
+    ensures none { IfNone result ((n : ℕ) (rest : List ℕ)
+        → Begins IsDataSize decimal 32 bytes.now n (value_mark IS_LOAD ++ rest) → ⊥) }
+{
+    if IS_LOAD {
+        return take_any_size::<IS_LOAD>(bytes);
+    }
+    if let Some(rest) = strip_size::<IS_LOAD>(bytes, 8) {
+        return Some((8, rest));
+    }
+    if let Some(rest) = strip_size::<IS_LOAD>(bytes, 4) {
+        return Some((4, rest));
+    }
+    if let Some(rest) = strip_size::<IS_LOAD>(bytes, 2) {
+        return Some((2, rest));
+    }
+    let rest = strip_size::<IS_LOAD>(bytes, 1)?;
+    Some((1, rest))
+}
+
+// The same without a branch on which size it is.
+#[inline(always)]
+fn take_any_size<const IS_LOAD: bool>(bytes: &[u8]) -> Option<(u8, &[u8])>
     ensures some { IfSome result (λ p. Begins IsDataSize decimal 32 bytes.now p.0 (value_mark IS_LOAD ++ p.1.now)) }
     ensures none { IfNone result ((n : ℕ) (rest : List ℕ)
         → Begins IsDataSize decimal 32 bytes.now n (value_mark IS_LOAD ++ rest) → ⊥) }
@@ -226,7 +250,23 @@ fn take_value(bytes: &[u8], size: Size, end: u8) -> Option<(u64, &[u8])>
     ensures some { IfSome result (λ p. Begins (IsDataValue size) (hex_digits (2 * size)) end bytes.now p.0 p.1.now) }
     ensures none { IfNone result (BeginsWithNone (IsDataValue size) (hex_digits (2 * size)) end bytes.now) }
 {
-    let (value, others) = take_bytes(bytes, size.bytes())?;
+    let (value, others) = take_digits(bytes, size)?;
     let rest = strip_word(others, b"", end)?;
     Some((value, rest))
+}
+
+// Takes the digits of a value. Eight bytes are the most usual, and are read without asking how many.
+#[inline(always)]
+fn take_digits(bytes: &[u8], size: Size) -> Option<(u64, &[u8])>
+    ensures fits { IfSome result (λ p. IsDataValue size p.0) }
+    ensures some { IfSome result (λ p. bytes.now ≡ hex_digits (2 * size) p.0 ++ p.1.now) }
+    ensures none { IfNone result ((n : ℕ) (rest : List ℕ) → IsDataValue size n
+        → bytes.now ≡ hex_digits (2 * size) n ++ rest → ⊥) }
+{
+    let count = size.bytes();
+    if count == 8 {
+        take_bytes(bytes, 8)
+    } else {
+        take_bytes(bytes, count)
+    }
 }

@@ -2,7 +2,7 @@ use Rattle.std.proofs.Common.{◌≡◌, ℕ, ◌+◌, ◌%◌, List, ◌++◌, 
 use Rattle.std.proofs.lemmas.{Bool.false≢true, Fmt.decimal_digit}
 use Rattle.cap_log.specs.Ranges.{IsDataSize}
 use Rattle.cap_log.proofs.PartLemmas.{size-small}
-use Rattle.cap_log.proofs.parts.sized.take_size.Goals as goal
+use Rattle.cap_log.proofs.parts.sized.take_any_size.Goals as goal
 
 -- a size at the front is its digit
 size-is : (bytes more : List ℕ) (n : ℕ) → IsDataSize n → bytes ≡ decimal n ++ more → (get_or bytes 0 0 + 208) % 256 ≡ n
