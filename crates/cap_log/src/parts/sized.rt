@@ -175,18 +175,13 @@ fn put_value(buffer: &mut [u8], at: usize, size: Size, value: u64) -> usize
     }
 }
 
-// Takes a size, 1, 2, 4 or 8, a space, and `= ` where it is a load's. That of a load is read without a branch on which it
-// is, which is seldom guessed right. That of a store is told by branches, since it is stored by them; eight bytes are the
-// most usual.
+// Takes a size, 1, 2, 4 or 8, a space, and `= ` where it is a load's. Eight bytes are the most usual.
 #[inline(always)]
 fn take_size<const IS_LOAD: bool>(bytes: &[u8]) -> Option<(u8, &[u8])>
     ensures some { IfSome result (λ p. Begins IsDataSize decimal 32 bytes.now p.0 (value_mark IS_LOAD ++ p.1.now)) }
     ensures none { IfNone result ((n : ℕ) (rest : List ℕ)
         → Begins IsDataSize decimal 32 bytes.now n (value_mark IS_LOAD ++ rest) → ⊥) }
 {
-    if IS_LOAD {
-        return take_any_size::<IS_LOAD>(bytes);
-    }
     if let Some(rest) = strip_size::<IS_LOAD>(bytes, 8) {
         return Some((8, rest));
     }
@@ -198,29 +193,6 @@ fn take_size<const IS_LOAD: bool>(bytes: &[u8]) -> Option<(u8, &[u8])>
     }
     let rest = strip_size::<IS_LOAD>(bytes, 1)?;
     Some((1, rest))
-}
-
-// The same without a branch on which size it is.
-#[inline(always)]
-fn take_any_size<const IS_LOAD: bool>(bytes: &[u8]) -> Option<(u8, &[u8])>
-    ensures some { IfSome result (λ p. Begins IsDataSize decimal 32 bytes.now p.0 (value_mark IS_LOAD ++ p.1.now)) }
-    ensures none { IfNone result ((n : ℕ) (rest : List ℕ)
-        → Begins IsDataSize decimal 32 bytes.now n (value_mark IS_LOAD ++ rest) → ⊥) }
-{
-    let size = bytes.first()?.wrapping_sub(b'0');
-    if !is_size(size) {
-        return None;
-    }
-    let rest = strip_size::<IS_LOAD>(bytes, size)?;
-    Some((size, rest))
-}
-
-// Whether a number is 1, 2, 4 or 8.
-#[inline(always)]
-fn is_size(number: u8) -> bool
-    ensures { IsTrue result ↔ IsDataSize number }
-{
-    matches!(number, 1 | 2 | 4 | 8)
 }
 
 // What follows this size and its mark, compared as one number.
