@@ -24,10 +24,12 @@ returns-in_err-front-clause-none c = rw c.from_residual.ensures (λ n rest begin
 
 pub returns-then-digit-lt10-clause-some : goal.returns-then-digit-lt10-clause-some
 returns-then-digit-lt10-clause-some c =
-    let cut = c.in_ok-front.ensures.cases in
-    (c.if-digit-lt10.true, rw cut.1 (one_digit c.args.bytes.now c.from_le_bytes-word.result c.args.end _ (omega arith) (λ i. search rules)
-    (c.from_le_bytes-word.ensures ∙ ap (λ (l : List ℕ). from_le_bytes w16 l) cut.0) (omega arith)
-    (ap (λ (least : ℕ). (c.from_le_bytes-word.result + (65536 - least)) % 65536) c.from_le_bytes.ensures) c.if-digit-lt10.true))
+    let cut = c.in_ok-front.ensures.cases in (
+      c.if-digit-lt10.true,
+      rw cut.1 (one_digit c.args.bytes.now c.from_le_bytes-word.result c.args.end _ (omega arith) (λ i. search rules)
+          (c.from_le_bytes-word.ensures ∙ ap (λ (l : List ℕ). from_le_bytes w16 l) cut.0) (omega arith)
+          (ap (λ (least : ℕ). (c.from_le_bytes-word.result + (65536 - least)) % 65536) c.from_le_bytes.ensures) c.if-digit-lt10.true),
+    )
 
 pub returns-else-digit-lt10-clause-none : goal.returns-else-digit-lt10-clause-none
 returns-else-digit-lt10-clause-none c n rest begins =
