@@ -38,7 +38,7 @@ ROOT = os.path.join(os.path.dirname(os.path.abspath(__file__)), "..")
 os.chdir(ROOT)
 ROOT = os.getcwd()
 sys.path.insert(0, f"{ROOT}/gdb")
-from sessions import PROMPT, agrees, is_installed, transcript  # noqa: E402
+from sessions import PROMPT, agrees, is_installed, tell_left_out, transcript  # noqa: E402
 
 PAGES = ["README.md", "CONTRIBUTING.md", "docs/FIRST_HOUR.md", "docs/FORMAT.md", "docs/WORDS.md", "docs/MACHINE.md", "docs/RECORDING.md", "docs/RUNS.md"]
 PAGES += ["docs/PYTHON.md", "docs/GDB.md", "docs/ALLOCATORS.md", "docs/STANDARD.md", "docs/C.md", "docs/GLOSSARY.md", "docs/PROOFS.md", "docs/TESTING.md", "docs/DECISIONS.md", "docs/INTERNALS.md", "CHANGELOG.md", "examples/README.md", "examples/objects/README.md", "examples/qemu/README.md", "conformance/README.md", "web/README.md", "web/PASTING.md", "bench/README.md", "bench/units.md"]
@@ -465,6 +465,7 @@ def main(words):
                     count += tried
     if not unproved and not is_installed():
         print("left out: the sessions of GDB, since there is none with Python 3.10 or later")
+    tell_left_out()
     if not unproved and not HAS_PACKAGE:
         print("left out: the sessions of Python, since this Python is older than 3.10")
     print("\n".join([*wrong, f"{count} commands, rows, files and links of the pages tried, {len(wrong)} otherwise than the pages say"]))
