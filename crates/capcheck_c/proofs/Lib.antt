@@ -1,3 +1,2 @@
 mod ReadLemmas
 mod RunReadLemmas
-mod RunWriteLemmas

@@ -3,20 +3,22 @@
 //! Each call answers how many bytes it wrote, the line feed with them, or 0 if a number is out of its
 //! range; then the buffer is as it was.
 
-ghost use Rattle.std.specs.Prelude.{◌≡◌, ◌≤◌, Some};
+ghost use Rattle.std.specs.Prelude.{◌≡◌, ◌≤◌, IfSome, Option, Some};
 ghost use Rattle.cap_run_log.specs.declared.lines.RunLine.TheVariants as line;
 ghost use Rattle.cap_run_log.specs.declared.lines.RunPlace.TheVariants as place;
+ghost use Rattle.cap_run_log.specs.declared.lines.RunStep.{RunStep as StepIn};
 ghost use Rattle.cap_run_log.specs.RunLines.{IsRunLineAt, IsRunStepInRange};
 ghost use Rattle.cap_halves.specs.Passed.{whole_of};
-ghost use Rattle.cap_halves.specs.PassedRuns.{derive_passed, drop_passed, exchange_passed, fill_passed, free_passed, invoke_passed};
-ghost use Rattle.cap_halves.specs.PassedRuns.{object_passed};
+ghost use Rattle.cap_halves.specs.PassedRuns.{IsStepFrom, derive_passed, drop_passed, exchange_passed, fill_passed, free_passed};
+ghost use Rattle.cap_halves.specs.PassedRuns.{invoke_passed, object_passed};
 ghost use Rattle.capcheck_c.specs.RunLinesWritten.{AnswersRunLine, AnswersRunStep};
 
-use cap_halves::halves::{from_c, word_of};
-use cap_halves::places::{place_from, register_from};
+use cap_halves::halves::word_of;
+use cap_halves::run_steps::{
+    derive_from, drop_from, exchange_from, fill_from, free_from, invoke_from, object_from,
+};
 use cap_halves::values::{Capability, Halves, PassedPlace};
-use cap_log::{Register, Target};
-use cap_run_log::{RunLine, RunPlace, RunStep, write_exchange, write_run_line};
+use cap_run_log::{RunLine, RunPlace, RunStep, write_run_line};
 
 /// Writes the version line of a run log into the buffer.
 #[unsafe(no_mangle)]
@@ -53,13 +55,7 @@ pub extern "C" fn capcheck_line_derive(
 ) -> usize
     ensures line { AnswersRunStep (derive_passed target source recorded) buffer.old buffer.new result }
 {
-    let Some(target) = register_from(1, target) else {
-        return 0;
-    };
-    let Some(source) = register_from(0, source) else {
-        return 0;
-    };
-    put_run_step(RunStep::Derive(target, source, from_c(recorded)), buffer)
+    put_run_step(derive_from(target, source, recorded), buffer)
 }
 
 /// Writes the line of a step `exchange` into the buffer: a target 1 to 31, a source 0 to 31, a special register 0 to 31, and
@@ -75,23 +71,8 @@ pub extern "C" fn capcheck_line_exchange(
 ) -> usize
     ensures line { AnswersRunStep (Some (exchange_passed target source special recorded special_recorded)) buffer.old buffer.new result }
 {
-    let Some(target) = Target::new(target) else {
-        return 0;
-    };
-    let Some(source) = Register::new(source) else {
-        return 0;
-    };
-    if special > 31 {
-        return 0;
-    }
-    write_exchange(
-        target.number(),
-        source.number(),
-        special as u8,
-        from_c(recorded),
-        from_c(special_recorded),
-        buffer,
-    )
+    let step = exchange_from(target, source, special, recorded, special_recorded);
+    put_run_step(step, buffer)
 }
 
 /// Writes the line of a step `invoke` into the buffer: the registers of the code and of the datum, 0 to 31, and the words
@@ -106,19 +87,7 @@ pub extern "C" fn capcheck_line_invoke(
 ) -> usize
     ensures line { AnswersRunStep (Some (invoke_passed code datum code_word datum_word)) buffer.old buffer.new result }
 {
-    let Some(code) = Register::new(code) else {
-        return 0;
-    };
-    let Some(datum) = Register::new(datum) else {
-        return 0;
-    };
-    let step = RunStep::Invoke {
-        code: code.number(),
-        datum: datum.number(),
-        code_word: word_of(code_word),
-        datum_word: word_of(datum_word),
-    };
-    put_run_step(step, buffer)
+    put_run_step(invoke_from(code, datum, code_word, datum_word), buffer)
 }
 
 /// Writes the line of a step `drop` into the buffer: the place is a register 1 to 31, a special register, or a granule at an
@@ -127,10 +96,7 @@ pub extern "C" fn capcheck_line_invoke(
 pub extern "C" fn capcheck_line_drop(buffer: &mut [u8; 96], place: PassedPlace) -> usize
     ensures line { AnswersRunStep (drop_passed place) buffer.old buffer.new result }
 {
-    match place_from(place) {
-        Some(place) => put_run_step(RunStep::Drop(place), buffer),
-        None => 0,
-    }
+    put_run_step(drop_from(place), buffer)
 }
 
 /// Writes the line of a step `fill` into the buffer: an address that is a multiple of 16, and the word that the granule
@@ -139,10 +105,7 @@ pub extern "C" fn capcheck_line_drop(buffer: &mut [u8; 96], place: PassedPlace) 
 pub extern "C" fn capcheck_line_fill(buffer: &mut [u8; 96], address: u64, word: Halves) -> usize
     ensures line { AnswersRunStep (fill_passed address word) buffer.old buffer.new result }
 {
-    if !address.is_multiple_of(16) {
-        return 0;
-    }
-    put_run_step(RunStep::Fill(address / 16, word_of(word)), buffer)
+    put_run_step(fill_from(address, word), buffer)
 }
 
 /// Writes the line of a step `object` into the buffer: a register 1 to 31, and the number of an object, below 2^32; or 0,
@@ -151,18 +114,7 @@ pub extern "C" fn capcheck_line_fill(buffer: &mut [u8; 96], address: u64, word: 
 pub extern "C" fn capcheck_line_object(buffer: &mut [u8; 96], register: u64, object: u64) -> usize
     ensures line { AnswersRunStep (Some (object_passed register object)) buffer.old buffer.new result }
 {
-    let Some(target) = Target::new(register) else {
-        return 0;
-    };
-    if object > 0xffff_ffff {
-        return 0;
-    }
-    let step = if object == 0 {
-        RunStep::Object(target.number())
-    } else {
-        RunStep::Widen(target.number(), object as u32)
-    };
-    put_run_step(step, buffer)
+    put_run_step(object_from(register, object), buffer)
 }
 
 /// Writes the line of a step `free` into the buffer: by a register 1 to 31, and then the object's number is 0; or by the
@@ -171,23 +123,16 @@ pub extern "C" fn capcheck_line_object(buffer: &mut [u8; 96], register: u64, obj
 pub extern "C" fn capcheck_line_free(buffer: &mut [u8; 96], register: u64, object: u64) -> usize
     ensures line { AnswersRunStep (free_passed register object) buffer.old buffer.new result }
 {
-    if object == 0 {
-        return match Target::new(register) {
-            Some(target) => put_run_step(RunStep::FreeOwner(target.number()), buffer),
-            None => 0,
-        };
-    }
-    if register != 0 || object > 0xffff_ffff {
-        return 0;
-    }
-    put_run_step(RunStep::FreeNumber(object as u32), buffer)
+    put_run_step(free_from(register, object), buffer)
 }
 
-// Writes the line of a step.
-#[inline(always)]
-fn put_run_step(step: RunStep, buffer: &mut [u8; 96]) -> usize
-    requires { IsRunStepInRange step }
-    ensures { IsRunLineAt (line.Run step) buffer.old buffer.new result }
+// Writes the line of the step that C's numbers make. If they make none, it answers 0, and the buffer is as it was.
+fn put_run_step(step: Option<RunStep>, buffer: &mut [u8; 96]) -> usize
+    requires range { IfSome step IsRunStepInRange }
+    ensures line { (passed : Option StepIn) → IsStepFrom passed step → AnswersRunStep passed buffer.old buffer.new result }
 {
-    write_run_line(&RunLine::Run(step), buffer)
+    match step {
+        Some(step) => write_run_line(&RunLine::Run(step), buffer),
+        None => 0,
+    }
 }
