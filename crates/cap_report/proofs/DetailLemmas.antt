@@ -4,7 +4,7 @@ use Rattle.cap_word.specs.{declared.word.Word.Word, Digits.hex_digits}
 use Rattle.cap_bounds.specs.Bounds.{length_of}
 use Rattle.cap_ops.specs.declared.refusal.Refusal.{Refusal, TheVariants.{BadHeader, LineTooLong, BadLine, Misplaced}}
 use Rattle.cap_ops.specs.declared.refusal.Refusal.TheVariants.{Truncated, WrongCount, PlaceTaken, LimitPassed, BadMode}
-use Rattle.cap_log.specs.{declared.lines.{Line.Line, Place.Place}, Lines.Spells}
+use Rattle.cap_log.specs.{declared.{kinds.Step.Step, lines.{Line.Line, Place.Place}}, Lines.Spells}
 use Rattle.cap_texts.specs.{CapLines.cap_lines, TextLines.{says_line, text_line}}
 use Rattle.cap_machine.specs.Accounts.{Account}
 use Rattle.cap_machine.specs.States.{tagged}
@@ -31,6 +31,13 @@ details_other account text Truncated details n0 n1 n2 n3 n4 n5 n6 n7 is = absurd
 details_other account text WrongCount details n0 n1 n2 n3 n4 n5 n6 n7 is = absurd (n6 refl)
 details_other account text LimitPassed details n0 n1 n2 n3 n4 n5 n6 n7 is = absurd (n7 refl)
 details_other account text refusal details n0 n1 n2 n3 n4 n5 n6 n7 is = is
+
+-- a line that is no root and no step
+pub nothing_known : (account : Account) (line : Line) (refusal : Refusal) → ((place : Place) (word : Word) → line ≡ Line.Root place word → ⊥)
+    → ((step : Step) → line ≡ Line.Step step → ⊥) → [] ≡ known_lines account line refusal
+nothing_known account (Line.Root place word) refusal root step = absurd (root place word refl)
+nothing_known account (Line.Step it) refusal root step = absurd (step it refl)
+nothing_known account line refusal root step = refl
 
 -- a line of which nothing is told, whether it has a form or not
 pub nothing_told : (account : Account) (text : List ℕ) (line : Line) (refusal : Refusal) (formed : Bool)

@@ -79,9 +79,7 @@ fn put_details<M: TaggedStore>(
                     put_root_lines(machine, place, word, refusal, buffer, at)
                 }
                 Line::Step(step) => put_step_lines(machine, true, &step, refusal, buffer, at),
-                Line::Version(_) => at,
-                Line::Mode(_) => at,
-                Line::End(_) => at,
+                _ => at,
             },
             None => at,
         },

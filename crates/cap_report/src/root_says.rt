@@ -1,12 +1,11 @@
 //! What a report says of a refused root, in a sentence.
 
-ghost use Rattle.std.specs.Prelude.{◌≡◌, ◌+◌, ◌++◌, ◌^◌, ◌≤◌, nat_lt, length};
-ghost use Rattle.cap_bounds.specs.Bounds.{base_of, top_of};
+ghost use Rattle.std.specs.Prelude.{◌+◌, ◌++◌, ◌≤◌, length};
+ghost use Rattle.cap_bounds.specs.Bounds.{top_of};
 ghost use Rattle.cap_streams.specs.Written.{Writes};
 ghost use Rattle.cap_log.specs.Lines.{place_spelling};
 ghost use Rattle.cap_texts.specs.TextLines.{says_line};
 ghost use Rattle.cap_report.specs.Says.{high_top_text, taken_text, unsound_reason, unsound_text};
-ghost use Rattle.cap_report.specs.Sentences.{number_text};
 
 use crate::says::put_of_place;
 use crate::sentences::put_number;
@@ -15,30 +14,6 @@ use cap_log::Place;
 use cap_log::buffers::put;
 use cap_word::Word;
 
-// Whether a word's top lies above the address space.
-fn tops_the_space(word: Word) -> bool
-    ensures value { result ≡ nat_lt (2 ^ 64) (top_of word.0) }
-{
-    1 << 64 < bounds(word).top
-}
-
-// Whether a word's top lies below its base.
-fn ends_below(word: Word) -> bool
-    ensures value { result ≡ nat_lt (top_of word.0) (base_of word.0) }
-{
-    let range = bounds(word);
-    range.top < u128::from(range.base)
-}
-
-// Writes a word's top.
-fn put_word_top(buffer: &mut [u8], at: usize, word: Word) -> usize
-    requires { at + 19 ≤ length buffer.old }
-    ensures written { Writes at (number_text (top_of word.0)) buffer.old buffer.new result }
-    ensures fits { result ≤ at + 19 }
-{
-    put_number(buffer, at, bounds(word).top)
-}
-
 // Writes that a word's top lies above the address space.
 fn put_high_top(buffer: &mut [u8], at: usize, word: Word) -> usize
     requires { at + 72 ≤ length buffer.old }
@@ -46,7 +21,7 @@ fn put_high_top(buffer: &mut [u8], at: usize, word: Word) -> usize
     ensures fits { result ≤ at + 72 }
 {
     let at = put(buffer, at, b"the top, ");
-    let at = put_word_top(buffer, at, word);
+    let at = put_number(buffer, at, bounds(word).top);
     put(buffer, at, b", lies above 2^64, where addresses end")
 }
 
@@ -56,9 +31,10 @@ fn put_unsound_reason(buffer: &mut [u8], at: usize, word: Word) -> usize
     ensures written { Writes at (unsound_reason word.0) buffer.old buffer.new result }
     ensures fits { result ≤ at + 72 }
 {
-    if tops_the_space(word) {
+    let range = bounds(word);
+    if 1 << 64 < range.top {
         put_high_top(buffer, at, word)
-    } else if ends_below(word) {
+    } else if range.top < u128::from(range.base) {
         put(buffer, at, b"the top lies below the base")
     } else {
         put(buffer, at, b"from base to top isn't as far as from B to T")

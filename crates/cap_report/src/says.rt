@@ -1,17 +1,17 @@
 //! What a report says of a refused step or root, in a sentence.
 
-ghost use Rattle.std.specs.Prelude.{◌≡◌, ◌+◌, ◌++◌, ◌*◌, ◌^◌, ◌<◌, ◌≤◌, nat_lt, codes, decimal, length};
-ghost use Rattle.cap_word.specs.{Digits.hex_digits, Fields.{address_of, otype_of}};
+ghost use Rattle.std.specs.Prelude.{◌≡◌, ◌+◌, ◌++◌, ◌*◌, ◌<◌, ◌≤◌, codes, length};
+ghost use Rattle.cap_word.specs.Digits.{hex_digits};
 ghost use Rattle.cap_log.specs.Lines.{place_spelling};
 ghost use Rattle.cap_bounds.specs.{Bounds.{base_of, top_of}, Rounding.{rounded_base, rounded_top}};
 ghost use Rattle.cap_streams.specs.Written.{Writes};
 ghost use Rattle.cap_texts.specs.TextLines.{says_line};
 ghost use Rattle.cap_machine.specs.{Helds.state_of, Shown.IsShown};
-ghost use Rattle.cap_report.specs.Says.{above_types_text, access_authority, address_text, addresses_differ, asked_escape, asked_text, authority_register, cleared_text, escape_text, failed_text};
-ghost use Rattle.cap_report.specs.Says.{given_text, has_bounds_of, is_cleared, lacking_text, lies_inside, misaligned_access, misaligned_text, moved_text, needed_name, giver, needs_of, numbers_text, other_text, permissions_differ, range_end, range_start};
-ghost use Rattle.cap_report.specs.Says.{outside_text, request_text, rounded_escape, rounding_text, sealed_text, seen_by, seen_sentence};
+ghost use Rattle.cap_report.specs.Says.{above_types_text, address_text, addresses_differ, asked_text, authority_register, cleared_text, escape_text, failed_text};
+ghost use Rattle.cap_report.specs.Says.{given_text, has_bounds_of, is_cleared, lacking_text, lies_inside, misaligned_text, moved_text, needed_name, giver, needs_of, numbers_text, other_text, permissions_differ, range_end, range_start};
+ghost use Rattle.cap_report.specs.Says.{outside_text, request_text, rounding_text, sealed_text, seen_by, seen_sentence};
 ghost use Rattle.cap_report.specs.Says.{source_place, step_sentence, tags_text, types_differ, types_text, unstored_text, words_text};
-ghost use Rattle.cap_report.specs.Sentences.{beyond_text, number_text, range_text};
+ghost use Rattle.cap_report.specs.Sentences.{number_text, range_text};
 
 use crate::operands::held_in;
 use crate::sentences::{put_beyond, put_number, put_range};
@@ -40,16 +40,6 @@ pub struct Seen {
     pub access: Option<Reached>,
 }
 
-// The authority of an access.
-fn access_authority(access: Option<Reached>) -> u8
-    ensures { result ≡ access_authority access }
-{
-    match access {
-        Some(access) => access.authority.number(),
-        None => 0,
-    }
-}
-
 // The register of an authority.
 fn authority_register(request: Request, access: Option<Reached>) -> u8
     ensures value { result ≡ authority_register request access }
@@ -57,7 +47,10 @@ fn authority_register(request: Request, access: Option<Reached>) -> u8
 {
     match request {
         Request::Authority(register, _) => register.number(),
-        Request::Nothing | Request::Length(_) | Request::Address(_) => access_authority(access),
+        Request::Nothing | Request::Length(_) | Request::Address(_) => match access {
+            Some(access) => access.authority.number(),
+            None => 0,
+        },
     }
 }
 
@@ -83,24 +76,6 @@ fn seen_by<M: TaggedStore>(machine: &Machine<M>, shown: &Shown) -> Seen
     }
 }
 
-// Writes an address.
-fn put_start(buffer: &mut [u8], at: usize, address: u64) -> usize
-    requires { at + 19 ≤ length buffer.old }
-    ensures written { Writes at (number_text address) buffer.old buffer.new result }
-    ensures fits { result ≤ at + 19 }
-{
-    put_number(buffer, at, u128::from(address))
-}
-
-// Writes a word's object type.
-fn put_word_type(buffer: &mut [u8], at: usize, word: Word) -> usize
-    requires { at + 19 ≤ length buffer.old }
-    ensures written { Writes at (number_text (otype_of word.0)) buffer.old buffer.new result }
-    ensures fits { result ≤ at + 19 }
-{
-    put_number(buffer, at, u128::from(word.object_type()))
-}
-
 // Writes that a place's capability is sealed.
 fn put_sealed(buffer: &mut [u8], at: usize, place: Place, cap: Cap) -> usize
     requires { at + 64 ≤ length buffer.old }
@@ -109,7 +84,7 @@ fn put_sealed(buffer: &mut [u8], at: usize, place: Place, cap: Cap) -> usize
 {
     let at = put_place(buffer, at, place);
     let at = put(buffer, at, b" is sealed with type ");
-    put_word_type(buffer, at, cap.word)
+    put_number(buffer, at, u128::from(cap.word.object_type()))
 }
 
 // Writes that a range goes beyond the bounds of a place's capability.
@@ -163,42 +138,6 @@ fn lies_inside(range: Interval, cap: Cap) -> bool
     within.base <= range.base && range.top <= within.top
 }
 
-// Writes that the bounds asked for go beyond the source's.
-fn put_asked_escape(buffer: &mut [u8], at: usize, seen: &Seen, base: u64, size: u64) -> usize
-    requires { at + 160 ≤ length buffer.old }
-    ensures written { Writes at (asked_escape seen.now base size) buffer.old buffer.new result }
-    ensures fits { result ≤ at + 160 }
-{
-    let range = asked_range(base, size);
-    put_escape(buffer, at, b"the request ", range, seen.place, seen.source)
-}
-
-// Writes how far the bounds to which a request is rounded go beyond others.
-fn put_rounded_beyond(buffer: &mut [u8], at: usize, base: u64, size: u64, within: Interval) -> usize
-    requires { at + 82 ≤ length buffer.old }
-    ensures written { Writes at (beyond_text (rounded_base base size) (rounded_top base size) within.base within.top) buffer.old buffer.new result }
-    ensures fits { result ≤ at + 82 }
-{
-    put_beyond(buffer, at, rounded_range(base, size), within)
-}
-
-// Writes that those to which they are rounded do.
-fn put_rounded_escape(buffer: &mut [u8], at: usize, seen: &Seen, base: u64, size: u64) -> usize
-    requires { at + 160 ≤ length buffer.old }
-    ensures written { Writes at (rounded_escape seen.now base size) buffer.old buffer.new result }
-    ensures fits { result ≤ at + 160 }
-{
-    let range = rounded_range(base, size);
-    put_escape(
-        buffer,
-        at,
-        b"rounded, the request ",
-        range,
-        seen.place,
-        seen.source,
-    )
-}
-
 // Writes that the bounds asked for, or only those to which they are rounded, go beyond the source's.
 fn put_request(buffer: &mut [u8], at: usize, seen: &Seen, size: u64) -> usize
     requires { at + 160 ≤ length buffer.old }
@@ -206,10 +145,13 @@ fn put_request(buffer: &mut [u8], at: usize, seen: &Seen, size: u64) -> usize
     ensures fits { result ≤ at + 160 }
 {
     let base = seen.source.word.address();
-    if lies_inside(asked_range(base, size), seen.source) {
-        put_rounded_escape(buffer, at, seen, base, size)
+    let asked = asked_range(base, size);
+    if lies_inside(asked, seen.source) {
+        let range = rounded_range(base, size);
+        let name = b"rounded, the request ";
+        put_escape(buffer, at, name, range, seen.place, seen.source)
     } else {
-        put_asked_escape(buffer, at, seen, base, size)
+        put_escape(buffer, at, b"the request ", asked, seen.place, seen.source)
     }
 }
 
@@ -221,7 +163,12 @@ fn put_rounding(buffer: &mut [u8], at: usize, seen: &Seen, size: u64) -> usize
 {
     let base = seen.source.word.address();
     let at = put(buffer, at, b"rounded, the request ");
-    let at = put_rounded_beyond(buffer, at, base, size, asked_range(base, size));
+    let at = put_beyond(
+        buffer,
+        at,
+        rounded_range(base, size),
+        asked_range(base, size),
+    );
     put(buffer, at, b"what it asks for")
 }
 
@@ -248,7 +195,7 @@ fn put_moved(buffer: &mut [u8], at: usize, seen: &Seen, address: u64) -> usize
     ensures written { Writes at (moved_text seen.now address) buffer.old buffer.new result }
     ensures fits { result ≤ at + 160 }
 {
-    let at = put_start(buffer, at, address);
+    let at = put_number(buffer, at, u128::from(address));
     let at = put(buffer, at, b" isn't an address that keeps ");
     let at = put_place(buffer, at, seen.place);
     let at = put(buffer, at, b"'s bounds: these are ");
@@ -300,15 +247,6 @@ fn needs_of(request: Request, access: Option<Reached>) -> u32
     }
 }
 
-// Writes a word's address.
-fn put_word_address(buffer: &mut [u8], at: usize, word: Word) -> usize
-    requires { at + 19 ≤ length buffer.old }
-    ensures written { Writes at (number_text (address_of word.0)) buffer.old buffer.new result }
-    ensures fits { result ≤ at + 19 }
-{
-    put_number(buffer, at, u128::from(word.address()))
-}
-
 // Writes the authority's address.
 fn put_address(buffer: &mut [u8], at: usize, seen: &Seen) -> usize
     requires { at + 64 ≤ length buffer.old }
@@ -317,7 +255,7 @@ fn put_address(buffer: &mut [u8], at: usize, seen: &Seen) -> usize
 {
     let at = put_place(buffer, at, seen.authority);
     let at = put(buffer, at, b"'s address, ");
-    put_word_address(buffer, at, seen.held.word)
+    put_number(buffer, at, u128::from(seen.held.word.address()))
 }
 
 // Writes that the authority's address is no object type.
@@ -356,43 +294,27 @@ fn put_types(buffer: &mut [u8], at: usize, seen: &Seen) -> usize
 {
     let at = put_place(buffer, at, seen.place);
     let at = put(buffer, at, b"'s object type is ");
-    let at = put_word_type(buffer, at, seen.source.word);
+    let at = put_number(buffer, at, u128::from(seen.source.word.object_type()));
     let at = put(buffer, at, b", and ");
     let at = put_place(buffer, at, seen.authority);
     let at = put(buffer, at, b"'s address ");
-    put_word_address(buffer, at, seen.held.word)
+    put_number(buffer, at, u128::from(seen.held.word.address()))
 }
 
-// Writes how many bytes an access has.
+// Writes an address and the size that it should be a multiple of, if there is an access.
 #[tactic(auto, using(cap_log::proofs::ElementLemmas::short_decimal))]
-fn put_few_bytes(buffer: &mut [u8], at: usize, size: u8) -> usize
-    requires { at + 20 ≤ length buffer.old }
-    ensures written { Writes at (decimal size) buffer.old buffer.new result }
-    ensures fits { result ≤ at + 20 }
-{
-    put_decimal(buffer, at, u64::from(size))
-}
-
-// Writes an address and the size that it should be a multiple of.
-fn put_misaligned_access(buffer: &mut [u8], at: usize, access: Reached) -> usize
-    requires { at + 160 ≤ length buffer.old }
-    ensures written { Writes at (misaligned_access access) buffer.old buffer.new result }
-    ensures fits { result ≤ at + 160 }
-{
-    let at = put(buffer, at, b"the address ");
-    let at = put_start(buffer, at, access.address);
-    let at = put(buffer, at, b" isn't a multiple of ");
-    put_few_bytes(buffer, at, access.size)
-}
-
-// The same, if there is an access.
 fn put_misaligned(buffer: &mut [u8], at: usize, access: Option<Reached>) -> usize
     requires { at + 160 ≤ length buffer.old }
     ensures written { Writes at (misaligned_text access) buffer.old buffer.new result }
     ensures fits { result ≤ at + 160 }
 {
     match access {
-        Some(access) => put_misaligned_access(buffer, at, access),
+        Some(access) => {
+            let at = put(buffer, at, b"the address ");
+            let at = put_number(buffer, at, u128::from(access.address));
+            let at = put(buffer, at, b" isn't a multiple of ");
+            put_decimal(buffer, at, u64::from(access.size))
+        }
         None => at,
     }
 }
@@ -548,15 +470,6 @@ fn put_other(
     put_number(buffer, at, given)
 }
 
-// Writes a word's bounds.
-fn put_word_range(buffer: &mut [u8], at: usize, word: Word) -> usize
-    requires { at + 45 ≤ length buffer.old }
-    ensures written { Writes at (range_text (base_of word.0) (top_of word.0)) buffer.old buffer.new result }
-    ensures fits { result ≤ at + 45 }
-{
-    put_range(buffer, at, bounds(word))
-}
-
 // Writes two bounds that differ.
 fn put_other_bounds(buffer: &mut [u8], at: usize, by: &[u8], recorded: Word, given: Word) -> usize
     requires by { length by.now ≤ 17 }
@@ -566,10 +479,10 @@ fn put_other_bounds(buffer: &mut [u8], at: usize, by: &[u8], recorded: Word, giv
 {
     let at = put(buffer, at, b"it records ");
     let at = put(buffer, at, b"bounds ");
-    let at = put_word_range(buffer, at, recorded);
+    let at = put_range(buffer, at, bounds(recorded));
     let at = put(buffer, at, by);
     let at = put(buffer, at, b"bounds ");
-    put_word_range(buffer, at, given)
+    put_range(buffer, at, bounds(given))
 }
 
 // Writes two views of permissions that differ.

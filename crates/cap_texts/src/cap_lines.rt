@@ -3,7 +3,7 @@
 
 ghost use Rattle.std.specs.Prelude.{◌+◌, ◌≤◌, length};
 ghost use Rattle.cap_streams.specs.Written.{Writes};
-ghost use Rattle.cap_texts.specs.CapLines.{bounds_line, cap_lines, cap_line, descent_lines, meaning_lines};
+ghost use Rattle.cap_texts.specs.CapLines.{bounds_line, cap_lines, cap_line, meaning_lines};
 ghost use Rattle.cap_texts.specs.{CapLines.{operand_lines, perms_line, type_line}, ExplainLines.type_name};
 
 use crate::explain_lines::type_name;
@@ -16,7 +16,7 @@ use cap_word::{Cap, Word, split};
 /// Writes the lines of an operand that has this name in a report, and returns the index after them: the
 /// four of the capability that its place holds, and the place of the root that this descends from, if
 /// there is one. Nothing else of the buffer changes.
-#[tactic(auto, unfolding(crate::specs::CapLines::operand_lines))]
+#[tactic(auto, unfolding(crate::specs::CapLines::operand_lines, crate::specs::CapLines::descent_line))]
 pub fn put_operand_lines(
     buffer: &mut [u8],
     at: usize,
@@ -31,17 +31,6 @@ pub fn put_operand_lines(
     ensures fits { result ≤ at + 256 }
 {
     let at = put_cap_lines(buffer, at, name, place, cap);
-    put_descent_lines(buffer, at, name, root)
-}
-
-// Writes the place of a root, if there is one.
-#[tactic(auto, unfolding(crate::specs::CapLines::descent_line))]
-fn put_descent_lines(buffer: &mut [u8], at: usize, name: &[u8], root: Option<Place>) -> usize
-    requires name { length name.now ≤ 9 }
-    requires room { at + 64 ≤ length buffer.old }
-    ensures written { Writes at (descent_lines name.now root) buffer.old buffer.new result }
-    ensures fits { result ≤ at + 64 }
-{
     match root {
         Some(root) => {
             let at = put(buffer, at, name);

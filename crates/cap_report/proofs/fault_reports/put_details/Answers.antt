@@ -1,10 +1,10 @@
-use Rattle.std.proofs.Common.{[], inl, inr, refl, sym, ap, subst, arith}
+use Rattle.std.proofs.Common.{[], inl, inr, refl, subst, arith}
 use Rattle.cap_log.specs.{declared.lines.Line.Line, Lines.Spells}
 use Rattle.cap_streams.specs.Written.{Writes-nothing}
 use Rattle.cap_machine.specs.Helds.{account_of}
-use Rattle.cap_report.specs.{FaultReports.{known_lines, root_lines}, StepLines.step_lines}
+use Rattle.cap_report.specs.{FaultReports.root_lines, StepLines.step_lines}
 use Rattle.cap_judge.proofs.TurnLemmas.{formed}
-use Rattle.cap_report.proofs.DetailLemmas.{details_other, nothing_told}
+use Rattle.cap_report.proofs.DetailLemmas.{details_other, nothing_known, nothing_told}
 use Rattle.cap_report.proofs.fault_reports.put_details.Goals as goal
 
 pub returns-in-None : goal.returns-in-None
@@ -22,8 +22,8 @@ returns-in-None g c =
       );
     }
 
-pub returns-in-Version : goal.returns-in-Version
-returns-in-Version g c =
+pub returns-in_default-line : goal.returns-in_default-line
+returns-in_default-line g c =
     let account = account_of c.args.machine.now in
     record {
       fits = omega arith;
@@ -33,42 +33,8 @@ returns-in-Version g c =
             c.in_default.not-LineTooLong c.in_default.not-BadLine c.in_default.not-BadMode
             c.in_default.not-Misplaced c.in_default.not-Truncated
             c.in_default.not-WrongCount c.in_default.not-LimitPassed (nothing_told account c.args.text.now
-            c.in-Some.line c.args.refusal _ refl
-            c.in-Some.ensures.some (ap (λ (l : Line). known_lines account l c.args.refusal) (sym c.in-Version.is))),
-        Writes-nothing,
-      );
-    }
-
-pub returns-in-Mode : goal.returns-in-Mode
-returns-in-Mode g c =
-    let account = account_of c.args.machine.now in
-    record {
-      fits = omega arith;
-      written = (
-        [],
-        details_other account c.args.text.now c.args.refusal [] c.in_default.not-BadHeader
-            c.in_default.not-LineTooLong c.in_default.not-BadLine c.in_default.not-BadMode
-            c.in_default.not-Misplaced c.in_default.not-Truncated
-            c.in_default.not-WrongCount c.in_default.not-LimitPassed (nothing_told account c.args.text.now
-            c.in-Some.line c.args.refusal _ refl
-            c.in-Some.ensures.some (ap (λ (l : Line). known_lines account l c.args.refusal) (sym c.in-Mode.is))),
-        Writes-nothing,
-      );
-    }
-
-pub returns-in-End : goal.returns-in-End
-returns-in-End g c =
-    let account = account_of c.args.machine.now in
-    record {
-      fits = omega arith;
-      written = (
-        [],
-        details_other account c.args.text.now c.args.refusal [] c.in_default.not-BadHeader
-            c.in_default.not-LineTooLong c.in_default.not-BadLine c.in_default.not-BadMode
-            c.in_default.not-Misplaced c.in_default.not-Truncated
-            c.in_default.not-WrongCount c.in_default.not-LimitPassed (nothing_told account c.args.text.now
-            c.in-Some.line c.args.refusal _ refl
-            c.in-Some.ensures.some (ap (λ (l : Line). known_lines account l c.args.refusal) (sym c.in-End.is))),
+            c.in-Some.line c.args.refusal _ refl c.in-Some.ensures.some
+            (nothing_known account c.in-Some.line c.args.refusal c.in_default-line.not-Root c.in_default-line.not-Step)),
         Writes-nothing,
       );
     }
