@@ -5,6 +5,21 @@
 //! when a line names a granule for the first time. A call that keeps no judge open keeps none of it.
 #![tactic(auto)]
 
+// Takes the judge of a handle out, asks it, and puts it in again: what is answered then, or else what a call answers if the
+// handle holds none.
+macro_rules! ask {
+    ($judge:ident, $alloc:ident, |$held:ident| $told:ident = $asked:expr, $answer:expr, else $none:expr) => {
+        match $judge.take($alloc) {
+            Some(mut $held) => {
+                let $told = $asked;
+                $judge.put($held);
+                $answer
+            }
+            None => $none,
+        }
+    };
+}
+
 mod answers;
 mod handle;
 mod heaps;

@@ -56,14 +56,7 @@ pub extern "C" fn capcheck_judge_line(alloc: Global, judge: &mut Handle, line: &
     ensures no_line { (result ≡ 5) ↔ ((held_in judge.old ≢ None) × IsNoLine line.now) }
     ensures held { (held_in judge.new ≡ None) ↔ (held_in judge.old ≡ None) }
 {
-    match judge.take(alloc) {
-        Some(mut held) => {
-            let state = take_line(&mut held, line);
-            judge.put(held);
-            state
-        }
-        None => NO_JUDGE,
-    }
+    ask!(judge, alloc, |held| state = take_line(&mut held, line), state, else NO_JUDGE)
 }
 
 /// Takes as many whole lines as some bytes begin with, each with its line feed, and answers how many bytes they have.
@@ -78,17 +71,10 @@ pub extern "C" fn capcheck_judge_lines(
 ) -> LinesTaken
     ensures handed { HandsOverLines bytes.now (held_in judge.old) (held_in judge.new) result }
 {
-    match judge.take(alloc) {
-        Some(mut held) => {
-            let taken = take_lines(&mut held, bytes);
-            judge.put(held);
-            taken
-        }
-        None => LinesTaken {
-            bytes: 0,
-            state: NO_JUDGE,
-        },
-    }
+    ask!(judge, alloc, |held| taken = take_lines(&mut held, bytes), taken, else LinesTaken {
+        bytes: 0,
+        state: NO_JUDGE,
+    })
 }
 
 /// How the lines so far stand: the state is 0 while none of them is faulty, and else 2 with the `no` that stays
@@ -100,17 +86,10 @@ pub extern "C" fn capcheck_judge_answer(alloc: Global, judge: &mut Handle) -> An
     ensures no_judge { held_in judge.old ≡ None → result ≡ without_verdict 4 }
     ensures kept { held_in judge.new ≡ held_in judge.old }
 {
-    match judge.take(alloc) {
-        Some(held) => {
-            let answer = held.answer();
-            judge.put(held);
-            match answer {
-                Some(no) => numbers_of(no),
-                None => without_verdict(GOES_ON),
-            }
-        }
-        None => without_verdict(NO_JUDGE),
-    }
+    ask!(judge, alloc, |held| answer = held.answer(), match answer {
+        Some(no) => numbers_of(no),
+        None => without_verdict(GOES_ON),
+    }, else without_verdict(NO_JUDGE))
 }
 
 /// The verdict on the lines so far as a whole log: the state is 1 for a `yes` and 2 for a `no`, and 4 if the handle
@@ -122,14 +101,7 @@ pub extern "C" fn capcheck_judge_end(alloc: Global, judge: &mut Handle) -> Answe
     ensures no_judge { held_in judge.old ≡ None → result ≡ without_verdict 4 }
     ensures kept { held_in judge.new ≡ held_in judge.old }
 {
-    match judge.take(alloc) {
-        Some(held) => {
-            let verdict = held.end(&[]);
-            judge.put(held);
-            numbers_of(verdict)
-        }
-        None => without_verdict(NO_JUDGE),
-    }
+    ask!(judge, alloc, |held| verdict = held.end(&[]), numbers_of(verdict), else without_verdict(NO_JUDGE))
 }
 
 /// Closes the judge, and gives its memory back. The handle then holds none.

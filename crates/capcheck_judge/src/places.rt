@@ -39,14 +39,7 @@ pub extern "C" fn capcheck_judge_register(
     if number > 31 {
         return nothing();
     }
-    match judge.take(alloc) {
-        Some(held) => {
-            let cap = held.register(number as u8);
-            judge.put(held);
-            there(cap)
-        }
-        None => nothing(),
-    }
+    ask!(judge, alloc, |held| cap = held.register(number as u8), there(cap), else nothing())
 }
 
 /// What the sixteen bytes of memory in which an address lies hold after the lines so far, or before the
@@ -63,14 +56,7 @@ pub extern "C" fn capcheck_judge_granule(
     ensures none { held_in judge.old ≡ None → (result.present ≡ 0) × (cap_of result.cap ≡ no_cap) }
     ensures kept { held_in judge.new ≡ held_in judge.old }
 {
-    match judge.take(alloc) {
-        Some(held) => {
-            let cap = held.granule(address / 16);
-            judge.put(held);
-            there(cap)
-        }
-        None => nothing(),
-    }
+    ask!(judge, alloc, |held| cap = held.granule(address / 16), there(cap), else nothing())
 }
 
 /// The place of the root that the capability in a place descends from, after the lines so far, or before the faulty
@@ -100,14 +86,7 @@ pub extern "C" fn capcheck_judge_origin(
     let Some(of) = place_of(place) else {
         return passed(None);
     };
-    match judge.take(alloc) {
-        Some(held) => {
-            let root = held.origin(of);
-            judge.put(held);
-            passed(root)
-        }
-        None => passed(None),
-    }
+    ask!(judge, alloc, |held| root = held.origin(of), passed(root), else passed(None))
 }
 
 /// The place that C names.
@@ -154,14 +133,7 @@ pub extern "C" fn capcheck_judge_expected(alloc: Global, judge: &mut Handle) -> 
     ensures none { held_in judge.old ≡ None → IsGiven None result }
     ensures kept { held_in judge.new ≡ held_in judge.old }
 {
-    match judge.take(alloc) {
-        Some(held) => {
-            let expected = held.expected();
-            judge.put(held);
-            given_of(expected)
-        }
-        None => given_of(None),
-    }
+    ask!(judge, alloc, |held| expected = held.expected(), given_of(expected), else given_of(None))
 }
 
 /// What the rules give, as C gets it.

@@ -23,14 +23,7 @@ pub extern "C" fn capcheck_judge_report(alloc: Global, judge: &mut Handle, text:
     ensures nothing_written { held_in judge.old ≡ None → text.new ≡ text.old }
     ensures kept { held_in judge.new ≡ held_in judge.old }
 {
-    match judge.take(alloc) {
-        Some(held) => {
-            let length = write_report(&held, text);
-            judge.put(held);
-            length
-        }
-        None => 0,
-    }
+    ask!(judge, alloc, |held| length = write_report(&held, text), length, else 0)
 }
 
 /// Writes what `capdiag why` prints of the lines so far as a whole log: the line of the verdict, and after a `no` the
@@ -48,14 +41,7 @@ pub extern "C" fn capcheck_judge_end_report(
     ensures nothing_written { held_in judge.old ≡ None → text.new ≡ text.old }
     ensures kept { held_in judge.new ≡ held_in judge.old }
 {
-    match judge.take(alloc) {
-        Some(held) => {
-            let length = write_end_report(&held, text);
-            judge.put(held);
-            length
-        }
-        None => 0,
-    }
+    ask!(judge, alloc, |held| length = write_end_report(&held, text), length, else 0)
 }
 
 // Writes the text of the verdict on a judge's lines as a whole log, and answers its length.

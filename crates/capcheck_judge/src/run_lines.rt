@@ -64,14 +64,7 @@ pub extern "C" fn capcheck_run_judge_line(alloc: Global, judge: &mut RunHandle, 
     ensures handed { HandsOverRunText line.now (run_held_in judge.old) (run_held_in judge.new) result }
     ensures no_line { (result ≡ 5) ↔ ((run_held_in judge.old ≢ None) × IsNoLine line.now) }
 {
-    match judge.take(alloc) {
-        Some(mut held) => {
-            let state = take_run_line(&mut held, line);
-            judge.put(held);
-            state
-        }
-        None => NO_JUDGE,
-    }
+    ask!(judge, alloc, |held| state = take_run_line(&mut held, line), state, else NO_JUDGE)
 }
 
 /// Takes as many whole lines as some bytes begin with, each with its line feed, and answers how many bytes they have.
@@ -86,17 +79,10 @@ pub extern "C" fn capcheck_run_judge_lines(
 ) -> LinesTaken
     ensures handed { HandsOverRunLines bytes.now (run_held_in judge.old) (run_held_in judge.new) result }
 {
-    match judge.take(alloc) {
-        Some(mut held) => {
-            let taken = take_run_lines(&mut held, bytes);
-            judge.put(held);
-            taken
-        }
-        None => LinesTaken {
-            bytes: 0,
-            state: NO_JUDGE,
-        },
-    }
+    ask!(judge, alloc, |held| taken = take_run_lines(&mut held, bytes), taken, else LinesTaken {
+        bytes: 0,
+        state: NO_JUDGE,
+    })
 }
 
 /// How the lines so far stand: the state is 0 while none of them is faulty, and else 2 with the `no` that stays
@@ -107,17 +93,10 @@ pub extern "C" fn capcheck_run_judge_answer(alloc: Global, judge: &mut RunHandle
     ensures no_judge { run_held_in judge.old ≡ None → result ≡ run_without_verdict 4 }
     ensures kept { run_held_in judge.new ≡ run_held_in judge.old }
 {
-    match judge.take(alloc) {
-        Some(held) => {
-            let fault = held.refused();
-            judge.put(held);
-            match fault {
-                Some(fault) => run_numbers_of(fault.verdict()),
-                None => run_without_verdict(GOES_ON),
-            }
-        }
-        None => run_without_verdict(NO_JUDGE),
-    }
+    ask!(judge, alloc, |held| fault = held.refused(), match fault {
+        Some(fault) => run_numbers_of(fault.verdict()),
+        None => run_without_verdict(GOES_ON),
+    }, else run_without_verdict(NO_JUDGE))
 }
 
 /// The verdict on the lines so far as a whole run log: the state is 1 for a `yes` and 2 for a `no`, and 4 if the handle
@@ -128,17 +107,10 @@ pub extern "C" fn capcheck_run_judge_end(alloc: Global, judge: &mut RunHandle) -
     ensures no_judge { run_held_in judge.old ≡ None → result ≡ run_without_verdict 4 }
     ensures kept { run_held_in judge.new ≡ run_held_in judge.old }
 {
-    match judge.take(alloc) {
-        Some(held) => {
-            let end = held.ending(&[]);
-            judge.put(held);
-            match end {
-                Ok(verdict) => run_numbers_of(verdict),
-                Err(fault) => run_numbers_of(fault.verdict()),
-            }
-        }
-        None => run_without_verdict(NO_JUDGE),
-    }
+    ask!(judge, alloc, |held| end = held.ending(&[]), match end {
+        Ok(verdict) => run_numbers_of(verdict),
+        Err(fault) => run_numbers_of(fault.verdict()),
+    }, else run_without_verdict(NO_JUDGE))
 }
 
 /// Closes the judge, and gives its memory back. The handle then holds none.

@@ -40,14 +40,7 @@ pub extern "C" fn capcheck_run_judge_held(
     let Some(place) = asked(place) else {
         return nothing();
     };
-    match judge.take(alloc) {
-        Some(held) => {
-            let cap = held.machine().holds(place);
-            judge.put(held);
-            there(cap)
-        }
-        None => nothing(),
-    }
+    ask!(judge, alloc, |held| cap = held.machine().holds(place), there(cap), else nothing())
 }
 
 /// The number of the object that owns a place after the lines so far, or before the faulty line; 0 if no object owns it,
@@ -69,14 +62,7 @@ pub extern "C" fn capcheck_run_judge_owner(
     let Some(place) = asked(place) else {
         return 0;
     };
-    match judge.take(alloc) {
-        Some(held) => {
-            let owner = held.machine().owner_number(place);
-            judge.put(held);
-            owner.unwrap_or(0)
-        }
-        None => 0,
-    }
+    ask!(judge, alloc, |held| owner = held.machine().owner_number(place), owner.unwrap_or(0), else 0)
 }
 
 /// The object with a number after the lines so far, or before the faulty line: its extent, how many places it owns, the
@@ -118,14 +104,7 @@ pub extern "C" fn capcheck_run_judge_holder(
     ensures no_judge { run_held_in judge.old ≡ None → result ≡ passed_nowhere }
     ensures kept { run_held_in judge.new ≡ run_held_in judge.old }
 {
-    match judge.take(alloc) {
-        Some(held) => {
-            let place = holder(held.machine(), number);
-            judge.put(held);
-            told_holder(place)
-        }
-        None => nowhere(),
-    }
+    ask!(judge, alloc, |held| place = holder(held.machine(), number), told_holder(place), else nowhere())
 }
 
 /// The least number, from a number on, of an object that is live or that a place holds, after the lines so far, or before the
@@ -141,17 +120,10 @@ pub extern "C" fn capcheck_run_judge_next_object(
     ensures no_judge { run_held_in judge.old ≡ None → result ≡ 0 }
     ensures kept { run_held_in judge.new ≡ run_held_in judge.old }
 {
-    match judge.take(alloc) {
-        Some(held) => {
-            let next = held.machine().next_object(from);
-            judge.put(held);
-            match next {
-                Some(object) => object.number,
-                None => 0,
-            }
-        }
+    ask!(judge, alloc, |held| next = held.machine().next_object(from), match next {
+        Some(object) => object.number,
         None => 0,
-    }
+    }, else 0)
 }
 
 // The first place that an object owns, if there is one, as C gets it.

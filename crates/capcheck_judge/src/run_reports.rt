@@ -29,14 +29,7 @@ pub extern "C" fn capcheck_run_judge_report(
     ensures nothing_written { run_held_in judge.old ≡ None → text.new ≡ text.old }
     ensures kept { run_held_in judge.new ≡ run_held_in judge.old }
 {
-    match judge.take(alloc) {
-        Some(held) => {
-            let length = write_run_report(&held, text);
-            judge.put(held);
-            length
-        }
-        None => 0,
-    }
+    ask!(judge, alloc, |held| length = write_run_report(&held, text), length, else 0)
 }
 
 /// Writes what `capdiag run --why` prints of the lines so far as a whole run log: the line of the verdict, and after a `no`
@@ -55,14 +48,7 @@ pub extern "C" fn capcheck_run_judge_end_report(
     ensures nothing_written { run_held_in judge.old ≡ None → text.new ≡ text.old }
     ensures kept { run_held_in judge.new ≡ run_held_in judge.old }
 {
-    match judge.take(alloc) {
-        Some(held) => {
-            let length = write_run_end_report(&held, text);
-            judge.put(held);
-            length
-        }
-        None => 0,
-    }
+    ask!(judge, alloc, |held| length = write_run_end_report(&held, text), length, else 0)
 }
 
 // Writes the report of a judge's faulty line, and answers its length.

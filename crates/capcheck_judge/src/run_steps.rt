@@ -324,14 +324,8 @@ fn hand_over_usual<I: Instruction>(alloc: Global, judge: &mut RunHandle, numbers
     ensures { HandsOverRun (line.Step (I.step (I.meant numbers))) (run_held_in judge.old) (run_held_in judge.new) result }
 {
     match I::from_numbers(numbers) {
-        Some(step) => match judge.take(alloc) {
-            Some(mut held) => {
-                let state = take_usual_step(&mut held, step);
-                judge.put(held);
-                state
-            }
-            None => NO_JUDGE,
-        },
+        Some(step) =>
+            ask!(judge, alloc, |held| state = take_usual_step(&mut held, step), state, else NO_JUDGE),
         None => hand_over_none(alloc, judge),
     }
 }
@@ -343,14 +337,8 @@ fn hand_over_run(alloc: Global, judge: &mut RunHandle, step: Option<RunStep>) ->
         → HandsOverRunStep passed (run_held_in judge.old) (run_held_in judge.new) result }
 {
     match step {
-        Some(step) => match judge.take(alloc) {
-            Some(mut held) => {
-                let state = take_run_step(&mut held, step);
-                judge.put(held);
-                state
-            }
-            None => NO_JUDGE,
-        },
+        Some(step) =>
+            ask!(judge, alloc, |held| state = take_run_step(&mut held, step), state, else NO_JUDGE),
         None => hand_over_none(alloc, judge),
     }
 }
@@ -360,13 +348,7 @@ fn hand_over_none(alloc: Global, judge: &mut RunHandle) -> u8
     ensures state { IsNoStep (run_held_in judge.old) result }
     ensures kept { run_held_in judge.new ≡ run_held_in judge.old }
 {
-    match judge.take(alloc) {
-        Some(held) => {
-            judge.put(held);
-            NO_LINE
-        }
-        None => NO_JUDGE,
-    }
+    ask!(judge, alloc, |held| state = NO_LINE, state, else NO_JUDGE)
 }
 
 // Hands a step to a judge of run logs: 0, 2 or 3, as `capcheck_run_judge_line` says of its line.

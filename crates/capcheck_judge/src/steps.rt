@@ -207,21 +207,9 @@ fn hand_over<I: Instruction>(alloc: Global, judge: &mut Handle, numbers: I::Numb
     ensures { HandsOver (line.Step (I.step (I.meant numbers))) (held_in judge.old) (held_in judge.new) result }
 {
     match I::from_numbers(numbers) {
-        Some(step) => match judge.take(alloc) {
-            Some(mut held) => {
-                let state = take_step(&mut held, step);
-                judge.put(held);
-                state
-            }
-            None => NO_JUDGE,
-        },
-        None => match judge.take(alloc) {
-            Some(held) => {
-                judge.put(held);
-                NO_LINE
-            }
-            None => NO_JUDGE,
-        },
+        Some(step) =>
+            ask!(judge, alloc, |held| state = take_step(&mut held, step), state, else NO_JUDGE),
+        None => ask!(judge, alloc, |held| state = NO_LINE, state, else NO_JUDGE),
     }
 }
 
