@@ -51,36 +51,23 @@ pub fn to_passed(place: RunPlace) -> PassedPlace
     requires { IsRunPlace place }
     ensures place { result ≡ passed_place place }
 {
-    match place {
-        RunPlace::General(number) => PassedPlace {
-            number: u64::from(number),
-            kind: GENERAL,
-        },
-        RunPlace::Special(number) => PassedPlace {
-            number: u64::from(number),
-            kind: SPECIAL,
-        },
-        RunPlace::Granule(granule) => PassedPlace {
-            number: 16 * granule,
-            kind: GRANULE,
-        },
-    }
+    let (number, kind) = match place {
+        RunPlace::General(number) => (u64::from(number), GENERAL),
+        RunPlace::Special(number) => (u64::from(number), SPECIAL),
+        RunPlace::Granule(granule) => (16 * granule, GRANULE),
+    };
+    PassedPlace { number, kind }
 }
 
 /// A register as C gets it.
 pub fn register_to_passed(register: RunRegister) -> PassedPlace
     ensures place { result ≡ passed_register register }
 {
-    match register {
-        RunRegister::General(number) => PassedPlace {
-            number: u64::from(number),
-            kind: GENERAL,
-        },
-        RunRegister::Special(number) => PassedPlace {
-            number: u64::from(number),
-            kind: SPECIAL,
-        },
-    }
+    let (number, kind) = match register {
+        RunRegister::General(number) => (u64::from(number), GENERAL),
+        RunRegister::Special(number) => (u64::from(number), SPECIAL),
+    };
+    PassedPlace { number, kind }
 }
 
 /// No place.

@@ -72,8 +72,7 @@ pub fn drop_from(place: PassedPlace) -> Option<RunStep>
     ensures step { IsStepFrom (drop_passed place) result }
     ensures range { IfSome result IsRunStepInRange }
 {
-    let place = place_from(place)?;
-    Some(RunStep::Drop(place))
+    Some(RunStep::Drop(place_from(place)?))
 }
 
 /// The step `fill` of C's numbers: an address that is a multiple of 16.
@@ -110,8 +109,7 @@ pub fn free_from(register: u64, object: u64) -> Option<RunStep>
     ensures range { IfSome result IsRunStepInRange }
 {
     if object == 0 {
-        let target = Target::new(register)?;
-        return Some(RunStep::FreeOwner(target.number()));
+        return Some(RunStep::FreeOwner(Target::new(register)?.number()));
     }
     if register != 0 || object > 0xffff_ffff {
         return None;
