@@ -7,7 +7,7 @@ ghost use Rattle.cap_run_judge.specs.Readings.{run_in};
 ghost use Rattle.cap_run_log.specs.RunLines.{run_place_spelling};
 ghost use Rattle.cap_texts.specs.TextLines.{says_line};
 ghost use Rattle.cap_report.specs.Says.{taken_text};
-ghost use Rattle.cap_run_report.specs.CapParts.{IsReadable, held_lines, owned_lines, owner_number_line, place_of, register_lines};
+ghost use Rattle.cap_run_report.specs.CapParts.{IsReadable, held_lines, owned_lines, place_of, register_lines};
 
 use cap_log::Place;
 use cap_log::buffers::{put, put_decimal, put_flag, put_hex, put_place};
@@ -84,26 +84,19 @@ pub fn put_register<M: TaggedStore>(
     put_held(buffer, at, name, place_of(register), cap)
 }
 
-// Writes the number of the object that owns a register.
-#[tactic(auto, using(cap_log::proofs::ElementLemmas::short_decimal), unfolding(crate::specs::CapParts::owner_number_line))]
-fn put_owner_number(buffer: &mut [u8], at: usize, number: u32) -> usize
-    requires { at + 64 ≤ length buffer.old }
-    ensures written { Writes at (owner_number_line number) buffer.old buffer.new result }
-    ensures fits { result ≤ at + 64 }
-{
-    let at = put(buffer, at, b"register owner ");
-    let at = put_decimal(buffer, at, u64::from(number));
-    put(buffer, at, b"\n")
-}
-
 /// Writes the number of a register's owner, if it has one.
+#[tactic(auto, using(cap_log::proofs::ElementLemmas::short_decimal), unfolding(crate::specs::CapParts::owner_number_line))]
 pub fn put_owned(buffer: &mut [u8], at: usize, owner: Option<u32>) -> usize
     requires { at + 64 ≤ length buffer.old }
     ensures written { Writes at (owned_lines owner) buffer.old buffer.new result }
     ensures fits { result ≤ at + 64 }
 {
     match owner {
-        Some(number) => put_owner_number(buffer, at, number),
+        Some(number) => {
+            let at = put(buffer, at, b"register owner ");
+            let at = put_decimal(buffer, at, u64::from(number));
+            put(buffer, at, b"\n")
+        }
         None => at,
     }
 }

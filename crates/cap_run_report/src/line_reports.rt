@@ -89,8 +89,7 @@ fn put_usual_details<M: TaggedStore>(
             let at = put_counts(machine, Refusal::Truncated, buffer, at);
             put_hint_line(buffer, at, cut_hint(text))
         }
-        Refusal::WrongCount => put_counts(machine, Refusal::WrongCount, buffer, at),
-        Refusal::LimitPassed => put_counts(machine, Refusal::LimitPassed, buffer, at),
+        Refusal::WrongCount | Refusal::LimitPassed => put_counts(machine, refusal, buffer, at),
         _ => put_line_details(machine, text, RunRefusal::Usual(refusal), buffer, at),
     }
 }

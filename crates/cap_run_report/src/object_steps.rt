@@ -4,7 +4,7 @@ ghost use Rattle.std.specs.Prelude.{◌≡◌, ◌+◌, ◌≤◌, ℕ, List, le
 ghost use Rattle.cap_streams.specs.Written.{Writes};
 ghost use Rattle.cap_log.specs.Lines.{IsTarget};
 ghost use Rattle.cap_run_judge.specs.Readings.{run_in};
-ghost use Rattle.cap_run_report.specs.StepParts.{AreAskedLines, AreFreeLines, AreLifeLines, AreObjectStepLines, asked_extent, count_line, meant};
+ghost use Rattle.cap_run_report.specs.StepParts.{AreAskedLines, AreFreeLines, AreLifeLines, AreObjectStepLines, asked_extent, meant};
 
 use crate::cap_parts::{put_owned, put_register};
 use crate::object_parts::{put_extent, put_numbered, put_owner};
@@ -65,15 +65,6 @@ fn meant<M: TaggedStore>(machine: &RunMachine<M>, register: u8, number: Option<u
     }
 }
 
-// Writes how many objects were handed out.
-fn put_count<M: TaggedStore>(machine: &RunMachine<M>, buffer: &mut [u8], at: usize) -> usize
-    requires { at + 32 ≤ length buffer.old }
-    ensures written { Writes at (count_line (run_in machine.now)) buffer.old buffer.new result }
-    ensures fits { result ≤ at + 32 }
-{
-    put_decimal_line(buffer, at, b"objects", u64::from(machine.count()))
-}
-
 // Writes why what a register holds is handed out or freed in vain.
 fn put_life<M: TaggedStore>(
     machine: &RunMachine<M>,
@@ -94,7 +85,12 @@ fn put_life<M: TaggedStore>(
         RunRefusal::AlreadyFreed => {
             put_owner(machine, buffer, at, meant(machine, register, number))
         }
-        RunRefusal::NoObject => put_count(machine, buffer, at),
+        RunRefusal::NoObject => put_decimal_line(
+            buffer,
+            at,
+            b"objects",
+            u64::from(machine.count()),
+        ),
         RunRefusal::Overlaps => put_asked(machine, buffer, at, register, number, false),
         RunRefusal::StillHeld => put_asked(machine, buffer, at, register, number, true),
         _ => at,
@@ -116,18 +112,9 @@ pub fn put_object_step<M: TaggedStore>(
         × Writes at told buffer.old buffer.new result }
     ensures fits { result ≤ at + 704 }
 {
-    let at = put_register(
-        machine,
-        buffer,
-        at,
-        b"register",
-        RunRegister::General(register),
-    );
-    let at = put_owned(
-        buffer,
-        at,
-        machine.register_owner(RunRegister::General(register)),
-    );
+    let held = RunRegister::General(register);
+    let at = put_register(machine, buffer, at, b"register", held);
+    let at = put_owned(buffer, at, machine.register_owner(held));
     put_life(machine, buffer, at, register, number, refusal)
 }
 
@@ -145,7 +132,12 @@ pub fn put_free_step<M: TaggedStore>(
 {
     match refusal {
         RunRefusal::AlreadyFreed => put_numbered(machine, buffer, at, number),
-        RunRefusal::NoObject => put_count(machine, buffer, at),
+        RunRefusal::NoObject => put_decimal_line(
+            buffer,
+            at,
+            b"objects",
+            u64::from(machine.count()),
+        ),
         _ => at,
     }
 }

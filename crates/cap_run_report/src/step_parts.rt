@@ -9,7 +9,7 @@ ghost use Rattle.cap_run.specs.{Run.{IsSource, IsTargetOf}, RunChanges.account_i
 ghost use Rattle.cap_run_judge.specs.Readings.{run_in};
 ghost use Rattle.cap_run_log.specs.RunLines.{IsRunStepInRange};
 ghost use Rattle.cap_run_report.specs.CapParts.{IsReadable};
-ghost use Rattle.cap_run_report.specs.StepParts.{AreAccessLines, AreReachedLines, AreRunStepLines, AreUsualLines, derived_lines, exchanged_lines};
+ghost use Rattle.cap_run_report.specs.StepParts.{AreAccessLines, AreRunStepLines, AreUsualLines, derived_lines, exchanged_lines};
 ghost use Rattle.cap_run_report.specs.StepParts.{invoked_lines, is_refused, opened_lines};
 
 use crate::cap_parts::{place_of, put_held, put_register};
@@ -26,39 +26,7 @@ use cap_texts::text_lines::put_says;
 use cap_word::{Cap, Word};
 use tagmem::TaggedStore;
 
-// Writes what is told of an access that is refused for its owner.
-fn put_reached<M: TaggedStore>(
-    machine: &RunMachine<M>,
-    buffer: &mut [u8],
-    at: usize,
-    access: Reached,
-    refusal: RunRefusal,
-) -> usize
-    requires { at + 352 ≤ length buffer.old }
-    ensures written { (told : List ℕ) × AreReachedLines (run_in machine.now) access refusal told × Writes at told buffer.old buffer.new result }
-    ensures fits { result ≤ at + 352 }
-{
-    match refusal {
-        RunRefusal::OwnerFreed => put_owner(
-            machine,
-            buffer,
-            at,
-            machine.register_owner(RunRegister::General(access.authority.number())),
-        ),
-        RunRefusal::NotOwned => put_met(
-            machine,
-            buffer,
-            at,
-            None,
-            false,
-            access.address,
-            u128::from(access.address) + u128::from(access.size),
-        ),
-        _ => at,
-    }
-}
-
-// The same, if there is an access.
+// Writes what is told of an access that is refused for its owner, if there is one.
 fn put_access<M: TaggedStore>(
     machine: &RunMachine<M>,
     buffer: &mut [u8],
@@ -70,9 +38,19 @@ fn put_access<M: TaggedStore>(
     ensures written { (told : List ℕ) × AreAccessLines (run_in machine.now) access refusal told × Writes at told buffer.old buffer.new result }
     ensures fits { result ≤ at + 352 }
 {
-    match access {
-        Some(access) => put_reached(machine, buffer, at, access, refusal),
-        None => at,
+    let Some(access) = access else {
+        return at;
+    };
+    match refusal {
+        RunRefusal::OwnerFreed => {
+            let authority = RunRegister::General(access.authority.number());
+            put_owner(machine, buffer, at, machine.register_owner(authority))
+        }
+        RunRefusal::NotOwned => {
+            let end = u128::from(access.address) + u128::from(access.size);
+            put_met(machine, buffer, at, None, false, access.address, end)
+        }
+        _ => at,
     }
 }
 
@@ -176,16 +154,11 @@ fn put_opened(buffer: &mut [u8], at: usize, place: RunPlace, sealed: Word, recor
     ensures written { Writes at (opened_lines place sealed.0 recorded) buffer.old buffer.new result }
     ensures fits { result ≤ at + 384 }
 {
-    let given = Cap {
-        tag: true,
-        word: opened(sealed),
-    };
-    let at = put_held(buffer, at, b"gives", place, given);
-    let recorded = Cap {
-        tag: true,
-        word: recorded,
-    };
-    put_held(buffer, at, b"recorded", place, recorded)
+    let tag = true;
+    let word = opened(sealed);
+    let at = put_held(buffer, at, b"gives", place, Cap { tag, word });
+    let word = recorded;
+    put_held(buffer, at, b"recorded", place, Cap { tag, word })
 }
 
 // Writes the pair that is invoked; and if a recorded word isn't theirs, the first such.
