@@ -10,7 +10,7 @@ use crate::heads::HeapHead;
 use cap_log::buffers::put;
 use cap_texts::fields::{Field, Wrong, first_wrong};
 use cap_texts::text_lines::put_line;
-use cap_texts::wrong_lines::{put_header_lines, put_hint_line, put_wrong_lines};
+use cap_texts::wrong_lines::{put_header_lines, put_hinted_line, put_wrong_lines};
 
 /// Writes what the first line of a log has to be.
 pub(crate) fn put_bad_header(buffer: &mut [u8], at: usize, text: &[u8]) -> usize
@@ -19,8 +19,8 @@ pub(crate) fn put_bad_header(buffer: &mut [u8], at: usize, text: &[u8]) -> usize
     ensures fits { result ≤ at + 256 }
 {
     if is_machine_header(text) {
-        let at = put_line(buffer, at, b"expected", b"heap 1");
-        put_hint_line(buffer, at, b"the log of a machine: capdiag why judges it")
+        let hint = b"the log of a machine: capdiag why judges it";
+        put_hinted_line(buffer, at, b"heap 1", hint)
     } else {
         put_header_lines(buffer, at, text, b"heap 1")
     }

@@ -2,7 +2,7 @@
 
 ghost use Rattle.std.specs.Prelude.{◌≡◌, ℕ, List, ◌+◌, ◌≤◌, IfNone, IfSome, length};
 ghost use Rattle.cap_streams.specs.Written.{Writes};
-ghost use Rattle.cap_report.specs.BadLines.{AreBadLines, AreFirstLines, HasNoWrongWord, IsWrongWord, fields_of, other_log};
+ghost use Rattle.cap_report.specs.BadLines.{AreBadLines, AreFirstLines, HasNoWrongWord, IsWrongWord, fields_of};
 
 use cap_log::buffers::put;
 use cap_log::kinds::Shape;
@@ -13,7 +13,7 @@ use cap_texts::fields::Field::{
 };
 use cap_texts::fields::{Field, Wrong, first_wrong};
 use cap_texts::text_lines::put_line;
-use cap_texts::wrong_lines::{put_header_lines, put_hint_line, put_wrong_lines};
+use cap_texts::wrong_lines::{put_header_lines, put_hinted_line, put_wrong_lines};
 
 /// What the first line has to be.
 const FIRST_LINES: &[u8] = b"capcheck 1 or capcheck 2";
@@ -25,27 +25,13 @@ pub fn put_bad_header(buffer: &mut [u8], at: usize, text: &[u8]) -> usize
     ensures fits { result ≤ at + 256 }
 {
     if text == b"heap 1".as_slice() {
-        put_other_log(
-            buffer,
-            at,
-            b"the log of an allocator: capdiag heap judges it",
-        )
+        let hint = b"the log of an allocator: capdiag heap judges it";
+        put_hinted_line(buffer, at, FIRST_LINES, hint)
     } else if text == b"run 1".as_slice() {
-        put_other_log(buffer, at, b"a run log: capdiag run judges it")
+        put_hinted_line(buffer, at, FIRST_LINES, b"a run log: capdiag run judges it")
     } else {
         put_header_lines(buffer, at, text, FIRST_LINES)
     }
-}
-
-// Writes what the first line has to be, and which program judges this log.
-fn put_other_log(buffer: &mut [u8], at: usize, hint: &[u8]) -> usize
-    requires hint { length hint.now ≤ 64 }
-    requires room { at + 128 ≤ length buffer.old }
-    ensures written { Writes at (other_log hint.now) buffer.old buffer.new result }
-    ensures fits { result ≤ at + 128 }
-{
-    let at = put_line(buffer, at, b"expected", FIRST_LINES);
-    put_hint_line(buffer, at, hint)
 }
 
 /// Writes which word of a line is wrong, and what is expected there.

@@ -4,25 +4,14 @@ ghost use Rattle.std.specs.Prelude.{◌≡◌, ◌+◌, ◌≤◌, ◌∷◌, []
 ghost use Rattle.cap_streams.specs.Written.{Writes};
 ghost use Rattle.cap_log.specs.Parts.{BeginsWithNone};
 ghost use Rattle.cap_run_log.specs.RunHeads.{IsRunHead, run_head_spelling};
-ghost use Rattle.cap_run_report.specs.BadRunLines.{AreBadRunLines, AreFirstRunLines, AreOtherLines, form_of, other_log};
+ghost use Rattle.cap_run_report.specs.BadRunLines.{AreBadRunLines, AreFirstRunLines, AreOtherLines, form_of};
 
 use cap_log::buffers::put;
 use cap_log::{Head, Part};
 use cap_report::bad_lines::put_bad_line;
 use cap_run_log::RunHead;
 use cap_texts::text_lines::put_line;
-use cap_texts::wrong_lines::{put_header_lines, put_hint_line};
-
-// Writes what the first line has to be, and which program judges this log.
-fn put_other_log(buffer: &mut [u8], at: usize, hint: &[u8]) -> usize
-    requires hint { length hint.now ≤ 64 }
-    requires room { at + 128 ≤ length buffer.old }
-    ensures written { Writes at (other_log hint.now) buffer.old buffer.new result }
-    ensures fits { result ≤ at + 128 }
-{
-    let at = put_line(buffer, at, b"expected", b"run 1");
-    put_hint_line(buffer, at, hint)
-}
+use cap_texts::wrong_lines::{put_header_lines, put_hinted_line};
 
 /// Writes what the first line of a run log has to be.
 pub fn put_bad_run_header(buffer: &mut [u8], at: usize, text: &[u8]) -> usize
@@ -31,17 +20,11 @@ pub fn put_bad_run_header(buffer: &mut [u8], at: usize, text: &[u8]) -> usize
     ensures fits { result ≤ at + 256 }
 {
     if text == b"capcheck 1".as_slice() || text == b"capcheck 2".as_slice() {
-        put_other_log(
-            buffer,
-            at,
-            b"a log of version 1 or 2: capcheck judge judges it",
-        )
+        let hint = b"a log of version 1 or 2: capcheck judge judges it";
+        put_hinted_line(buffer, at, b"run 1", hint)
     } else if text == b"heap 1".as_slice() {
-        put_other_log(
-            buffer,
-            at,
-            b"the log of an allocator: capdiag heap judges it",
-        )
+        let hint = b"the log of an allocator: capdiag heap judges it";
+        put_hinted_line(buffer, at, b"run 1", hint)
     } else {
         put_header_lines(buffer, at, text, b"run 1")
     }

@@ -50,8 +50,19 @@ pub fn put_header_lines(buffer: &mut [u8], at: usize, text: &[u8], expected: &[u
     ensures written { Writes at (header_lines text.now expected.now) buffer.old buffer.new result }
     ensures fits { result ≤ at + 256 }
 {
+    put_hinted_line(buffer, at, expected, mark_hint(text))
+}
+
+/// Writes what is expected, and a hint if that isn't empty.
+pub fn put_hinted_line(buffer: &mut [u8], at: usize, expected: &[u8], hint: &[u8]) -> usize
+    requires few { length expected.now ≤ 64 }
+    requires hint { length hint.now ≤ 80 }
+    requires room { at + 256 ≤ length buffer.old }
+    ensures written { Writes at (text_line (codes "expected") expected.now ++ hint_line hint.now) buffer.old buffer.new result }
+    ensures fits { result ≤ at + 256 }
+{
     let at = put_line(buffer, at, b"expected", expected);
-    put_hint_line(buffer, at, mark_hint(text))
+    put_hint_line(buffer, at, hint)
 }
 
 // Writes a line from a wrong word on, if it has more than its line feed.

@@ -7,5 +7,5 @@ returns-then-eq-clause-written c =
     let same : c.args.text.now ≡ codes "heap 1" = search rules in (
       other_log (codes "the log of an allocator: capdiag heap judges it"),
       inl (same, refl),
-      c.put_other_log.ensures.written,
+      c.put_hinted_line.ensures.written,
     )
