@@ -36,4 +36,3 @@ pub use crate::refusal::HeapRefusal;
 pub use crate::report::{HeapReport, put_report};
 pub use crate::verdict::HeapVerdict;
 pub use crate::verdict_lines::{heap_status, heap_text};
-pub use cap_streams::judging::{JudgeFault, JudgeToFault};

@@ -25,20 +25,16 @@ pub(crate) fn last_below(map: &BTreeMap<u64, u64>, number: u128) -> Option<(u64,
 fn last(map: &BTreeMap<u64, u64>) -> Option<(u64, u64)>
     ensures { (number : ℕ) → 2 ^ 64 ≤ number → IsLastBelow (tree.get nat_cmp map.now) number result }
 {
-    match map.last_key_value() {
-        Some((key, value)) => Some((*key, *value)),
-        None => None,
-    }
+    let (key, value) = map.last_key_value()?;
+    Some((*key, *value))
 }
 
 /// The first entry from an address on.
 pub(crate) fn first_from(map: &BTreeMap<u64, u64>, address: u64) -> Option<(u64, u64)>
     ensures { IsFirstFrom (tree.get nat_cmp map.now) address result }
 {
-    match map.range(address..).next() {
-        Some((key, value)) => Some((*key, *value)),
-        None => None,
-    }
+    let (key, value) = map.range(address..).next()?;
+    Some((*key, *value))
 }
 
 /// An entry, if its rounded top is above a base.

@@ -78,25 +78,15 @@ impl Progress {
         ensures stays { OnErr result (Stays self.old self.new) }
     {
         match self.stage {
-            LogPart::Start => self.take_header(text),
+            LogPart::Start if text == b"heap 1".as_slice() => {
+                self.stage = LogPart::Headed;
+                Ok(())
+            }
+            LogPart::Start => Err(EventEnd::Refused(HeapRefusal::BadHeader)),
             LogPart::Headed => self.take_root(text),
             LogPart::Within => self.take_within(text),
             LogPart::Ended => Err(EventEnd::Refused(HeapRefusal::Misplaced)),
         }
-    }
-
-    // Takes the first line.
-    fn take_header(&mut self, text: &[u8]) -> Result<(), EventEnd>
-        requires { self.old.stage ≡ stages.Start }
-        ensures ok { OnOk result (TakesText self.old text.now self.new) }
-        ensures err { IfErr result (EndsText self.old text.now) }
-        ensures stays { OnErr result (Stays self.old self.new) }
-    {
-        if text != b"heap 1".as_slice() {
-            return Err(EventEnd::Refused(HeapRefusal::BadHeader));
-        }
-        self.stage = LogPart::Headed;
-        Ok(())
     }
 
     // Takes the second line.

@@ -79,12 +79,7 @@ fn plus(sum: u64, more: u128) -> u64
     requires { more ≤ 2 ^ 66 }
     ensures { result ≡ capped (sum + more) }
 {
-    let whole = u128::from(sum) + more;
-    if whole < 1 << 64 {
-        whole as u64
-    } else {
-        u64::MAX
-    }
+    (u128::from(sum) + more).min(u128::from(u64::MAX)) as u64
 }
 
 // How many bytes the bounds of an object reach beyond it.

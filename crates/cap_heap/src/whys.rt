@@ -1,11 +1,14 @@
 //! The diagnosis: the line that was refused, and what its checks compared.
 
-ghost use Rattle.std.specs.Prelude.{◌≡◌, ℕ, List, ◌+◌, ◌≤◌, length};
+ghost use Rattle.std.specs.Prelude.{◌≡◌, ℕ, List, ◌+◌, ◌++◌, ◌≤◌, length};
+ghost use Rattle.cap_word.specs.Digits.{hex_digits};
+ghost use Rattle.cap_bounds.specs.Rounding.{alignment_of, rounded_top};
 ghost use Rattle.cap_streams.specs.Written.{Writes};
+ghost use Rattle.cap_texts.specs.TextLines.{text_line};
 ghost use Rattle.cap_heap.specs.declared.events.Event.TheVariants.{Malloc};
 ghost use Rattle.cap_heap.specs.Beginnings.{AreDetailsBehind, Beginning, due_of, lines_of};
 ghost use Rattle.cap_heap.specs.HeapWhys.{AreEventDetails, AreFreeDetails, apart_lines, count_in, counted_lines, due_line, free_hint};
-ghost use Rattle.cap_heap.specs.HeapWhys.{live_lines, live_right_lines, request_lines, right_lines, share_bytes};
+ghost use Rattle.cap_heap.specs.HeapWhys.{live_lines, request_lines, share_bytes};
 ghost use Rattle.cap_heap.specs.{Heaps.objects_in, Progresses.{AreEventDetailsIn, StandsFor}};
 
 use crate::bad_lines::{put_bad_header, put_bad_line};
@@ -149,12 +152,12 @@ fn put_malloc_lines(
         HeapRefusal::OutsideHeap => {
             let Interval { base, top } = heap.bounds();
             let at = put_bounds_line(buffer, at, b"root", b" ", base, top);
-            put_right_lines(buffer, at, size)
+            put_right_lines(buffer, at, b"length", b"alignment", size)
         }
         _ => {
             let found = heap.overlapped(address, size);
             let at = put_live_lines(buffer, at, found);
-            let at = put_right_lines(buffer, at, size);
+            let at = put_right_lines(buffer, at, b"length", b"alignment", size);
             put_apart_lines(buffer, at, address, size, found)
         }
     }
@@ -186,18 +189,20 @@ fn put_live_lines(buffer: &mut [u8], at: usize, found: Option<(u64, u64)>) -> us
     }
 }
 
-// Writes the length that would be right for a request, and what its address would be a multiple of.
-#[tactic(auto, unfolding(crate::specs::HeapWhys::right_lines))]
-fn put_right_lines(buffer: &mut [u8], at: usize, size: u64) -> usize
-    requires { at + 64 ≤ length buffer.old }
-    ensures written { Writes at (right_lines size) buffer.old buffer.new result }
+// Writes the length that would be right for a request, and what its address would be a multiple of, after these names.
+fn put_right_lines(buffer: &mut [u8], at: usize, span: &[u8], unit: &[u8], size: u64) -> usize
+    requires names { length span.now + length unit.now ≤ 25 }
+    requires room { at + 64 ≤ length buffer.old }
+    ensures written { Writes at (text_line span.now (hex_digits 17 (rounded_top 0 size)) ++ text_line unit.now (hex_digits 17 (alignment_of size)))
+        buffer.old buffer.new result }
     ensures fits { result ≤ at + 64 }
 {
-    let at = put_hex_line(buffer, at, b"length", 17, round_length(size));
-    put_hex_line(buffer, at, b"alignment", 17, alignment(size))
+    let at = put_hex_line(buffer, at, span, 17, round_length(size));
+    put_hex_line(buffer, at, unit, 17, alignment(size))
 }
 
 // Writes what would keep a request apart from a live object, if there is one.
+#[tactic(auto, unfolding(crate::specs::HeapWhys::live_right_lines))]
 fn put_apart_lines(
     buffer: &mut [u8],
     at: usize,
@@ -219,7 +224,7 @@ fn put_apart_lines(
                     b"the two objects share bytes: no bounds keep them apart",
                 )
             } else {
-                put_live_right_lines(buffer, at, length)
+                put_right_lines(buffer, at, b"live length", b"live alignment", length)
             }
         }
         None => at,
@@ -232,15 +237,4 @@ fn share_bytes(address: u64, size: u64, other: u64, length: u64) -> bool
 {
     u128::from(address) < u128::from(other) + u128::from(length)
         && u128::from(other) < u128::from(address) + u128::from(size)
-}
-
-// Writes the length that would be right for a live object, and what its address would be a multiple of.
-#[tactic(auto, unfolding(crate::specs::HeapWhys::live_right_lines))]
-fn put_live_right_lines(buffer: &mut [u8], at: usize, size: u64) -> usize
-    requires { at + 80 ≤ length buffer.old }
-    ensures written { Writes at (live_right_lines size) buffer.old buffer.new result }
-    ensures fits { result ≤ at + 80 }
-{
-    let at = put_hex_line(buffer, at, b"live length", 17, round_length(size));
-    put_hex_line(buffer, at, b"live alignment", 17, alignment(size))
 }

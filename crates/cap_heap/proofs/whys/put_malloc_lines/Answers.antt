@@ -8,6 +8,7 @@ use Rattle.cap_heap.proofs.WhyLemmas.{other_details}
 use Rattle.cap_heap.proofs.whys.put_malloc_lines.Goals as goal
 
 pub returns-in-OutsideHeap-clause-written : goal.returns-in-OutsideHeap-clause-written
+unfolding right_lines
 returns-in-OutsideHeap-clause-written c =
     let bounds = c.args.heap.now.bounds in
     let details = request_lines [] c.args.address c.args.size ++ bounds_line (codes "root") (codes " ") bounds.base bounds.top
@@ -20,6 +21,7 @@ returns-in-OutsideHeap-clause-written c =
     )
 
 pub returns-in_default-clause-written : goal.returns-in_default-clause-written
+unfolding right_lines
 returns-in_default-clause-written c =
     let details = request_lines [] c.args.address c.args.size ++ live_lines c.overlapped-found.result ++ right_lines c.args.size ++ apart_lines c.args.address c.args.size c.overlapped-found.result in (
       details,
