@@ -87,6 +87,7 @@ fn put_details<M: TaggedStore>(
 }
 
 /// Writes the counts of what was taken so far, and what has to come then.
+#[tactic(auto, unfolding(crate::specs::FaultReports::count_lines))]
 pub fn put_counted_lines<M: TaggedStore>(
     machine: &Machine<M>,
     refusal: Refusal,
@@ -97,7 +98,9 @@ pub fn put_counted_lines<M: TaggedStore>(
     ensures written { Writes at (count_lines (account_of machine.now) ++ due_line (account_of machine.now) refusal) buffer.old buffer.new result }
     ensures fits { result ≤ at + 256 }
 {
-    let at = put_count_lines(machine, buffer, at);
+    let at = put_decimal_line(buffer, at, b"roots", u64::from(machine.roots()));
+    let at = put_decimal_line(buffer, at, b"steps", u64::from(machine.steps()));
+    let at = put_decimal_line(buffer, at, b"granules", u64::from(machine.granules()));
     put_due_line(machine, refusal, buffer, at)
 }
 
@@ -130,18 +133,6 @@ fn put_due_line<M: TaggedStore>(
         ),
         _ => at,
     }
-}
-
-// Writes the counts of what was taken so far.
-#[tactic(auto, unfolding(crate::specs::FaultReports::count_lines))]
-fn put_count_lines<M: TaggedStore>(machine: &Machine<M>, buffer: &mut [u8], at: usize) -> usize
-    requires room { at + 256 ≤ length buffer.old }
-    ensures written { Writes at (count_lines (account_of machine.now)) buffer.old buffer.new result }
-    ensures fits { result ≤ at + 128 }
-{
-    let at = put_decimal_line(buffer, at, b"roots", u64::from(machine.roots()));
-    let at = put_decimal_line(buffer, at, b"steps", u64::from(machine.steps()));
-    put_decimal_line(buffer, at, b"granules", u64::from(machine.granules()))
 }
 
 // Writes what is told of a root: what its place holds, or what its word stands for.

@@ -7,17 +7,18 @@ ghost use Rattle.cap_bounds.specs.{Bounds.{base_of, top_of}, Rounding.{rounded_b
 ghost use Rattle.cap_streams.specs.Written.{Writes};
 ghost use Rattle.cap_texts.specs.TextLines.{says_line};
 ghost use Rattle.cap_machine.specs.{Helds.state_of, Shown.IsShown};
-ghost use Rattle.cap_report.specs.Says.{above_types_text, address_text, addresses_differ, asked_text, authority_register, cleared_text, escape_text, failed_text};
-ghost use Rattle.cap_report.specs.Says.{given_text, has_bounds_of, is_cleared, lacking_text, lies_inside, misaligned_text, moved_text, needed_name, giver, needs_of, numbers_text, other_text, permissions_differ, range_end, range_start};
+ghost use Rattle.cap_report.specs.Says.{address_text, asked_text, authority_register, escape_text, failed_text};
+ghost use Rattle.cap_report.specs.Says.{given_text, has_bounds_of, is_cleared, lies_inside, misaligned_text};
+ghost use Rattle.cap_report.specs.Says.{moved_text, needed_name, giver, needs_of, other_text, range_end, range_start};
 ghost use Rattle.cap_report.specs.Says.{outside_text, request_text, rounding_text, sealed_text, seen_by, seen_sentence};
-ghost use Rattle.cap_report.specs.Says.{source_place, step_sentence, tags_text, types_differ, types_text, unstored_text, words_text};
+ghost use Rattle.cap_report.specs.Says.{step_sentence, tags_text, types_text, unstored_text, words_text};
 ghost use Rattle.cap_report.specs.Sentences.{number_text, range_text};
 
 use crate::operands::held_in;
 use crate::sentences::{put_beyond, put_number, put_range};
 use cap_bounds::{Interval, bounds, reach, round};
+use cap_log::Place;
 use cap_log::buffers::{put, put_decimal, put_flag, put_hex, put_place};
-use cap_log::{Place, Size};
 use cap_machine::{Given, Machine, Reached, Refusal, Request, Shown};
 use cap_ops::perm_view;
 use cap_word::{Cap, Word};
@@ -258,16 +259,6 @@ fn put_address(buffer: &mut [u8], at: usize, seen: &Seen) -> usize
     put_number(buffer, at, u128::from(seen.held.word.address()))
 }
 
-// Writes that the authority's address is no object type.
-fn put_above_types(buffer: &mut [u8], at: usize, seen: &Seen) -> usize
-    requires { at + 160 ≤ length buffer.old }
-    ensures written { Writes at (above_types_text seen.now) buffer.old buffer.new result }
-    ensures fits { result ≤ at + 160 }
-{
-    let at = put_address(buffer, at, seen);
-    put(buffer, at, b", is above the greatest object type")
-}
-
 // Writes that an access, or the authority's address, lies outside its bounds.
 fn put_outside(buffer: &mut [u8], at: usize, seen: &Seen) -> usize
     requires { at + 160 ≤ length buffer.old }
@@ -345,17 +336,6 @@ pub(crate) fn put_of_place(buffer: &mut [u8], at: usize, place: Place, text: &[u
     put(buffer, at, text)
 }
 
-// Writes which permission the authority lacks.
-fn put_lacking(buffer: &mut [u8], at: usize, seen: &Seen) -> usize
-    requires { at + 64 ≤ length buffer.old }
-    ensures written { Writes at (lacking_text seen.now) buffer.old buffer.new result }
-    ensures fits { result ≤ at + 64 }
-{
-    let at = put_place(buffer, at, seen.authority);
-    let at = put(buffer, at, b" lacks ");
-    put(buffer, at, needed_name(needs_of(seen.request, seen.access)))
-}
-
 // Writes why a check of a step fails.
 fn put_failed(buffer: &mut [u8], at: usize, seen: &Seen, refusal: Refusal) -> usize
     requires { at + 160 ≤ length buffer.old }
@@ -370,9 +350,16 @@ fn put_failed(buffer: &mut [u8], at: usize, seen: &Seen, refusal: Refusal) -> us
         Refusal::BoundsEscape | Refusal::NotExact | Refusal::NotRepresentable => {
             put_asked(buffer, at, seen, refusal)
         }
-        Refusal::AuthorityPermission => put_lacking(buffer, at, seen),
+        Refusal::AuthorityPermission => {
+            let at = put_place(buffer, at, seen.authority);
+            let at = put(buffer, at, b" lacks ");
+            put(buffer, at, needed_name(needs_of(seen.request, seen.access)))
+        }
         Refusal::AuthorityBounds => put_outside(buffer, at, seen),
-        Refusal::TypeOutOfRange => put_above_types(buffer, at, seen),
+        Refusal::TypeOutOfRange => {
+            let at = put_address(buffer, at, seen);
+            put(buffer, at, b", is above the greatest object type")
+        }
         Refusal::TypeMismatch => put_types(buffer, at, seen),
         Refusal::Misaligned => put_misaligned(buffer, at, seen.access),
         Refusal::StoreCapPermission => {
@@ -400,21 +387,6 @@ fn giver(access: Option<Reached>) -> &'static [u8]
     }
 }
 
-// Writes why the rules clear a recorded tag.
-fn put_cleared(buffer: &mut [u8], at: usize, seen: &Seen, fault: Option<Refusal>) -> usize
-    requires { at + 160 ≤ length buffer.old }
-    ensures written { Writes at (cleared_text seen.now fault) buffer.old buffer.new result }
-    ensures fits { result ≤ at + 160 }
-{
-    match fault {
-        Some(fault) => put_failed(buffer, at, seen, fault),
-        None => {
-            let at = put_place(buffer, at, seen.authority);
-            put(buffer, at, b" lacks Load Capability")
-        }
-    }
-}
-
 // Whether the rules clear a recorded tag.
 fn is_cleared(seen: &Seen, recorded: bool, fault: Option<Refusal>) -> bool
     ensures value { result ≡ is_cleared seen.now recorded fault }
@@ -436,7 +408,13 @@ fn put_tags(
 {
     if is_cleared(seen, recorded, fault) {
         let at = put(buffer, at, b"it records tag 1; the rules clear it: ");
-        put_cleared(buffer, at, seen, fault)
+        match fault {
+            Some(fault) => put_failed(buffer, at, seen, fault),
+            None => {
+                let at = put_place(buffer, at, seen.authority);
+                put(buffer, at, b" lacks Load Capability")
+            }
+        }
     } else {
         let at = put(buffer, at, b"it records ");
         let at = put(buffer, at, b"tag ");
@@ -506,69 +484,6 @@ fn put_other_permissions(
     put_hex(buffer, at, 8, u128::from(given))
 }
 
-// Writes in what two words differ that have the same bounds, address and permissions.
-fn put_types_differ(buffer: &mut [u8], at: usize, by: &[u8], given: Word, recorded: Word) -> usize
-    requires by { length by.now ≤ 17 }
-    requires room { at + 200 ≤ length buffer.old }
-    ensures written { Writes at (types_differ by.now given.0 recorded.0) buffer.old buffer.new result }
-    ensures fits { result ≤ at + 200 }
-{
-    let (one, other) = (given.object_type(), recorded.object_type());
-    if one == other {
-        put(
-            buffer,
-            at,
-            b"it records a word of the same meaning, but with other bits",
-        )
-    } else {
-        let (one, other) = (u128::from(one), u128::from(other));
-        put_other(buffer, at, by, b"object type ", other, one)
-    }
-}
-
-// Writes in what two words differ that have the same bounds and address.
-fn put_permissions_differ(
-    buffer: &mut [u8],
-    at: usize,
-    by: &[u8],
-    given: Word,
-    recorded: Word,
-) -> usize
-    requires by { length by.now ≤ 17 }
-    requires room { at + 200 ≤ length buffer.old }
-    ensures written { Writes at (permissions_differ by.now given.0 recorded.0) buffer.old buffer.new result }
-    ensures fits { result ≤ at + 200 }
-{
-    let (one, other) = (perm_view(given), perm_view(recorded));
-    if one == other {
-        put_types_differ(buffer, at, by, given, recorded)
-    } else {
-        put_other_permissions(buffer, at, by, other, one)
-    }
-}
-
-// Writes in what two words differ that have the same bounds.
-fn put_addresses_differ(
-    buffer: &mut [u8],
-    at: usize,
-    by: &[u8],
-    given: Word,
-    recorded: Word,
-) -> usize
-    requires by { length by.now ≤ 17 }
-    requires room { at + 200 ≤ length buffer.old }
-    ensures written { Writes at (addresses_differ by.now given.0 recorded.0) buffer.old buffer.new result }
-    ensures fits { result ≤ at + 200 }
-{
-    let (one, other) = (given.address(), recorded.address());
-    if one == other {
-        put_permissions_differ(buffer, at, by, given, recorded)
-    } else {
-        let (one, other) = (u128::from(one), u128::from(other));
-        put_other(buffer, at, by, b"address ", other, one)
-    }
-}
-
 // Whether two words have the same bounds.
 fn has_bounds_of(given: Word, recorded: Word) -> bool
     ensures value { result ≡ has_bounds_of given.0 recorded.0 }
@@ -584,24 +499,28 @@ fn put_words(buffer: &mut [u8], at: usize, by: &[u8], given: Word, recorded: Wor
     ensures written { Writes at (words_text by.now given.0 recorded.0) buffer.old buffer.new result }
     ensures fits { result ≤ at + 200 }
 {
-    if has_bounds_of(given, recorded) {
-        put_addresses_differ(buffer, at, by, given, recorded)
-    } else {
-        put_other_bounds(buffer, at, by, recorded, given)
+    if !has_bounds_of(given, recorded) {
+        return put_other_bounds(buffer, at, by, recorded, given);
     }
-}
-
-// Writes two numbers of memory that differ.
-fn put_numbers(buffer: &mut [u8], at: usize, given: u64, size: Size, recorded: u64) -> usize
-    requires { at + 160 ≤ length buffer.old }
-    ensures written { Writes at (numbers_text given size recorded) buffer.old buffer.new result }
-    ensures fits { result ≤ at + 160 }
-{
-    let digits = 2 * usize::from(size.bytes());
-    let at = put(buffer, at, b"it records 0x");
-    let at = put_hex(buffer, at, digits, u128::from(recorded));
-    let at = put(buffer, at, b"; memory holds 0x");
-    put_hex(buffer, at, digits, u128::from(given))
+    let (one, other) = (given.address(), recorded.address());
+    if one != other {
+        let (one, other) = (u128::from(one), u128::from(other));
+        return put_other(buffer, at, by, b"address ", other, one);
+    }
+    let (one, other) = (perm_view(given), perm_view(recorded));
+    if one != other {
+        return put_other_permissions(buffer, at, by, other, one);
+    }
+    let (one, other) = (given.object_type(), recorded.object_type());
+    if one != other {
+        let (one, other) = (u128::from(one), u128::from(other));
+        return put_other(buffer, at, by, b"object type ", other, one);
+    }
+    put(
+        buffer,
+        at,
+        b"it records a word of the same meaning, but with other bits",
+    )
 }
 
 // Writes a result that isn't the one the rules give.
@@ -627,7 +546,13 @@ fn put_given(buffer: &mut [u8], at: usize, seen: &Seen, given: Given) -> usize
             value,
             size,
             recorded,
-        } => put_numbers(buffer, at, value, size, recorded),
+        } => {
+            let digits = 2 * usize::from(size.bytes());
+            let at = put(buffer, at, b"it records 0x");
+            let at = put_hex(buffer, at, digits, u128::from(recorded));
+            let at = put(buffer, at, b"; memory holds 0x");
+            put_hex(buffer, at, digits, u128::from(value))
+        }
         Given::Nothing => at,
     }
 }

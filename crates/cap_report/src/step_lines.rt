@@ -1,14 +1,11 @@
 //! The report on a step: what it read and asked for, and if its line records another result, what the
 //! rules give.
 
-ghost use Rattle.std.specs.Prelude.{◌≡◌, ◌+◌, ◌*◌, ◌<◌, ◌≤◌, ◌∷◌, [], Some, None, IfSome, length};
-ghost use Rattle.cap_bounds.specs.{Bounds.{base_of, top_of}, Range.with_address, Rounding.{rounded_base, rounded_top}};
+ghost use Rattle.std.specs.Prelude.{◌+◌, ◌≤◌, IfSome, length};
 ghost use Rattle.cap_streams.specs.Written.{Writes};
 ghost use Rattle.cap_machine.specs.{Helds.account_of, Shown.{IsRead, IsShown}};
-ghost use Rattle.cap_machine.specs.declared.shown.Given.TheVariants as givens;
 ghost use Rattle.cap_report.specs.{Parts.lines_of_parts, StepLines.{access_parts, asked_parts, given_lines}};
 ghost use Rattle.cap_report.specs.StepLines.{operand_parts, request_parts, seen, shown_lines, step_lines};
-ghost use Rattle.cap_report.specs.declared.parts.ReportPart.TheVariants as parts;
 
 use crate::operands::{authority_in, held_in};
 use crate::parts::{ReportPart, put_parts};
@@ -18,7 +15,7 @@ use cap_log::{Place, Step};
 use cap_machine::{Given, Machine, Reached, Refusal, Request, Shown};
 use cap_texts::cap_lines::put_bounds_line;
 use cap_texts::text_lines::put_hex_line;
-use cap_word::{Cap, Word};
+use cap_word::Word;
 use tagmem::TaggedStore;
 
 /// Writes the report on a step that was refused at an index of the buffer, and returns the index after it: with the
@@ -116,7 +113,13 @@ fn put_request<M: TaggedStore>(
     ensures fits { result ≤ at + 512 }
 {
     match request {
-        Request::Length(length) => put_bounds(held.address(), length, buffer, at),
+        Request::Length(length) => {
+            let base = held.address();
+            let rounded = round(base, length);
+            let asked = ReportPart::Request(base, u128::from(base) + u128::from(length));
+            let rounded = ReportPart::Rounded(rounded.base, rounded.top);
+            put_parts(buffer, at, &[asked, rounded])
+        }
         Request::Address(address) => {
             let Interval { base, top } = bounds(Word(held.0 >> 64 << 64 | u128::from(address)));
             let range = range_of(held);
@@ -129,23 +132,6 @@ fn put_request<M: TaggedStore>(
         }
         Request::Nothing => at,
     }
-}
-
-// Writes bounds that are asked for, and those to which they are rounded.
-fn put_bounds(base: u64, span: u64, buffer: &mut [u8], at: usize) -> usize
-    requires { at + 512 ≤ length buffer.old }
-    ensures written { Writes at (lines_of_parts (parts.Request base (base + span)
-        ∷ parts.Rounded (rounded_base base span) (rounded_top base span) ∷ [])) buffer.old buffer.new result }
-    ensures fits { result ≤ at + 512 }
-{
-    let rounded = round(base, span);
-    let top = u128::from(base) + u128::from(span);
-    let asked = ReportPart::Request(base, top);
-    put_parts(
-        buffer,
-        at,
-        &[asked, ReportPart::Rounded(rounded.base, rounded.top)],
-    )
 }
 
 // Writes an access to memory, its authority, and the permissions that it needs.
@@ -172,7 +158,8 @@ fn put_access<M: TaggedStore>(
     }
 }
 
-// Writes what the rules give for a step and what its line records.
+// Writes what the rules give for a step, with the check for which a result has no tag, what its line records, and in
+// which fields the two differ.
 fn put_given(given: Given, buffer: &mut [u8], at: usize) -> usize
     requires { at + 1024 ≤ length buffer.old }
     ensures written { Writes at (given_lines given) buffer.old buffer.new result }
@@ -184,7 +171,18 @@ fn put_given(given: Given, buffer: &mut [u8], at: usize) -> usize
             cap,
             fault,
             recorded,
-        } => put_compared(buffer, at, place, cap, fault, recorded),
+        } => {
+            let gives = ReportPart::Gives(place, cap);
+            let differs = ReportPart::Differs(cap, recorded);
+            let recorded = ReportPart::Recorded(place, recorded);
+            match fault {
+                None => put_parts(buffer, at, &[gives, recorded, differs]),
+                Some(fault) => {
+                    let cleared = ReportPart::Cleared(fault);
+                    put_parts(buffer, at, &[gives, cleared, recorded, differs])
+                }
+            }
+        }
         Given::Number {
             value,
             size,
@@ -195,32 +193,5 @@ fn put_given(given: Given, buffer: &mut [u8], at: usize) -> usize
             put_hex_line(buffer, at, b"recorded", digits, u128::from(recorded))
         }
         Given::Nothing => at,
-    }
-}
-
-// Writes the result that the rules give, the check for which it has no tag, the recorded result, and in which
-// fields the two differ.
-fn put_compared(
-    buffer: &mut [u8],
-    at: usize,
-    place: Place,
-    given: Cap,
-    fault: Option<Refusal>,
-    recorded: Cap,
-) -> usize
-    requires { at + 1024 ≤ length buffer.old }
-    ensures written { Writes at (given_lines (givens.Capability place given fault recorded)) buffer.old buffer.new result }
-    ensures fits { result ≤ at + 1024 }
-{
-    let gives = ReportPart::Gives(place, given);
-    let differs = ReportPart::Differs(given, recorded);
-    let recorded = ReportPart::Recorded(place, recorded);
-    match fault {
-        None => put_parts(buffer, at, &[gives, recorded, differs]),
-        Some(fault) => put_parts(
-            buffer,
-            at,
-            &[gives, ReportPart::Cleared(fault), recorded, differs],
-        ),
     }
 }
