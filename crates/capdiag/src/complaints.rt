@@ -4,7 +4,7 @@ ghost use Rattle.std.specs.Prelude.{◌≡◌, ◌+◌, ◌≤◌, length, map, 
 ghost use Rattle.cap_streams.specs.Written.{Writes};
 ghost use Rattle.cap_program.specs.Doings.{IsPushed};
 ghost use Rattle.capdiag.specs.{Guesses.guess_of, Hints.hint_text};
-ghost use Rattle.capdiag.specs.Complaints.{asked, complaint_line, front_text, hint_line, named, question, quoted, reason_text, subject, unopened_line, waiting_line};
+ghost use Rattle.capdiag.specs.Complaints.{complaint_line, front_text, hint_line, named, question, quoted, reason_text, subject, unopened_line, waiting_line};
 
 use crate::guesses::guess_of;
 use cap_json::LogKind;
@@ -113,20 +113,13 @@ fn put_question(buffer: &mut [u8], at: usize, guess: Option<&str>) -> usize
     ensures fits { result ≤ at + 80 }
 {
     match guess {
-        Some(guess) => put_asked(buffer, at, guess),
+        Some(guess) => {
+            let at = put(buffer, at, b" did you mean ");
+            let at = put(buffer, at, front(guess.as_bytes()));
+            put(buffer, at, b"?")
+        }
         None => at,
     }
-}
-
-// Writes the question whether this word was meant.
-fn put_asked(buffer: &mut [u8], at: usize, guess: &str) -> usize
-    requires room { at + 80 ≤ length buffer.old }
-    ensures written { Writes at (asked guess.now) buffer.old buffer.new result }
-    ensures fits { result ≤ at + 80 }
-{
-    let at = put(buffer, at, b" did you mean ");
-    let at = put(buffer, at, front(guess.as_bytes()));
-    put(buffer, at, b"?")
 }
 
 /// Pushes the line that says that a file cannot be opened. Where the sink fails it took a beginning of the line.
@@ -163,24 +156,16 @@ pub fn tell_waiting<F: Sink>(faults: &mut F)
 
 /// Pushes the line that names the command for a log of another kind, with the name of its file if that is one of several. Where
 /// the sink fails it took a beginning of the line.
+#[tactic(auto, unfolding(crate::specs::Complaints::hint_line))]
 pub fn tell_hint<F: Sink>(name: Option<&str>, kind: LogKind, faults: &mut F)
     ensures told { IsPushed F.took F.faults faults.old faults.new (hint_line (option_map (λ it. it.now) name.entry) kind) }
 {
     let mut line = [0u8; 512];
-    let length = put_hint(name, kind, &mut line);
+    let at = put(&mut line, 0, b"capdiag: ");
+    let at = put_name(&mut line, at, name);
+    let at = put(&mut line, at, hint_text(kind));
+    let length = put(&mut line, at, b"\n");
     let _pushed = push_all(faults, &line[..length]);
-}
-
-// Writes that line at the front of a buffer, and answers its length.
-#[tactic(auto, unfolding(crate::specs::Complaints::hint_line))]
-fn put_hint(name: Option<&str>, kind: LogKind, buffer: &mut [u8; 512]) -> usize
-    ensures fits { result ≤ 512 }
-    ensures line { take result buffer.new ≡ hint_line (option_map (λ it. it.now) name.entry) kind }
-{
-    let at = put(buffer, 0, b"capdiag: ");
-    let at = put_name(buffer, at, name);
-    let at = put(buffer, at, hint_text(kind));
-    put(buffer, at, b"\n")
 }
 
 // What is told of a log of this kind.

@@ -1,10 +1,10 @@
 //! How a report is shown: as it is, with colors, with its file or the context of the line that it refuses, or as an object of
 //! JSON.
 
-ghost use Rattle.std.specs.Prelude.{◌≡◌, ◌==◌, ◌&&◌, ◌++◌, not, ℕ, List, true, IfOk, IfSome, OnOk, option_map, [], ◌∷◌};
+ghost use Rattle.std.specs.Prelude.{◌≡◌, ◌&&◌, ◌++◌, ℕ, List, true, IfOk, IfSome, OnOk, option_map, [], ◌∷◌};
 ghost use Rattle.cap_program.specs.Doings.{IsCounted};
 ghost use Rattle.cap_texts.specs.ShownBytes.{shown};
-ghost use Rattle.capdiag.specs.Forms.{count_of, is_digit, is_json, is_kept, is_plain, plain, with_json, with_lines};
+ghost use Rattle.capdiag.specs.Forms.{count_of, is_digit, is_json, is_kept, is_plain};
 ghost use Rattle.capdiag.specs.Renderings.{IsPut, color_of, colored, in_context, looking, rendered, with_name};
 
 use cap_context::push_context;
@@ -61,38 +61,11 @@ pub(crate) fn is_json(look: Look) -> bool
     }
 }
 
-/// The same form, as an object of JSON.
-pub(crate) fn with_json(form: Form) -> Form
-    ensures value { result ≡ with_json form }
-{
-    Form {
-        look: Look::Json,
-        ..form
-    }
-}
-
-/// The same form, with at most this many lines before a line that is refused.
-pub(crate) fn with_lines(form: Form, count: u8) -> Form
-    ensures value { result ≡ with_lines form count }
-{
-    Form {
-        context: Some(count),
-        ..form
-    }
-}
-
 // Whether a byte is a decimal digit.
 fn is_digit(byte: u8) -> bool
     ensures value { result ≡ is_digit byte }
 {
     byte >= b'0' && byte <= b'9'
-}
-
-// Whether a byte is a decimal digit that others may follow.
-fn is_leading(byte: u8) -> bool
-    ensures value { result ≡ (is_digit byte && not (byte == 48)) }
-{
-    is_digit(byte) && byte != b'0'
 }
 
 /// The number of lines that a word spells, 0 to 99, if it does.
@@ -101,7 +74,7 @@ pub(crate) fn count_of(word: &str) -> Option<u8>
 {
     match word.as_bytes() {
         [digit] if is_digit(*digit) => Some(*digit - b'0'),
-        [ten, digit] if is_leading(*ten) && is_digit(*digit) => {
+        [ten, digit] if *ten != b'0' && is_digit(*ten) && is_digit(*digit) => {
             Some(10 * (*ten - b'0') + (*digit - b'0'))
         }
         _ => None,

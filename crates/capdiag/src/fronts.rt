@@ -16,24 +16,15 @@ pub fn order_on<'a>(order: Order<'a>, front: &[u8]) -> Order<'a>
     ensures value { result ≡ order_on order.entry front.now }
 {
     match order {
-        Order::Judge {
-            judging: Judging::Why { origins },
-            form,
-            file,
-            files,
-        } if front == RUN_HEADER.as_slice() => {
+        Order::Judge(Judging::Why { origins }, form, file, files)
+            if front == RUN_HEADER.as_slice() => {
             let judging = Judging::Run {
                 freed: None,
                 owned: false,
                 owners: origins,
                 why: true,
             };
-            Order::Judge {
-                judging,
-                form,
-                file,
-                files,
-            }
+            Order::Judge(judging, form, file, files)
         }
         _ => order,
     }
@@ -43,7 +34,7 @@ pub fn order_on<'a>(order: Order<'a>, front: &[u8]) -> Order<'a>
 pub fn other_kind(order: Order<'_>, front: &[u8]) -> Option<LogKind>
     ensures value { result ≡ other_kind order.entry front.now }
 {
-    let Order::Judge { judging, .. } = order else {
+    let Order::Judge(judging, ..) = order else {
         return None;
     };
     match judging {

@@ -23,9 +23,9 @@ pub use crate::orders::Order;
 pub use crate::renderings::name_of;
 pub use crate::runs::run;
 pub use crate::words::read_words;
-use cap_log::{Sink, WriteSink};
+use cap_log::WriteSink;
 pub use cap_program::carry_out;
-use cap_program::{Fault, collect_words, exit_status, tell};
+use cap_program::{Fault, collect_words, tell};
 use std::alloc::AllocError;
 use std::env::{self, VarError};
 use std::fs::File;
@@ -35,37 +35,34 @@ use std::process::ExitCode;
 fn main(rt: HostRuntime) -> ExitCode {
     ExitCode::from(match answer(&rt) {
         Ok(status) => status,
-        Err(AllocError) => {
-            let done = Err(Fault::NoMemory);
-            tell("capdiag", done, &mut WriteSink::new(&mut rt.stderr()));
-            exit_status(done)
-        }
+        Err(AllocError) => fail(Fault::NoMemory, &mut rt.stderr()),
     })
+}
+
+// Tells a fault: the status of the program.
+fn fail<F: Write>(fault: Fault, errors: &mut F) -> u8 {
+    tell("capdiag", Err(fault), &mut WriteSink::new(errors));
+    fault.status()
 }
 
 // Collects the words, and follows the orders that they ask for, one for each file, or says why they ask for none. The status is
 // the greatest of theirs.
 fn answer(rt: &HostRuntime) -> Result<u8, AllocError> {
     let Some(texts) = collect_words(rt)? else {
-        let done = Err(Fault::BadWords);
-        tell("capdiag", done, &mut WriteSink::new(&mut rt.stderr()));
-        return Ok(exit_status(done));
+        return Ok(fail(Fault::BadWords, &mut rt.stderr()));
     };
     let mut words = Vec::new(rt.alloc());
     for text in &texts {
         words.push(text.as_str())?;
     }
+    let words = words.as_slice();
     let has_colors = has_colors(rt);
     let mut status = 0u8;
     for number in 0..u32::MAX {
-        let order = match read_words(number, words.as_slice()) {
+        let order = match read_words(number, words) {
             Ok(order) => with_colors(has_colors, order),
             Err(wrong) => {
-                tell_words(
-                    words.as_slice(),
-                    wrong,
-                    &mut WriteSink::new(&mut rt.stderr()),
-                );
+                tell_words(words, wrong, &mut WriteSink::new(&mut rt.stderr()));
                 return Ok(Fault::BadWords.status());
             }
         };
@@ -97,20 +94,10 @@ fn has_colors(rt: &HostRuntime) -> bool {
 // An order whose text has colors, if there are any and it is shown as it is otherwise.
 fn with_colors<'a>(has_colors: bool, order: Order<'a>) -> Order<'a> {
     match order {
-        Order::Judge {
-            judging,
-            form,
-            file,
-            files,
-        } if has_colors && is_plain(form.look) => Order::Judge {
-            judging,
-            form: Form {
-                look: Look::Colored,
-                ..form
-            },
-            file,
-            files,
-        },
+        Order::Judge(judging, form, file, files) if has_colors && is_plain(form.look) => {
+            let look = Look::Colored;
+            Order::Judge(judging, Form { look, ..form }, file, files)
+        }
         _ => order,
     }
 }
@@ -154,30 +141,17 @@ fn follow<R: Read + Drop, O: Write, F: Write>(
         Ok(length) => {
             let front = &front[..length];
             let order = order_on(order, front);
-            let status = run(
-                rt.alloc(),
-                Some(order),
-                Some(front.chain(input)),
-                out,
-                errors,
-            );
+            let input = front.chain(input);
+            let status = run(rt.alloc(), Some(order), Some(input), out, errors);
             if status == 1 {
-                tell_other_log(order, front, &mut WriteSink::new(errors));
+                if let Some(kind) = other_kind(order, front) {
+                    let name = name_of(files_of(order), file_of(order));
+                    tell_hint(name, kind, &mut WriteSink::new(errors));
+                }
             }
             status
         }
-        Err(_) => {
-            let done = Err(Fault::Read);
-            tell("capdiag", done, &mut WriteSink::new(errors));
-            exit_status(done)
-        }
-    }
-}
-
-// Tells which command judges a log of another kind, by its first bytes.
-fn tell_other_log<F: Sink>(order: Order, front: &[u8], errors: &mut F) {
-    if let Some(kind) = other_kind(order, front) {
-        tell_hint(name_of(files_of(order), file_of(order)), kind, errors);
+        Err(_) => fail(Fault::Read, errors),
     }
 }
 
@@ -195,16 +169,13 @@ fn open(rt: &HostRuntime, path: &str) -> Result<File, Unopened> {
 
 // Whether an order judges a log.
 fn reads_log(order: Order) -> bool {
-    match order {
-        Order::Judge { .. } => true,
-        Order::Help | Order::Version => false,
-    }
+    matches!(order, Order::Judge(..))
 }
 
 // The file that an order names.
 fn file_of<'a>(order: Order<'a>) -> Option<&'a str> {
     match order {
-        Order::Judge { file, .. } => file,
+        Order::Judge(_, _, file, _) => file,
         Order::Help | Order::Version => None,
     }
 }
@@ -212,7 +183,7 @@ fn file_of<'a>(order: Order<'a>) -> Option<&'a str> {
 // How many files there are, as an order of one of them has it.
 fn files_of(order: Order) -> u32 {
     match order {
-        Order::Judge { files, .. } => files,
+        Order::Judge(.., files) => files,
         Order::Help | Order::Version => 0,
     }
 }

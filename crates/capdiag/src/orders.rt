@@ -10,17 +10,9 @@ pub enum Order<'a> {
     /// `--version`: tell its version.
     Version,
     /// `why`, `heap` or `run`, each with `[--context N] [--json] [FILE..]`: judge a log, and print the verdict with the
-    /// reports that are asked for.
-    Judge {
-        /// The judge, and the reports that it is asked for.
-        judging: Judging,
-        /// How what is printed is shown.
-        form: Form,
-        /// The file's name, which is not `-`; none for standard input.
-        file: Option<&'a str>,
-        /// How many files there are: each is judged by an order of its own.
-        files: u32,
-    },
+    /// reports that are asked for, in this form. The file's name is not `-`, and none for standard input. Each of so many
+    /// files is judged by an order of its own.
+    Judge(Judging, Form, Option<&'a str>, u32),
 }
 
 /// A judge, and the reports that it is asked for.

@@ -99,28 +99,6 @@ fn judge_kept<S: Source, K: Sink>(
     )
 }
 
-// Judges what a source gives, and pushes what is shown of the report, with this name of the file.
-fn judge_named<S: Source, K: Sink>(
-    alloc: Global,
-    judging: Judging,
-    form: Form,
-    name: Option<&str>,
-    source: &mut S,
-    sink: &mut K,
-) -> Result<u8, Fault>
-    ensures done { (given : List ℕ) × S.gave source.old source.new given
-        × IsDone (Renders form (option_map (λ it. it.now) name.entry) (kind_of judging) given (ShowsJudged judging given (S.ended source.new)))
-        (Lacks (is_kept form (option_map (λ it. it.now) name.entry)) (ShowsJudged judging given) (StopsJudged judging given)) (K.took sink.old sink.new) result }
-    ensures read { IsCounted Fault.Read result (S.faults source.old) (S.faults source.new) }
-    ensures written { IsCounted Fault.Write result (K.faults sink.old) (K.faults sink.new) }
-{
-    if is_kept(form, name) {
-        judge_kept(alloc, judging, form, name, source, sink)
-    } else {
-        judge_source(alloc, judging, source, sink)
-    }
-}
-
 /// Judges what a source gives, one of so many files, pushes what is shown of the line of the verdict and of the reports that are
 /// asked for, and answers the status that goes with the verdict.
 pub fn judge_as<S: Source, K: Sink>(
@@ -138,5 +116,10 @@ pub fn judge_as<S: Source, K: Sink>(
     ensures read { IsCounted Fault.Read result (S.faults source.old) (S.faults source.new) }
     ensures written { IsCounted Fault.Write result (K.faults sink.old) (K.faults sink.new) }
 {
-    judge_named(alloc, judging, form, name_of(files, file), source, sink)
+    let name = name_of(files, file);
+    if is_kept(form, name) {
+        judge_kept(alloc, judging, form, name, source, sink)
+    } else {
+        judge_source(alloc, judging, source, sink)
+    }
 }

@@ -35,12 +35,7 @@ impl Command for Order<'_> {
         match self {
             Order::Help => show_help(out),
             Order::Version => show_version(out),
-            Order::Judge {
-                judging,
-                form,
-                file,
-                files,
-            } => match input {
+            Order::Judge(judging, form, file, files) => match input {
                 Some(source) => judge_as(alloc, judging, form, file, files, source, out),
                 None => Err(Fault::Read),
             },

@@ -6,7 +6,7 @@ ghost use Rattle.capdiag.specs.Orders.{with_flag, with_freed, with_operand, with
 ghost use Rattle.capdiag.specs.Readings.{asked_of, more_of, read_of, request_of};
 
 use crate::complaints::{Complaint, Wrong};
-use crate::forms::{Form, PLAIN, count_of, is_json, with_json, with_lines};
+use crate::forms::{Form, Look, PLAIN, count_of, is_json};
 use crate::orders::{Freed, Judging, Order};
 use cap_program::is_operand;
 
@@ -140,7 +140,10 @@ fn after_option<'a>(asked: Asked<'a>, word: &str) -> Result<Asked<'a>, Complaint
         "--json" => once(
             is_json(form.look),
             Asked {
-                form: with_json(form),
+                form: Form {
+                    look: Look::Json,
+                    ..form
+                },
                 ..asked
             },
         ),
@@ -221,7 +224,10 @@ fn with_word<'a>(asked: Asked<'a>, word: &'a str) -> Result<Asked<'a>, Complaint
         Due::ContextValue => match count_of(word) {
             Some(count) => Ok(Asked {
                 due: Due::Any,
-                form: with_lines(asked.form, count),
+                form: Form {
+                    context: Some(count),
+                    ..asked.form
+                },
                 ..asked
             }),
             None => Err(Complaint::UnknownCount),
@@ -254,12 +260,10 @@ fn at_end<'a>(asked: Asked<'a>) -> Result<Order<'a>, Wrong<'a>>
             complaint: Complaint::NoCount,
             word: "--context",
         }),
-        Due::Any | Due::File => Ok(Order::Judge {
-            judging: asked.judging,
-            form: asked.form,
-            file: file_of(asked.operand),
-            files: asked.files,
-        }),
+        Due::Any | Due::File => {
+            let file = file_of(asked.operand);
+            Ok(Order::Judge(asked.judging, asked.form, file, asked.files))
+        }
     }
 }
 
