@@ -2,15 +2,19 @@
 
 ghost use Rattle.std.specs.Prelude.{[], ◌≡◌, ◌++◌, OnOk};
 ghost use Rattle.cap_json.specs.{declared.rows.Place.TheVariants.Alone, Words.lines_of};
-ghost use Rattle.cap_json.specs.Members.{between, closing, continues, filled, members, opening, verdict_text};
+ghost use Rattle.cap_json.specs.Members.{between, closing, continues, filled, members, opening};
 
-use crate::rows::{LogKind, Place, member_of, verdict_of};
+use crate::rows::{Place, member_of};
 use crate::words::{cut, push_escaped};
 use std::alloc::AllocError;
 
-// Appends a form, filled with values.
+/// Appends a form, filled with values.
 #[tactic(auto, unfolding(crate::specs::Members::filled))]
-fn push_filled(object: &mut Vec<u8>, form: &[u8], values: &[u8]) -> Result<(), AllocError>
+pub(crate) fn push_filled(
+    object: &mut Vec<u8>,
+    form: &[u8],
+    values: &[u8],
+) -> Result<(), AllocError>
     ensures ok { OnOk result (object.new.items ≡ object.old.items ++ filled form.now values.now) }
 {
     let Some((first, form)) = form.split_first() else {
@@ -91,19 +95,6 @@ fn push_between(
     object.extend_from_slice(closing(last))?;
     object.push(b',')?;
     push_opening(object, place, name)
-}
-
-/// Appends the members that the line of a verdict is.
-#[tactic(auto, unfolding(crate::specs::Members::verdict_text))]
-pub(crate) fn push_verdict(
-    object: &mut Vec<u8>,
-    kind: LogKind,
-    line: &[u8],
-) -> Result<(), AllocError>
-    ensures ok { OnOk result (object.new.items ≡ object.old.items ++ verdict_text kind line.now) }
-{
-    let member = verdict_of(kind, line);
-    push_filled(object, member.form.as_bytes(), member.values)
 }
 
 /// Appends the members that the lines after a verdict are.

@@ -5,6 +5,7 @@ ghost use Rattle.cap_json.specs.Rows.{lone_rows, part_rows, verdict_rows};
 ghost use Rattle.cap_json.specs.Members.{described, form_by_words, member_in, member_of, verdict_of};
 ghost use Rattle.cap_json.specs.Readings.{member_parts, row_parts};
 
+use crate::rows::Place::{Alone, Element, Part};
 use crate::words::{begins, cut};
 
 /// The log that a report is of.
@@ -44,6 +45,13 @@ pub(crate) struct Member<'a> {
     pub(crate) values: &'a [u8],
 }
 
+// The line of a `no`.
+const NO: Row = Row(
+    "no ",
+    Alone,
+    "'verdict':'no','line':$,'number':$,'name':'$'",
+);
+
 // The lines of verdicts.
 #[tactic(auto, unfolding(crate::specs::Rows::verdict_rows))]
 fn verdict_rows(kind: LogKind) -> &'static [Row]
@@ -51,32 +59,20 @@ fn verdict_rows(kind: LogKind) -> &'static [Row]
 {
     match kind {
         LogKind::Machine => &[
-            Row("yes ", Place::Alone, "'verdict':'yes','steps':$,'roots':$"),
-            Row(
-                "no ",
-                Place::Alone,
-                "'verdict':'no','line':$,'number':$,'name':'$'",
-            ),
+            Row("yes ", Alone, "'verdict':'yes','steps':$,'roots':$"),
+            NO,
         ],
         LogKind::Heap => &[
-            Row("yes ", Place::Alone, "'verdict':'yes','events':$,'live':$"),
-            Row(
-                "no ",
-                Place::Alone,
-                "'verdict':'no','line':$,'number':$,'name':'$'",
-            ),
+            Row("yes ", Alone, "'verdict':'yes','events':$,'live':$"),
+            NO,
         ],
         LogKind::Run => &[
             Row(
                 "yes ",
-                Place::Alone,
+                Alone,
                 "'verdict':'yes','steps':$,'roots':$,'objects':$",
             ),
-            Row(
-                "no ",
-                Place::Alone,
-                "'verdict':'no','line':$,'number':$,'name':'$'",
-            ),
+            NO,
         ],
     }
 }
@@ -87,55 +83,47 @@ fn lone_rows() -> &'static [Row]
     ensures value { map row_parts result.now ≡ lone_rows }
 {
     &[
-        Row("file ", Place::Alone, "'file':'*'"),
-        Row("line ", Place::Alone, "'text':'*'"),
-        Row("found ", Place::Alone, "'found':'*'"),
-        Row("expected ", Place::Alone, "'expected':'*'"),
-        Row("hint ", Place::Alone, "'hint':'*'"),
-        Row("says ", Place::Alone, "'says':'*'"),
-        Row("differs ", Place::Alone, "'differs':'*'"),
-        Row("column ", Place::Alone, "'column':$"),
-        Row("roots ", Place::Alone, "'roots':$"),
-        Row("steps ", Place::Alone, "'steps':$"),
-        Row("granules ", Place::Alone, "'granules':$"),
-        Row("events ", Place::Alone, "'events':$"),
-        Row("objects ", Place::Alone, "'objects':$"),
-        Row("most ", Place::Alone, "'most':$"),
-        Row("inexact ", Place::Alone, "'inexact':$"),
-        Row("excess ", Place::Alone, "'excess':$"),
-        Row("padding ", Place::Alone, "'padding':$"),
-        Row("gaps ", Place::Alone, "'gaps':$"),
-        Row("freed ", Place::Alone, "'freed':$"),
-        Row("gone ", Place::Alone, "'gone':$"),
-        Row("needs ", Place::Alone, "'needs':'$'"),
-        Row("length ", Place::Alone, "'length':'$'"),
-        Row("alignment ", Place::Alone, "'alignment':'$'"),
-        Row("live length ", Place::Alone, "'live_length':'$'"),
-        Row("live alignment ", Place::Alone, "'live_alignment':'$'"),
-        Row("request ", Place::Alone, "'request':['$','$']"),
-        Row("rounded ", Place::Alone, "'rounded':['$','$']"),
-        Row("live request ", Place::Alone, "'live_request':['$','$']"),
-        Row("live rounded ", Place::Alone, "'live_rounded':['$','$']"),
-        Row("moved ", Place::Alone, "'moved':['$','$']"),
-        Row("representable ", Place::Alone, "'representable':['$','$']"),
-        Row("access ", Place::Alone, "'access':['$','$']"),
-        Row("extent ", Place::Alone, "'extent':['$','$']"),
-        Row(
-            "cleared ",
-            Place::Alone,
-            "'cleared':{'number':$,'name':'$'}",
-        ),
-        Row("before ", Place::Element, "{'line':$,'text':'*'}"),
-        Row(
-            "wrote ",
-            Place::Element,
-            "{'place':'$','line':$,'text':'*'}",
-        ),
-        Row("origin ", Place::Element, "{'place':'$','root':'$'}"),
-        Row("owner ", Place::Element, "{'place':'$','object':$}"),
+        Row("file ", Alone, "'file':'*'"),
+        Row("line ", Alone, "'text':'*'"),
+        Row("found ", Alone, "'found':'*'"),
+        Row("expected ", Alone, "'expected':'*'"),
+        Row("hint ", Alone, "'hint':'*'"),
+        Row("says ", Alone, "'says':'*'"),
+        Row("differs ", Alone, "'differs':'*'"),
+        Row("column ", Alone, "'column':$"),
+        Row("roots ", Alone, "'roots':$"),
+        Row("steps ", Alone, "'steps':$"),
+        Row("granules ", Alone, "'granules':$"),
+        Row("events ", Alone, "'events':$"),
+        Row("objects ", Alone, "'objects':$"),
+        Row("most ", Alone, "'most':$"),
+        Row("inexact ", Alone, "'inexact':$"),
+        Row("excess ", Alone, "'excess':$"),
+        Row("padding ", Alone, "'padding':$"),
+        Row("gaps ", Alone, "'gaps':$"),
+        Row("freed ", Alone, "'freed':$"),
+        Row("gone ", Alone, "'gone':$"),
+        Row("needs ", Alone, "'needs':'$'"),
+        Row("length ", Alone, "'length':'$'"),
+        Row("alignment ", Alone, "'alignment':'$'"),
+        Row("live length ", Alone, "'live_length':'$'"),
+        Row("live alignment ", Alone, "'live_alignment':'$'"),
+        Row("request ", Alone, "'request':['$','$']"),
+        Row("rounded ", Alone, "'rounded':['$','$']"),
+        Row("live request ", Alone, "'live_request':['$','$']"),
+        Row("live rounded ", Alone, "'live_rounded':['$','$']"),
+        Row("moved ", Alone, "'moved':['$','$']"),
+        Row("representable ", Alone, "'representable':['$','$']"),
+        Row("access ", Alone, "'access':['$','$']"),
+        Row("extent ", Alone, "'extent':['$','$']"),
+        Row("cleared ", Alone, "'cleared':{'number':$,'name':'$'}"),
+        Row("before ", Element, "{'line':$,'text':'*'}"),
+        Row("wrote ", Element, "{'place':'$','line':$,'text':'*'}"),
+        Row("origin ", Element, "{'place':'$','root':'$'}"),
+        Row("owner ", Element, "{'place':'$','object':$}"),
         Row(
             "object ",
-            Place::Element,
+            Element,
             "{'number':$,'line':$,'extent':['$','$'],'state':'$','held':$}",
         ),
     ]
@@ -147,11 +135,11 @@ fn part_rows() -> &'static [Row]
     ensures value { map row_parts result.now ≡ part_rows }
 {
     &[
-        Row("perms ", Place::Part, "'perms':'$'"),
-        Row("otype ", Place::Part, "'otype':'$','kind':'$'"),
-        Row("bounds ", Place::Part, "'bounds':['$','$']"),
-        Row("origin ", Place::Part, "'origin':'$'"),
-        Row("owner ", Place::Part, "'owner':$"),
+        Row("perms ", Part, "'perms':'$'"),
+        Row("otype ", Part, "'otype':'$','kind':'$'"),
+        Row("bounds ", Part, "'bounds':['$','$']"),
+        Row("origin ", Part, "'origin':'$'"),
+        Row("owner ", Part, "'owner':$"),
     ]
 }
 
@@ -199,7 +187,7 @@ fn described(values: &[u8]) -> Member<'_>
     match member_in(part_rows(), values) {
         Some(member) => member,
         None => Member {
-            place: Place::Part,
+            place: Part,
             form: form_by_words(values),
             values,
         },
