@@ -5,7 +5,7 @@ ghost use Rattle.cap_json.specs.Words.{lines_of};
 ghost use Rattle.cap_context.specs.Contexts.{before_lines, before_text, context_of, last_writer, number_of, numbered};
 ghost use Rattle.cap_context.specs.Contexts.{refused_line, text_at};
 ghost use Rattle.cap_context.specs.{Readings.entry_of, Registers.writes};
-ghost use Rattle.cap_context.specs.Contexts.{with_digit, wrote_line, wrote_lines, wrote_text};
+ghost use Rattle.cap_context.specs.Contexts.{with_digit, wrote_lines, wrote_text};
 
 use crate::registers::{first_read, is_register, word_at, writes};
 use cap_json::{begins, cut};
@@ -136,22 +136,6 @@ fn last_writer<'a>(register: &[u8], line: u64, bytes: &'a [u8]) -> Option<(u64, 
     last
 }
 
-// Appends the line that last wrote a register.
-fn push_wrote_line(
-    report: &mut Vec<u8>,
-    register: &[u8],
-    entry: Option<(u64, &[u8])>,
-) -> Result<(), AllocError>
-    ensures ok { OnOk result (report.new.items ≡ report.old.items ++ wrote_line register.now (option_map entry_of entry.entry)) }
-{
-    let Some((number, text)) = entry else {
-        return Ok(());
-    };
-    report.extend_from_slice(b"wrote ")?;
-    report.extend_from_slice(register)?;
-    push_entry(report, b" ", number, text)
-}
-
 // Appends the line that last wrote an operand that isn't shown yet, if it is a register.
 fn push_wrote(
     report: &mut Vec<u8>,
@@ -165,7 +149,12 @@ fn push_wrote(
     if is_shown || !is_register(word) {
         return Ok(());
     }
-    push_wrote_line(report, word, last_writer(word, line, bytes))
+    let Some((number, text)) = last_writer(word, line, bytes) else {
+        return Ok(());
+    };
+    report.extend_from_slice(b"wrote ")?;
+    report.extend_from_slice(word)?;
+    push_entry(report, b" ", number, text)
 }
 
 // Appends the lines that last wrote the registers that a line reads.

@@ -3,8 +3,8 @@
 ghost use Rattle.std.specs.Prelude.{◌≡◌, ◌+◌, ◌-◌, ◌≤◌, ◌++◌, codes, length};
 ghost use Rattle.cap_streams.specs.Written.{Writes};
 ghost use Rattle.cap_texts.specs.{TextLines.text_line, WrongLines.{end_text, found_line, header_lines, hint_line}};
-ghost use Rattle.cap_texts.specs.WrongLines.{coding_hint, count_hint, cut_hint, ending_hint, has_space, hint_of, mark_hint};
-ghost use Rattle.cap_texts.specs.WrongLines.{place_hint, start_hint, wrong_lines};
+ghost use Rattle.cap_texts.specs.WrongLines.{count_hint, cut_hint, has_space, hint_of, mark_hint};
+ghost use Rattle.cap_texts.specs.WrongLines.{place_hint, wrong_lines};
 
 use crate::fields::{Field, Wrong, expected_text};
 use crate::shown_bytes::put_shown_text;
@@ -137,21 +137,12 @@ fn count_hint(wrong: Wrong<'_>) -> &'static [u8]
     ensures text { result.now ≡ count_hint wrong.entry.field wrong.entry.end wrong.entry.rest.now }
     ensures short { length result.now ≤ 80 }
 {
+    let is_last = wrong.end == b'\n';
     match wrong.field {
         Field::LogName | Field::HeapName => b"",
-        _ => {
-            if wrong.end == b'\n' {
-                if has_space(wrong.rest) {
-                    b"the line has more words than its form"
-                } else {
-                    b""
-                }
-            } else if has_space(wrong.rest) {
-                b""
-            } else {
-                b"the line ends too early"
-            }
-        }
+        _ if is_last != has_space(wrong.rest) => b"",
+        _ if is_last => b"the line has more words than its form",
+        _ => b"the line ends too early",
     }
 }
 
@@ -174,34 +165,6 @@ fn hint_of(wrong: Wrong<'_>) -> &'static [u8]
     }
 }
 
-// What two first bytes say of a log.
-fn coding_hint(first: u8, second: u8) -> &'static [u8]
-    ensures text { result.now ≡ coding_hint first second }
-    ensures short { length result.now ≤ 80 }
-{
-    if (first == 0xff && second == 0xfe) || (first == 0xfe && second == 0xff) {
-        b"the log is UTF-16, as a Windows shell writes it: write ASCII"
-    } else if first == 0x1f && second == 0x8b {
-        b"the log is packed by gzip: unpack it first"
-    } else {
-        b""
-    }
-}
-
-// What the last byte of a first line says of it.
-fn ending_hint(last: u8) -> &'static [u8]
-    ensures text { result.now ≡ ending_hint last }
-    ensures short { length result.now ≤ 80 }
-{
-    if last == b'\r' {
-        CARRIAGE_RETURN
-    } else if last == b' ' {
-        LAST_SPACE
-    } else {
-        b""
-    }
-}
-
 // What often makes the first line of a log wrong.
 fn mark_hint(text: &[u8]) -> &'static [u8]
     ensures text { result.now ≡ mark_hint text.now }
@@ -216,11 +179,17 @@ fn mark_hint(text: &[u8]) -> &'static [u8]
     if text[0] == b'#' {
         return b"a log has no comments";
     }
-    let coding = coding_hint(text[0], text[1]);
-    if !coding.is_empty() {
-        return coding;
+    if (text[0] == 0xff && text[1] == 0xfe) || (text[0] == 0xfe && text[1] == 0xff) {
+        return b"the log is UTF-16, as a Windows shell writes it: write ASCII";
     }
-    ending_hint(text[text.len() - 1])
+    if text[0] == 0x1f && text[1] == 0x8b {
+        return b"the log is packed by gzip: unpack it first";
+    }
+    match text[text.len() - 1] {
+        b'\r' => CARRIAGE_RETURN,
+        b' ' => LAST_SPACE,
+        _ => b"",
+    }
 }
 
 /// What a log lacks that ends within a line, by the bytes of that line.
@@ -235,21 +204,6 @@ pub fn cut_hint(text: &[u8]) -> &'static [u8]
     }
 }
 
-// Why a line that begins with three bytes may not stand where it does.
-fn start_hint(first: u8, second: u8, third: u8) -> &'static [u8]
-    ensures text { result.now ≡ start_hint first second third }
-    ensures short { length result.now ≤ 80 }
-{
-    match (first, second, third) {
-        (b'c', b'a', b'p') | (b'r', b'u', b'n') => {
-            b"the first line alone is a header: logs can't be joined"
-        }
-        (b'm', b'o', b'd') => b"the second line alone is a mode line",
-        (b'r', b'o', b'o') => b"root lines come before the steps",
-        _ => b"nothing may follow the end line",
-    }
-}
-
 /// Why a line that has one of the forms may not stand where it does, by its bytes: a header, a mode line or a root line too
 /// late, or a line after the end line.
 pub fn place_hint(text: &[u8]) -> &'static [u8]
@@ -257,8 +211,14 @@ pub fn place_hint(text: &[u8]) -> &'static [u8]
     ensures short { length result.now ≤ 80 }
 {
     if text.len() < 3 {
-        b"nothing may follow the end line"
-    } else {
-        start_hint(text[0], text[1], text[2])
+        return b"nothing may follow the end line";
+    }
+    match (text[0], text[1], text[2]) {
+        (b'c', b'a', b'p') | (b'r', b'u', b'n') => {
+            b"the first line alone is a header: logs can't be joined"
+        }
+        (b'm', b'o', b'd') => b"the second line alone is a mode line",
+        (b'r', b'o', b'o') => b"root lines come before the steps",
+        _ => b"nothing may follow the end line",
     }
 }
