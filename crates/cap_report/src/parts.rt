@@ -2,7 +2,7 @@
 
 ghost use Rattle.std.specs.Prelude.{◌+◌, ◌*◌, ◌≤◌, length};
 ghost use Rattle.cap_streams.specs.Written.{Writes};
-ghost use Rattle.cap_report.specs.Parts.{bounds_different, cleared_line, differs_line, lines_of_parts, part_lines, rights_different, where_different};
+ghost use Rattle.cap_report.specs.Parts.{bounds_different, differs_line, lines_of_parts, part_lines, rights_different, where_different};
 
 use cap_log::Place;
 use cap_log::buffers::{put, put_decimal};
@@ -55,7 +55,8 @@ pub fn put_parts(buffer: &mut [u8], at: usize, parts: &[ReportPart]) -> usize
     end
 }
 
-// Writes the lines of a part.
+// Writes the lines of a part: of a check for which a result has no tag, its number and its name.
+#[tactic(auto, using(cap_log::proofs::ElementLemmas::short_decimal), unfolding(crate::specs::Parts::cleared_line))]
 fn put_part(buffer: &mut [u8], at: usize, part: &ReportPart) -> usize
     requires { at + 256 ≤ length buffer.old }
     ensures written { Writes at (part_lines part.now) buffer.old buffer.new result }
@@ -77,24 +78,16 @@ fn put_part(buffer: &mut [u8], at: usize, part: &ReportPart) -> usize
         ReportPart::Access(start, end) => put_bounds_line(buffer, at, b"access", b" ", start, end),
         ReportPart::Needs(view) => put_hex_line(buffer, at, b"needs", 8, u128::from(view)),
         ReportPart::Gives(place, cap) => put_cap_lines(buffer, at, b"gives", place, cap),
-        ReportPart::Cleared(fault) => put_cleared_line(buffer, at, fault),
+        ReportPart::Cleared(fault) => {
+            let at = put(buffer, at, b"cleared ");
+            let at = put_decimal(buffer, at, u64::from(fault.number()));
+            let at = put(buffer, at, b" ");
+            let at = put(buffer, at, fault.name().as_bytes());
+            put(buffer, at, b"\n")
+        }
         ReportPart::Recorded(place, cap) => put_cap_lines(buffer, at, b"recorded", place, cap),
         ReportPart::Differs(given, recorded) => put_differs_line(buffer, at, given, recorded),
     }
-}
-
-// Writes the number and the name of a refusal.
-#[tactic(auto, using(cap_log::proofs::ElementLemmas::short_decimal), unfolding(crate::specs::Parts::cleared_line))]
-fn put_cleared_line(buffer: &mut [u8], at: usize, refusal: Refusal) -> usize
-    requires { at + 64 ≤ length buffer.old }
-    ensures written { Writes at (cleared_line refusal) buffer.old buffer.new result }
-    ensures fits { result ≤ at + 64 }
-{
-    let at = put(buffer, at, b"cleared ");
-    let at = put_decimal(buffer, at, u64::from(refusal.number()));
-    let at = put(buffer, at, b" ");
-    let at = put(buffer, at, refusal.name().as_bytes());
-    put(buffer, at, b"\n")
 }
 
 // Writes the names of the fields in which two capabilities differ.

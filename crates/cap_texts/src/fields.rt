@@ -3,7 +3,7 @@
 ghost use Rattle.std.specs.Prelude.{◌≡◌, ◌≤◌, ◌∷◌, ℕ, List, IfNone, IfSome, length};
 ghost use Rattle.cap_log.specs.Parts.{Begins, BeginsWithNone, IsEnd};
 ghost use Rattle.cap_texts.specs.Fields.{AllStand, IsFirstWrong, Stands, StandsDigit, StandsValue};
-ghost use Rattle.cap_texts.specs.Fields.{bytes_of_size, end_of, expected_text, size_after};
+ghost use Rattle.cap_texts.specs.Fields.{bytes_of_size, expected_text, size_after};
 
 use crate::tops::Top;
 use cap_log::kinds::LINE_NAMES;
@@ -68,7 +68,7 @@ pub fn first_wrong<'a>(fields: &[Field], size: u8, bytes: &'a [u8]) -> Option<Wr
     ensures inside { IfSome result (λ wrong. length wrong.rest.now ≤ length bytes.now) }
 {
     let (field, more) = fields.split_first()?;
-    let end = end_of(more);
+    let end = if more.is_empty() { b'\n' } else { b' ' };
     match take_field(*field, size, bytes, end) {
         Some(rest) => first_wrong(more, size_after(*field, size, bytes), rest),
         None => Some(Wrong {
@@ -77,14 +77,6 @@ pub fn first_wrong<'a>(fields: &[Field], size: u8, bytes: &'a [u8]) -> Option<Wr
             rest: bytes,
         }),
     }
-}
-
-// The byte that ends a field before these.
-fn end_of(more: &[Field]) -> u8
-    ensures value { result ≡ end_of more.now }
-    ensures end { IsEnd result }
-{
-    if more.is_empty() { b'\n' } else { b' ' }
 }
 
 // The digit of a size, once a field was taken.
