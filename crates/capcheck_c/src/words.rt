@@ -75,10 +75,9 @@ pub extern "C" fn capcheck_join(fields: WordFields) -> OptionalWord
         || fields.e >= 64
         || fields.b >= 0x4000
         || fields.t >= 0x1000
+        || (!ie && fields.e != 0)
+        || (ie && (fields.b % 8 != 0 || fields.t % 8 != 0))
     {
-        return no_word();
-    }
-    if (!ie && fields.e != 0) || (ie && (fields.b % 8 != 0 || fields.t % 8 != 0)) {
         return no_word();
     }
     some_word(join(&Fields {

@@ -111,17 +111,12 @@ fn passed(place: Option<Place>) -> PassedPlace
     requires { IfSome place IsPlace }
     ensures passed { IsPassed place result }
 {
-    match place {
-        Some(Place::Register(register)) => PassedPlace {
-            number: u64::from(register),
-            kind: REGISTER,
-        },
-        Some(Place::Granule(granule)) => PassedPlace {
-            number: 16 * granule,
-            kind: GRANULE,
-        },
-        None => PassedPlace { number: 0, kind: 0 },
-    }
+    let (number, kind) = match place {
+        Some(Place::Register(register)) => (u64::from(register), REGISTER),
+        Some(Place::Granule(granule)) => (16 * granule, GRANULE),
+        None => (0, 0),
+    };
+    PassedPlace { number, kind }
 }
 
 /// What the rules give for the faulty step, if its line records another result. There is none after any other
