@@ -148,9 +148,7 @@ fn part_rows() -> &'static [Row]
 fn member_in<'a>(rows: &[Row], line: &'a [u8]) -> Option<Member<'a>>
     ensures value { option_map member_parts result ≡ member_in (map row_parts rows.now) line.now }
 {
-    let Some((row, rows)) = rows.split_first() else {
-        return None;
-    };
+    let (row, rows) = rows.split_first()?;
     let Row(name, place, form) = *row;
     let name = name.as_bytes();
     if begins(name, line) {

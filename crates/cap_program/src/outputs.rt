@@ -35,8 +35,6 @@ pub fn show<K: Sink>(text: &[u8], out: &mut K) -> Result<u8, Fault>
     ensures err { IfErr result (λ fault. (fault ≡ Fault.Write) × (n : ℕ) × K.took out.old out.new (take n text.now)) }
     ensures counted { IsCounted Fault.Write result (K.faults out.old) (K.faults out.new) }
 {
-    match push_all(out, text) {
-        Ok(()) => Ok(0),
-        Err(PushFault) => Err(Fault::Write),
-    }
+    push_all(out, text)?;
+    Ok(0)
 }

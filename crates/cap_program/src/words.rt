@@ -30,16 +30,13 @@ pub fn take_option<'w, 'a>(option: &str, words: &'w [&'a str]) -> (bool, &'w [&'
     ensures taken { map (λ word. word.now) words.now ≡ option_word result.0 option.now ++ map (λ word. word.now) result.1.now }
     ensures absent { result.0 ≡ false → (rest : List (List ℕ)) → map (λ word. word.now) words.now ≡ option.now ∷ rest → ⊥ }
 {
-    match words.split_first() {
-        Some((first, rest)) => {
-            if *first == option {
-                (true, rest)
-            } else {
-                (false, words)
-            }
-        }
-        None => (false, words),
+    let Some((first, rest)) = words.split_first() else {
+        return (false, words);
+    };
+    if *first == option {
+        return (true, rest);
     }
+    (false, words)
 }
 
 /// Whether a word is an operand and no option: it does not begin with `-`.

@@ -39,10 +39,8 @@ pub fn show_rounding<K: Sink>(base: &str, length: &str, out: &mut K) -> Result<u
     ensures written { IsCounted Fault.Write result (K.faults out.old) (K.faults out.new) }
 {
     let mut text = [0u8; 128];
-    match rounding_of(base, length, &mut text) {
-        Ok(count) => show(&text[..count], out),
-        Err(fault) => Err(fault),
-    }
+    let count = rounding_of(base, length, &mut text)?;
+    show(&text[..count], out)
 }
 
 // Writes the rounding of a request into a buffer: how long it is.
@@ -51,8 +49,6 @@ fn rounding_of(base: &str, length: &str, buffer: &mut [u8; 128]) -> Result<usize
     ensures ok { IfOk result (λ count. ShowsRounding base.now length.now (take count buffer.new)) }
     ensures err { IfErr result (RefusesRequest base.now length.now) }
 {
-    match read_request(base, length) {
-        Ok(request) => Ok(round_text(&round(request.base, request.length), buffer)),
-        Err(fault) => Err(fault),
-    }
+    let request = read_request(base, length)?;
+    Ok(round_text(&round(request.base, request.length), buffer))
 }

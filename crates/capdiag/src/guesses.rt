@@ -35,9 +35,7 @@ fn is_near(one: &[u8], other: &[u8]) -> bool
 fn first_near(known: &[&'static str], word: &str) -> Option<&'static str>
     ensures value { option_map (λ it. it.now) result ≡ first_near (map (λ it. it.now) known.now) word.now }
 {
-    let Some((first, known)) = known.split_first() else {
-        return None;
-    };
+    let (first, known) = known.split_first()?;
     if is_near(first.as_bytes(), word.as_bytes()) {
         return Some(*first);
     }

@@ -26,12 +26,8 @@ pub fn read_request(base: &str, length: &str) -> Result<BoundsRequest, Fault>
         × (request.base + request.length ≤ 2 ^ 64)) }
     ensures err { IfErr result (λ fault. RefusesRequest base.now length.now fault) }
 {
-    let Some(base) = read_u64(base.as_bytes()) else {
-        return Err(Fault::BadWord);
-    };
-    let Some(length) = read_u64(length.as_bytes()) else {
-        return Err(Fault::BadWord);
-    };
+    let base = read_u64(base.as_bytes()).ok_or(Fault::BadWord)?;
+    let length = read_u64(length.as_bytes()).ok_or(Fault::BadWord)?;
     if u128::from(base) + u128::from(length) > GREATEST_TOP {
         return Err(Fault::BadRequest);
     }
