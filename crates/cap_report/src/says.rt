@@ -463,27 +463,6 @@ fn put_other_bounds(buffer: &mut [u8], at: usize, by: &[u8], recorded: Word, giv
     put_range(buffer, at, bounds(given))
 }
 
-// Writes two views of permissions that differ.
-fn put_other_permissions(
-    buffer: &mut [u8],
-    at: usize,
-    by: &[u8],
-    recorded: u32,
-    given: u32,
-) -> usize
-    requires by { length by.now ≤ 17 }
-    requires room { at + 200 ≤ length buffer.old }
-    ensures written { Writes at (other_text by.now (codes "permissions 0x") (hex_digits 8 recorded) (hex_digits 8 given)) buffer.old buffer.new result }
-    ensures fits { result ≤ at + 200 }
-{
-    let at = put(buffer, at, b"it records ");
-    let at = put(buffer, at, b"permissions 0x");
-    let at = put_hex(buffer, at, 8, u128::from(recorded));
-    let at = put(buffer, at, by);
-    let at = put(buffer, at, b"permissions 0x");
-    put_hex(buffer, at, 8, u128::from(given))
-}
-
 // Whether two words have the same bounds.
 fn has_bounds_of(given: Word, recorded: Word) -> bool
     ensures value { result ≡ has_bounds_of given.0 recorded.0 }
@@ -509,7 +488,12 @@ fn put_words(buffer: &mut [u8], at: usize, by: &[u8], given: Word, recorded: Wor
     }
     let (one, other) = (perm_view(given), perm_view(recorded));
     if one != other {
-        return put_other_permissions(buffer, at, by, other, one);
+        let at = put(buffer, at, b"it records ");
+        let at = put(buffer, at, b"permissions 0x");
+        let at = put_hex(buffer, at, 8, u128::from(other));
+        let at = put(buffer, at, by);
+        let at = put(buffer, at, b"permissions 0x");
+        return put_hex(buffer, at, 8, u128::from(one));
     }
     let (one, other) = (given.object_type(), recorded.object_type());
     if one != other {

@@ -42,26 +42,15 @@ pub fn put_bad_run_line(buffer: &mut [u8], at: usize, text: &[u8]) -> usize
     let end = put(&mut line, length, b"\n");
     match RunHead::take(&line[..end], b' ') {
         Some((head, _)) => put_line(buffer, at, b"expected", form_of(head)),
-        None => put_other_line(buffer, at, text, &line[..end]),
-    }
-}
-
-// Writes what is told of a line whose first word isn't one of run logs alone.
-fn put_other_line(buffer: &mut [u8], at: usize, text: &[u8], line: &[u8]) -> usize
-    requires few { length text.now ≤ 96 }
-    requires line { line.now ≡ text.now ++ 10 ∷ [] }
-    requires room { at + 768 ≤ length buffer.old }
-    ensures written { (told : List ℕ) × AreOtherLines text.now told × Writes at told buffer.old buffer.new result }
-    ensures fits { result ≤ at + 768 }
-{
-    match Head::take(line, b' ') {
-        Some(_) => put_bad_line(buffer, at, text),
-        None => put_line(
-            buffer,
-            at,
-            b"expected",
-            b"derive, exchange, invoke, drop, fill, object, free, a step of version 2 or end",
-        ),
+        None => match Head::take(&line[..end], b' ') {
+            Some(_) => put_bad_line(buffer, at, text),
+            None => put_line(
+                buffer,
+                at,
+                b"expected",
+                b"derive, exchange, invoke, drop, fill, object, free, a step of version 2 or end",
+            ),
+        },
     }
 }
 
