@@ -2,7 +2,7 @@
 
 ghost use Rattle.std.specs.Prelude.{◌≡◌, ◌+◌, ◌≤◌, ◌^◌, ℕ, List, false, IsTrue, IfSome, IfNone, length};
 ghost use Rattle.cap_streams.specs.Written.{Writes};
-ghost use Rattle.cap_run_judge.specs.{OwnerLists.object_line, Readings.run_in};
+ghost use Rattle.cap_run_judge.specs.Readings.{run_in};
 ghost use Rattle.cap_run_log.specs.RunLines.{IsRunPlace};
 ghost use Rattle.cap_run_log.specs.declared.lines.RunPlace.TheVariants as places;
 ghost use Rattle.cap_run_report.specs.ObjectParts.{AreExtentLines, AreHolderLines, AreMetLines, AreNumberLines, AreObjectLines, AreOwnerLines};
@@ -112,17 +112,6 @@ fn put_holder<M: TaggedStore>(
     }
 }
 
-// Writes the line that lists an object in a log with so many roots.
-fn put_object_line(buffer: &mut [u8], at: usize, roots: u32, object: Object) -> usize
-    requires { at + 128 ≤ length buffer.old }
-    ensures written { Writes at (object_line roots object) buffer.old buffer.new result }
-    ensures fits { result ≤ at + 128 }
-{
-    let mut text = [0u8; 128];
-    let length = object_text(roots, object, &mut text);
-    put(buffer, at, &text[..length])
-}
-
 // Writes the line that freed an object, if one did.
 fn put_freed_line(buffer: &mut [u8], at: usize, roots: u32, object: Object) -> usize
     requires { at + 32 ≤ length buffer.old }
@@ -152,7 +141,9 @@ pub fn put_object<M: TaggedStore>(
     ensures fits { result ≤ at + 352 }
 {
     let roots = machine.roots();
-    let at = put_object_line(buffer, at, roots, object);
+    let mut text = [0u8; 128];
+    let length = object_text(roots, object, &mut text);
+    let at = put(buffer, at, &text[..length]);
     let at = put_freed_line(buffer, at, roots, object);
     put_holder(machine, buffer, at, object.number)
 }
