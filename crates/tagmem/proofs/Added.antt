@@ -5,7 +5,7 @@ use Rattle.std.proofs.Common.{◌≡◌, ◌≢◌, ℕ, ◌+◌, ◌*◌, ◌/�
 use Rattle.std.proofs.{Common.{get_or, set, All, None, sym, refl, ap, subst, ◌∙◌, arith, eqb-true, length-append}, Math.Seq.set-append_seam}
 use Rattle.std.proofs.lemmas.{Bool.Decides.nat_tests, List.{get_or_push, get_or_append_left, length-map}, Option.none-some}
 use Rattle.tagmem.specs.{declared.block.Block.Block, Blocks.{slots_of, contents_of, numbers_of, block_number_at}}
-use Rattle.tagmem.specs.{Blocks.{IsAbsent, AreDistinct, ArePaged}, Granules.{with_write, IsCodeFor, AreStored, NonePut}, Regions.IsWith}
+use Rattle.tagmem.specs.{Blocks.{IsAbsent, AreDistinct, ArePaged}, Granules.{with_write, IsCodeFor, AreStored, NonePut}, Pages.IsWith}
 use Rattle.tagmem.proofs.{Blocks.get_absent, Granules.{len-put_new, get-put_same, get-put_other}}
 use Rattle.tagmem.proofs.Numbers.{numbers_of-push, AreDistinct-push, IsBlockAt-push, entries_of-push}
 use Rattle.tagmem.proofs.Writes.{IsRead, IsWritten, contents_of-write, AreStored-write}

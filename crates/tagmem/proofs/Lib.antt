@@ -3,7 +3,6 @@ pub mod Indexes
 pub mod Listed
 mod Added
 mod Blocks
-mod Joined
 mod NextPut
 mod Numbers
 mod Orders

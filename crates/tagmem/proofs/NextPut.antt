@@ -4,7 +4,7 @@ use Rattle.std.proofs.Common.{◌≡◌, ◌≢◌, ℕ, ◌+◌, ◌*◌, ◌/�
 use Rattle.std.proofs.{Common.{sym, refl, ap, subst, ◌∙◌, arith, MatchOption}, Math.ListN.get_or-eq_default}
 use Rattle.std.proofs.lemmas.Bool.{false≢true}
 use Rattle.tagmem.specs.{declared.block.Block.Block, Blocks.{slots_of, contents_of, IsFirstFrom}}
-use Rattle.tagmem.specs.{Blocks.{numbers_of, AreDistinct, ArePaged, IsBlockAt}, Regions.IsLeast}
+use Rattle.tagmem.specs.{Blocks.{numbers_of, AreDistinct, ArePaged, IsBlockAt}, Pages.IsLeast}
 use Rattle.tagmem.specs.Granules.{Entry, Granules, AreStored, NonePut, IsNextPut}
 use Rattle.tagmem.proofs.Blocks.{length-slots_of, get_read, get_absent}
 

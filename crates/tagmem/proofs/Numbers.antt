@@ -1,5 +1,5 @@
 -- What becomes of the numbers and the entries of blocks as blocks change and are added.
-use Rattle.std.proofs.Common.{◌≡◌, ◌≢◌, ℕ, ◌+◌, ◌*◌, List, [], ◌∷◌, ◌++◌, length, get_or, set, map}
+use Rattle.std.proofs.Common.{◌≡◌, ◌≢◌, ℕ, ◌+◌, ◌*◌, ◌<◌, List, [], ◌∷◌, ◌++◌, length, get_or, set, map}
 use Rattle.std.proofs.Common.{None, Option, suc, sym, refl, ap, subst, ◌∙◌, arith, length-append}
 use Rattle.std.proofs.{Math.Seq.map-set_same}
 use Rattle.std.proofs.lemmas.List.{get_or-map, length-map, map-append, get_or_push}
@@ -10,6 +10,14 @@ use Rattle.tagmem.specs.{Blocks.{block_number_at, IsBlockAt, IsAbsent, AreDistin
 -- the number that a block has
 abbrev number_of : Block → ℕ
 number_of block = block.number
+
+-- where no number stands twice, each has one index at most
+pub one_number : (numbers : List ℕ) → AreDistinct numbers → (i j : ℕ) → i < length numbers → j < length numbers
+    → get_or numbers i 0 ≡ get_or numbers j 0 → i ≡ j
+one_number numbers known i j lt_i lt_j same =
+    let below : i < j → ⊥ = λ less. known i j 0 less lt_j same in
+    let above : j < i → ⊥ = λ less. known j i 0 less lt_i (sym same) in
+    grind (arith, below, above)
 
 -- a block at the index of another of its number leaves the numbers as they are
 pub numbers_of-set : (blocks : List Block) (new : Block) (index : ℕ) → IsBlockAt blocks new.number index

@@ -1,116 +1,12 @@
 -- Where the ways of regions' numbers lead, and what becomes of them as a region is added.
-use Rattle.std.proofs.Common.{◌≡◌, ◌≢◌, ℕ, zero, suc, ◌+◌, ◌*◌, ◌/◌, ◌%◌, ◌^◌, ◌<◌, ◌≤◌, true, false, cond, eqb, List, []}
-use Rattle.std.proofs.Common.{length, get_or, Option, Some, None, refl, sym, ap, subst, ◌∙◌, arith, eqb-true, pow-add, div-one, Bool, ltb, leb, min, MatchOption}
-use Rattle.std.proofs.lemmas.{Bool.{ne_eqb, eq-eqb, leb-true, leb-false, ltb-true, ltb-false, false≢true}, Bool.Decides.nat_tests, List.{get_or-map}, Option.{none-some, same_Some}}
-use Rattle.std.proofs.Math.Nat.{div-div-eq-div-mul, min-le_left, min-le_right, le-min}
-use Rattle.tagmem.specs.Orders.{above, height_of, child_of, standing_under, standing, end_under, HaveLevels}
-use Rattle.tagmem.specs.{declared.region.Region.Region, Orders.{IsBefore, IsLeastUnder, IsOneFrom, last_of, lesser_of}, Regions.{AreIndexed, children_of, numbers_of}}
-
--- what is told to stand somewhere does
-pub stands : (numbers : List ℕ) (children : List (List ℕ)) (number digits link at : ℕ)
-    → ((index digit : ℕ) → child_of children index digit ≤ length numbers) → link ≤ length numbers
-    → standing_under numbers children number digits link ≡ Some at → (at < length numbers) × (get_or numbers at 0 ≡ number)
-stands numbers children number digits zero at within le is = absurd (none-some at is)
-stands numbers children number zero (suc index) at within le is =
-    elim (eqb (get_or numbers index 0) number)
-    as (λ b. eqb (get_or numbers index 0) number ≡ b → cond b (Some index) None ≡ Some at → (at < length numbers) × (get_or numbers at 0 ≡ number)) [
-      | true ↦ λ same here. let here_is = same_Some index at here in
-          (omega arith, ap (λ i. get_or numbers i 0) (sym here_is) ∙ eqb-true _ _ same)
-      | false ↦ λ differs none. absurd (none-some at none)
-    ] refl is
-stands numbers children number (suc digits) (suc index) at within le is =
-    elim (eqb (get_or numbers index 0) number)
-    as (λ b. eqb (get_or numbers index 0) number ≡ b
-    → cond b (Some index) (standing_under numbers children number digits (child_of children index (above digits number % 8))) ≡ Some at
-    → (at < length numbers) × (get_or numbers at 0 ≡ number)) [
-      | true ↦ λ same here. let here_is = same_Some index at here in
-          (omega arith, ap (λ i. get_or numbers i 0) (sym here_is) ∙ eqb-true _ _ same)
-      | false ↦ λ differs later. stands numbers children number digits _ at within (within index (above digits number % 8)) later
-    ] refl is
-
--- where a way ends, after a region, no link is
-pub ends_at_none : (numbers : List ℕ) (children : List (List ℕ)) (number digits link last digit : ℕ)
-    → ((index digit : ℕ) → child_of children index digit ≤ length numbers) → link ≤ length numbers
-    → end_under children number digits link ≡ Some (last, digit) → record {
-      none : child_of children last digit ≡ 0;
-      digit : digit < 8;
-      in_range : last < length numbers;
-    }
-ends_at_none numbers children number digits zero last digit within le is = absurd (none-some _ is)
-ends_at_none numbers children number zero (suc index) last digit within le is = absurd (none-some _ is)
-ends_at_none numbers children number (suc digits) (suc index) last digit within le is =
-    let next = above digits number % 8 in
-    elim (eqb (child_of children index next) 0)
-    as (λ b. eqb (child_of children index next) 0 ≡ b
-    → cond b (Some (index, next)) (end_under children number digits (child_of children index next)) ≡ Some (last, digit)
-    → record { none : child_of children last digit ≡ 0; digit : digit < 8; in_range : last < length numbers }) [
-      | true ↦ λ none here.
-          let same = same_Some (index, next) (last, digit) here in
-          let index_is : index ≡ last = ap (λ (e : ℕ × ℕ). e.0) same in
-          let digit_is : next ≡ digit = ap (λ (e : ℕ × ℕ). e.1) same in
-          record {
-            none = ap (λ i. child_of children i digit) (sym index_is) ∙ ap (child_of children index) (sym digit_is) ∙ eqb-true _ _ none;
-            digit = omega (arith, digit_is);
-            in_range = omega (arith, index_is, le);
-          }
-      | false ↦ λ some later. ends_at_none numbers children number digits _ last digit within (within index next) later
-    ] refl is
-
--- a step of a search, past a region of another number
-module _ (numbers : List ℕ) (children : List (List ℕ)) (number : ℕ) where
-  pub step_on : (level digits index : ℕ) → level ≡ suc digits → get_or numbers index 0 ≢ number
-      → standing_under numbers children number level (suc index)
-      ≡ standing_under numbers children number digits (child_of children index (above digits number % 8))
-  step_on level digits index is differs =
-      ap (λ l. standing_under numbers children number l (suc index)) is
-      ∙ ap (λ b. cond b (Some index) (standing_under numbers children number digits (child_of children index (above digits number % 8))))
-      (ne_eqb (get_or numbers index 0) number differs)
-
-  pub found_here : (level index : ℕ) → get_or numbers index 0 ≡ number → standing_under numbers children number level (suc index) ≡ Some index
-  found_here zero index same = ap (λ b. cond b (Some index) None) (eq-eqb (get_or numbers index 0) number same)
-  found_here (suc digits) index same =
-      ap (λ b. cond b (Some index) (standing_under numbers children number digits (child_of children index (above digits number % 8))))
-      (eq-eqb (get_or numbers index 0) number same)
-
-  pub end_on : (level digits index : ℕ) → level ≡ suc digits → child_of children index (above digits number % 8) ≢ 0
-      → end_under children number level (suc index) ≡ end_under children number digits (child_of children index (above digits number % 8))
-  end_on level digits index is leads =
-      ap (λ l. end_under children number l (suc index)) is
-      ∙ ap (λ b. cond b (Some (index, above digits number % 8))
-      (end_under children number digits (child_of children index (above digits number % 8))))
-      (ne_eqb (child_of children index (above digits number % 8)) 0 leads)
-
-  pub end_here : (level digits index : ℕ) → level ≡ suc digits → child_of children index (above digits number % 8) ≡ 0
-      → end_under children number level (suc index) ≡ Some (index, above digits number % 8)
-  end_here level digits index is none =
-      ap (λ l. end_under children number l (suc index)) is
-      ∙ ap (λ b. cond b (Some (index, above digits number % 8))
-      (end_under children number digits (child_of children index (above digits number % 8))))
-      (eq-eqb (child_of children index (above digits number % 8)) 0 none)
-
--- what a number has above digits
-pub above_shift : (digits number : ℕ) → above digits number ≡ number / 2 ^ (3 * digits)
-above_shift zero number = sym (div-one number)
-above_shift (suc digits) number =
-    let longer : 3 * suc digits ≡ 3 * digits + 3 = omega arith in
-    let power : 2 ^ (3 * suc digits) ≡ 2 ^ (3 * digits) * 8 = ap (λ n. 2 ^ n) longer ∙ pow-add 2 (3 * digits) 3 in
-    ap (λ n. n / 8) (above_shift digits number) ∙ div-div-eq-div-mul number (2 ^ (3 * digits)) 8 ∙ ap (λ n. number / n) (sym power)
-
-pub above_rises : (digits a b : ℕ) → a ≤ b → above digits a ≤ above digits b
-above_rises zero a b le = le
-above_rises (suc digits) a b le = let rises = above_rises digits a b le in omega arith
-
--- a number has no more digits than its height
-pub above_height : (number : ℕ) → number < 2 ^ 51 → above (height_of number) number ≡ 0
-above_height number small =
-    elim (ltb number 262144) as (λ b. ltb number 262144 ≡ b → above (cond b 6 (cond (ltb number 1073741824) 10 17)) number ≡ 0) [
-      | true ↦ λ short. let lt : number < 262144 = grind (arith, nat_tests) in above_shift 6 number ∙ omega arith
-      | false ↦ λ _. elim (ltb number 1073741824)
-          as (λ b. ltb number 1073741824 ≡ b → above (cond b 10 17) number ≡ 0) [
-            | true ↦ λ long. let lt : number < 1073741824 = grind (arith, nat_tests) in above_shift 10 number ∙ omega arith
-            | false ↦ λ _. above_shift 17 number ∙ omega arith
-          ] refl
-    ] refl
+use Rattle.std.proofs.Common.{◌≡◌, ◌≢◌, ℕ, zero, suc, ◌+◌, ◌*◌, ◌/◌, ◌%◌, ◌^◌, ◌<◌, ◌≤◌, Bool, true, false, ◌&&◌, ◌||◌, cond, eqb, ltb}
+use Rattle.std.proofs.Common.{List, [], ◌∷◌, ◌++◌, length, get_or, set, Option, Some, None, min, MatchOption, refl, sym, ap, subst, ◌∙◌, arith}
+use Rattle.std.proofs.Common.{eqb-true, pow-add, length-append, length-set, get_or-set_same, get_or-set_other}
+use Rattle.std.proofs.{Math.Nat.div-div-eq-div-mul, lemmas.Bool.{ne_eqb, eq-eqb, ltb-true, ltb-false, false≢true, Decides.nat_tests}}
+use Rattle.std.proofs.lemmas.List.{get_or-map, get_or_push, get_or_append_left, map-set}
+use Rattle.tagmem.specs.Orders.{above, height_of, leads, leads_all, IsPlaced, HaveLevels, AreLinked, AreKept, IsEnding, IsLinkedTo}
+use Rattle.tagmem.specs.{declared.region.Region.Region, Orders.{IsOneFrom, IsUpTo, IsUnder, IsLeastUnder, IsLeastFrom, last_of, lesser_of}}
+use Rattle.tagmem.specs.Regions.{children_of, links_of, numbers_of}
 
 -- a region of the list has its number and its links
 module _ (regions : List Region) (index : ℕ) (region : Region) (in_range : index < length regions)
@@ -118,49 +14,239 @@ module _ (regions : List Region) (index : ℕ) (region : Region) (in_range : ind
   pub number_is : region.number ≡ get_or (numbers_of regions) index 0
   number_is = ap (λ (r : Region). r.number) is ∙ sym (get_or-map (λ (r : Region). r.number) regions index region 0 in_range)
 
-  pub child_is : (digit : ℕ) → get_or region.children digit 0 ≡ child_of (children_of regions) index digit
-  child_is digit =
-      ap (λ row. get_or row digit 0)
+  pub child_is : (roots : List ℕ) (digit : ℕ) → get_or region.children digit 0 ≡ links_of roots regions (suc index) digit
+  child_is roots digit = ap (λ row. get_or row digit 0)
       (ap (λ (r : Region). r.children) is ∙ sym (get_or-map (λ (r : Region). r.children) regions index region [] in_range))
 
--- what is before the lesser of two is before both
-pub before_lesser : (number : ℕ) (a b : Option ℕ) → IsBefore number (lesser_of a b) → IsBefore number a × IsBefore number b
-before_lesser number None b before = (tt, before)
-before_lesser number (Some one) None before = (before, tt)
-before_lesser number (Some one) (Some other) before =
-    (omega (arith, min-le_left one other, before), omega (arith, min-le_right one other, before))
+-- a link set in a region is a link more
+pub IsLinkedTo-set : (roots : List ℕ) (regions : List Region) (index digit to : ℕ) (old new : Region) → index < length regions
+    → old ≡ get_or regions index old → digit < 8 → new.children ≡ set old.children digit to
+    → IsLinkedTo (links_of roots regions) (links_of roots (set regions index new)) (suc index) digit to
+IsLinkedTo-set roots regions index digit to old new lt is small children = record {
+  own = sym (here digit) ∙ get_or-set_same old.children digit to 0 (omega (arith, old.each_has_child));
+  others = others;
+}
+  where
+    here : (d : ℕ) → get_or (set old.children digit to) d 0 ≡ links_of roots (set regions index new) (suc index) d
+    here d = ap (λ (row : List ℕ). get_or row d 0) (sym children) ∙ child_is (set regions index new) index new
+        (omega (arith, length-set regions index new)) (sym (get_or-set_same regions index new new lt)) roots d
+
+    others : (l d : ℕ) → (l ≡ suc index → d ≢ digit) → links_of roots (set regions index new) l d ≡ links_of roots regions l d
+    others zero d differs = refl
+    others (suc i) d differs = elim (eqb i index)
+        as (λ b. eqb i index ≡ b → links_of roots (set regions index new) (suc i) d ≡ links_of roots regions (suc i) d) [
+          | true ↦ λ same. let is_index = eqb-true i index same in
+              ap (λ j. links_of roots (set regions index new) (suc j) d) is_index ∙ sym (here d)
+              ∙ get_or-set_other old.children digit d to 0 (differs (ap suc is_index))
+              ∙ child_is regions index old lt is roots d ∙ ap (λ j. links_of roots regions (suc j) d) (sym is_index)
+          | false ↦ λ apart. ap (λ (row : List ℕ). get_or row d 0) (ap (λ (rows : List (List ℕ)). get_or rows i [])
+              (map-set (λ (r : Region). r.children) regions index new)
+              ∙ get_or-set_other (children_of regions) index i new.children [] (λ same. grind (arith, nat_tests)))
+        ] refl
+
+-- a region more that has no links adds none
+pub links_of-push : (roots : List ℕ) (regions : List Region) (region : Region) → ((digit : ℕ) → get_or region.children digit 0 ≡ 0)
+    → (link digit : ℕ) → links_of roots (regions ++ region ∷ []) link digit ≡ links_of roots regions link digit
+links_of-push roots regions region none zero digit = refl
+links_of-push roots [] region none (suc zero) digit = none digit
+links_of-push roots [] region none (suc (suc index)) digit = refl
+links_of-push roots (first ∷ regions) region none (suc zero) digit = refl
+links_of-push roots (first ∷ regions) region none (suc (suc index)) digit = links_of-push roots regions region none (suc index) digit
+
+-- with a digit less, more is above
+pub above_suc : (digits number : ℕ) → above (suc digits) number ≡ above digits number / 8
+above_suc digits number =
+    let longer : 3 * suc digits ≡ 3 * digits + 3 = omega arith in
+    ap (λ n. number / n) (ap (λ n. 2 ^ n) longer ∙ pow-add 2 (3 * digits) 3) ∙ sym (div-div-eq-div-mul number (2 ^ (3 * digits)) 8)
+
+pub above_rises : (digits a b : ℕ) → a ≤ b → above digits a ≤ above digits b
+above_rises zero a b le = omega arith
+above_rises (suc digits) a b le =
+    let rises = above_rises digits a b le in omega (arith, above_suc digits a, above_suc digits b)
+
+-- a number has no more digits than its height
+pub above_height : (number : ℕ) → number < 2 ^ 51 → above (height_of number) number ≡ 0
+above_height number small = elim (ltb number 262144)
+    as (λ b. ltb number 262144 ≡ b → above (cond b 6 (cond (ltb number 1073741824) 10 17)) number ≡ 0) [
+      | true ↦ λ short. let lt = ltb-true number 262144 short in omega arith
+      | false ↦ λ _. elim (ltb number 1073741824) as (λ b. ltb number 1073741824 ≡ b → above (cond b 10 17) number ≡ 0) [
+        | true ↦ λ long. let lt = ltb-true number 1073741824 long in omega arith
+        | false ↦ λ _. omega arith
+      ] refl
+    ] refl
+
+-- a height is one of three
+heights : (number : ℕ) (P : ℕ → Type 0) → P 6 → P 10 → P 17 → P (height_of number)
+heights number P short longer longest = elim (ltb number 262144) as (λ b. P (cond b 6 (cond (ltb number 1073741824) 10 17))) [
+  | true ↦ short
+  | false ↦ elim (ltb number 1073741824) as (λ b. P (cond b 10 17)) [ true ↦ longer | false ↦ longest ]
+]
+
+module _ (links : ℕ → ℕ → ℕ) (number : ℕ) where
+  -- a link leads to its region
+  pub leads_here : (digits at : ℕ) → leads links number digits (suc at) at ≡ true
+  leads_here zero at = eq-eqb at at refl
+  leads_here (suc digits) at =
+      ap (λ b. b || leads links number digits (links (suc at) (above digits number % 8)) at) (eq-eqb at at refl)
+
+  -- and on, where digits are left
+  pub leads_on : (level digits index at : ℕ) → level ≡ suc digits → index ≢ at
+      → leads links number level (suc index) at ≡ leads links number digits (links (suc index) (above digits number % 8)) at
+  leads_on level digits index at is differs =
+      ap (λ l. leads links number l (suc index) at) is
+      ∙ ap (λ b. b || leads links number digits (links (suc index) (above digits number % 8)) at) (ne_eqb index at differs)
+
+  pub leads_from : (level digits index at : ℕ) → level ≡ suc digits
+      → leads links number digits (links (suc index) (above digits number % 8)) at ≡ true → leads links number level (suc index) at ≡ true
+  leads_from level digits index at is led = elim (eqb index at) as (λ b. eqb index at ≡ b → leads links number level (suc index) at ≡ true) [
+    | true ↦ λ same. ap (λ i. leads links number level (suc i) at) (eqb-true index at same) ∙ leads_here level at
+    | false ↦ λ differs. leads_on level digits index at is (λ same. grind (arith, nat_tests)) ∙ led
+  ] refl
+
+  pub leads_last : (level index at : ℕ) → level ≡ 0 → leads links number level (suc index) at ≡ true → index ≡ at
+  leads_last level index at none led = eqb-true index at (sym (ap (λ l. leads links number l (suc index) at) none) ∙ led)
+
+  pub leads_nowhere : (digits link at : ℕ) → link ≡ 0 → leads links number digits link at ≡ true → ⊥
+  leads_nowhere digits link at none led = false≢true (sym (ap (λ l. leads links number digits l at) none) ∙ led)
+
+  -- with more links a way leads where it did
+  module _ (more : ℕ → ℕ → ℕ) (kept : AreKept links more) where
+    leads-kept : (digits link at : ℕ) → leads links number digits link at ≡ true → leads more number digits link at ≡ true
+    leads-kept digits zero at led = absurd (false≢true led)
+    leads-kept zero (suc index) at led = led
+    leads-kept (suc digits) (suc index) at led =
+        let digit = above digits number % 8 in
+        elim (eqb index at) as (λ b. (b || leads links number digits (links (suc index) digit) at) ≡ true
+        → (b || leads more number digits (more (suc index) digit) at) ≡ true) [
+          | true ↦ λ here. refl
+          | false ↦ λ later.
+              ap (λ l. leads more number digits l at) (kept (suc index) digit (λ none. leads_nowhere digits _ at none later))
+              ∙ leads-kept digits (links (suc index) digit) at later
+        ] led
+
+    pub leads_all-kept : (at : ℕ) → leads_all links number at ≡ true → leads_all more number at ≡ true
+    leads_all-kept at led =
+        let height = height_of number in
+        ap (λ l. leads more number height l at) (kept 0 height (λ none. leads_nowhere height _ at none led))
+        ∙ leads-kept height (links 0 height) at led
+
+-- with a region more, to which the end of its way leads
+module _ (numbers : List ℕ) (links more : ℕ → ℕ → ℕ) (number end digit : ℕ) (linked : AreLinked numbers links)
+    (ends : IsEnding numbers links number end digit) (joined : IsLinkedTo links more end digit (suc (length numbers))) where
+  abbrev all : List ℕ
+  all = numbers ++ number ∷ []
+
+  longer : length all ≡ suc (length numbers)
+  longer = let both = length-append numbers (number ∷ []) in omega arith
+
+  -- a link is an old one, or that to the region
+  each_link : (link d : ℕ) (P : ℕ → Type 0) → P (links link d) → (link ≡ end → d ≡ digit → P (suc (length numbers))) → P (more link d)
+  each_link link d P old new = elim (eqb link end && eqb d digit) as (λ b. (eqb link end && eqb d digit) ≡ b → P (more link d)) [
+    | true ↦ λ both.
+        let link_is : link ≡ end = grind (arith, nat_tests) in
+        let d_is : d ≡ digit = grind (arith, nat_tests) in
+        subst P (sym (ap (λ l. more l d) link_is ∙ ap (more end) d_is ∙ joined.own)) (new link_is d_is)
+    | false ↦ λ differs. subst P (sym (joined.others link d (λ link_is d_is. grind (arith, nat_tests)))) old
+  ] refl
+
+  kept : AreKept links more
+  kept link d some = each_link link d (λ n. n ≡ links link d) refl (λ link_is d_is.
+      absurd (some (ap (λ l. links l d) link_is ∙ ap (links end) d_is ∙ ends.none)))
+
+  -- a region is an old one, or the one more; so many digits are left at each, as at the others and at it
+  abbrev levels : (ℕ → ℕ) → ℕ → ℕ → ℕ
+  levels level_of level at = cond (eqb at (length numbers)) level (level_of at)
+
+  each_region : (level_of : ℕ → ℕ) (level at : ℕ) (P : ℕ → ℕ → Type 0) → (at ≡ length numbers → P level number)
+      → (at ≢ length numbers → (at < length numbers → get_or all at 0 ≡ get_or numbers at 0) → P (level_of at) (get_or all at 0))
+      → P (levels level_of level at) (get_or all at 0)
+  each_region level_of level at P new old = elim (eqb at (length numbers))
+      as (λ b. eqb at (length numbers) ≡ b → P (cond b level (level_of at)) (get_or all at 0)) [
+        | true ↦ λ same. let last = eqb-true at (length numbers) same in
+            subst (P level) (sym (get_or_push numbers number 0 at (sym last))) (new last)
+        | false ↦ λ differs. old (λ same. grind (arith, nat_tests)) (get_or_append_left numbers (number ∷ []) 0 at)
+      ] refl
+
+  -- what is placed after an old region stays placed
+  parent : (level_of : ℕ → ℕ) (level link d l prefix : ℕ) → link ≤ length numbers → IsPlaced numbers level_of link d l prefix
+      → IsPlaced all (levels level_of level) link d l prefix
+  parent level_of level zero d l prefix le placed = placed
+  parent level_of level (suc i) d l prefix le placed =
+      each_region level_of level i (λ own n. (own ≡ suc l) × (prefix ≡ 8 * above (suc l) n + d)) (λ last. absurd (omega arith))
+      (λ _ before. (placed.0, placed.1 ∙ ap (λ n. 8 * above (suc l) n + d) (sym (before (omega arith)))))
+
+  have_levels : (level_of : ℕ → ℕ) (level : ℕ) → HaveLevels numbers links level_of
+      → IsPlaced numbers level_of end digit level (above level number) → HaveLevels all more (levels level_of level)
+  have_levels level_of level have placed link d at =
+      each_link link d (λ to. to ≡ suc at → IsPlaced all (levels level_of level) link d (levels level_of level at)
+      (above (levels level_of level at) (get_or all at 0)))
+      (λ was. each_region level_of level at (λ l n. IsPlaced all (levels level_of level) link d l (above l n))
+      (λ last. absurd (let le = linked.within link d in omega (arith, was, last)))
+      (λ _ before.
+      let there : at < length numbers = let le = linked.within link d in omega (arith, was) in
+      let le : link ≤ length numbers = let past = linked.past link d in grind (arith, was, past) in
+      parent level_of level link d (level_of at) _ le (subst (λ n. IsPlaced numbers level_of link d (level_of at) (above (level_of at) n))
+      (sym (before there)) (have link d at was))))
+      (λ link_is d_is is. each_region level_of level at (λ l n. IsPlaced all (levels level_of level) link d l (above l n))
+      (λ last. subst (λ n. IsPlaced all (levels level_of level) n d level (above level number)) (sym link_is)
+      (subst (λ n. IsPlaced all (levels level_of level) end n level (above level number)) (sym d_is)
+      (parent level_of level end digit level _ ends.in_range placed)))
+      (λ differs _. absurd (omega (arith, is, differs))))
+
+  pub AreLinked-more : AreLinked all more
+  AreLinked-more = record {
+    within = λ link d. each_link link d (λ to. to ≤ length all) (omega (arith, linked.within link d, longer)) (λ _ _. omega (arith, longer));
+    past = λ link d lt. each_link link d (λ to. to ≡ 0) (linked.past link d (omega (arith, longer)))
+        (λ is _. absurd (omega (arith, is, ends.in_range, longer)));
+    led = λ at lt. each_region (λ _. 0) 0 at (λ _ n. leads_all more n at ≡ true)
+        (λ last. ends.goes_on more at kept (joined.own ∙ ap suc (sym last)))
+        (λ differs before.
+        let there : at < length numbers = omega (arith, longer, differs) in
+        subst (λ n. leads_all more n at ≡ true) (sym (before there)) (leads_all-kept links (get_or numbers at 0) more kept at (linked.led at there)));
+    levelled = λ none. linked.levelled (λ level_of have.
+        let new = ends.placed level_of have in none (levels level_of new.0) (have_levels level_of new.0 have new.1));
+  }
+
+-- the way of a region's number leads from the root of its height to the region
+pub led_to : (numbers : List ℕ) (links : ℕ → ℕ → ℕ) (number height at : ℕ) → AreLinked numbers links → height ≡ height_of number
+    → at < length numbers → get_or numbers at 0 ≡ number → leads links number height (links 0 height) at ≡ true
+led_to numbers links number height at linked is lt same =
+    subst (λ h. leads links number h (links 0 h) at ≡ true) (sym is) (subst (λ n. leads_all links n at ≡ true) same (linked.led at lt))
+
+-- the lesser of two is up to what one of them is up to, and is one where both are
+module _ (number : ℕ) where
+  pub upto_left : (a b : Option ℕ) → IsUpTo number a → IsUpTo number (lesser_of a b)
+  upto_left None b up = absurd up
+  upto_left (Some one) None up = up
+  upto_left (Some one) (Some other) up = omega arith
+
+  pub upto_right : (a b : Option ℕ) → IsUpTo number b → IsUpTo number (lesser_of a b)
+  upto_right None b up = up
+  upto_right (Some one) None up = absurd up
+  upto_right (Some one) (Some other) up = omega arith
 
 pub one_lesser : (numbers : List ℕ) (from : ℕ) (a b : Option ℕ) → IsOneFrom numbers from a → IsOneFrom numbers from b
     → IsOneFrom numbers from (lesser_of a b)
 one_lesser numbers from None b p q = q
 one_lesser numbers from (Some one) None p q = p
 one_lesser numbers from (Some one) (Some other) p q =
-    elim (leb one other) as (λ b. leb one other ≡ b → IsOneFrom numbers from (Some (min one other))) [
-      | true ↦ λ le. subst (λ n. IsOneFrom numbers from (Some n)) {x = one} {y = min one other}
-          (let lt = leb-true one other le in omega (arith, min-le_left one other, le-min {k = one} {a = one} {b = other} (omega arith) lt)) p
-      | false ↦ λ gt. subst (λ n. IsOneFrom numbers from (Some n)) {x = other} {y = min one other}
-          (let lt = leb-false one other gt in
-          omega (arith, min-le_right one other, le-min {k = other} {a = one} {b = other} (omega arith) (omega arith))) q
-    ]
-    refl
+    elim (ltb other one) as (λ b. ltb other one ≡ b → IsOneFrom numbers from (Some (min one other))) [
+      | true ↦ λ lt. subst (λ n. IsOneFrom numbers from (Some n)) {x = other} {y = min one other}
+          (let less = ltb-true other one lt in omega arith) q
+      | false ↦ λ ge. subst (λ n. IsOneFrom numbers from (Some n)) {x = one} {y = min one other}
+          (let le = ltb-false other one ge in omega arith) p
+    ] refl
 
 -- a region's own number
-module _ (numbers : List ℕ) (from index number : ℕ) (in_range : index < length numbers) (is : get_or numbers index 0 ≡ number) where
-  pub one_own : (o : Option ℕ) → MatchOption o (number < from) (λ same. (same ≡ number) × (from ≤ number)) → IsOneFrom numbers from o
-  one_own None less = tt
-  one_own (Some same) (same_is, le) = (omega (arith, same_is, le), index, in_range, is ∙ sym same_is)
+pub one_own : (numbers : List ℕ) (from at number : ℕ) → at < length numbers → number ≡ get_or numbers at 0 → (o : Option ℕ)
+    → MatchOption o (number < from) (λ same. (same ≡ number) × (from ≤ number)) → IsOneFrom numbers from o
+one_own numbers from at number lt is None less = tt
+one_own numbers from at number lt is (Some same) (same_is, le) = (omega (arith, same_is, le), at, lt, sym is ∙ sym same_is)
 
-  pub own_least : (o : Option ℕ) → MatchOption o (number < from) (λ same. (same ≡ number) × (from ≤ number))
-      → from ≤ number → IsBefore number o → ⊥
-  own_least None less le before = omega arith
-  own_least (Some same) (same_is, _) le before = omega (arith, same_is, before)
-
--- with no digit left there is one number alone
-pub none_else : (numbers : List ℕ) (children : List (List ℕ)) (number level index : ℕ) → level ≡ 0 → get_or numbers index 0 ≢ number
-    → standing_under numbers children number level (suc index) ≡ None
-none_else numbers children number level index none differs =
-    ap (λ l. standing_under numbers children number l (suc index)) none
-    ∙ ap (λ b. cond b (Some index) None) (ne_eqb (get_or numbers index 0) number differs)
+pub own_upto : (from number : ℕ) (o : Option ℕ) → MatchOption o (number < from) (λ same. (same ≡ number) × (from ≤ number))
+    → from ≤ number → IsUpTo number o
+own_upto from number None less le = absurd (omega arith)
+own_upto from number (Some same) is le = omega (arith, is.0)
 
 -- prefixes have room for a digit more
 pub last_rises : (digits a b : ℕ) → a ≤ b → last_of digits a ≤ last_of digits b
@@ -176,126 +262,59 @@ last_with level digits prefix digit is small =
     subst (λ l. last_of digits (8 * prefix + digit) ≤ last_of l prefix) (sym is)
     (last_rises digits (8 * prefix + digit) (8 * prefix + 7) (omega arith))
 
--- the least among all children on whose digits none is less
-pub least_of_all : (numbers : List ℕ) (children : List (List ℕ)) (from level link prefix digits index limit number_there : ℕ) (least : Option ℕ)
-    → level ≡ suc digits → link ≡ suc index → number_there ≡ get_or numbers index 0
-    → IsOneFrom numbers from least → (from ≤ number_there → IsBefore number_there least → ⊥)
-    → ((number : ℕ) → above level number ≡ prefix → from ≤ number → IsBefore number least → above digits number % 8 < limit
-    → standing_under numbers children number digits (child_of children index (above digits number % 8)) ≡ None)
-    → ((number : ℕ) → above level number ≡ prefix → from ≤ number → IsBefore number least → above digits number % 8 < limit)
-    → IsLeastUnder numbers children from level link prefix least
-least_of_all numbers children from level link prefix digits index limit number_there least level_is link_is is one own under lower = (
-  one,
-  λ number has le before.
-      ap (standing_under numbers children number level) link_is
-      ∙ step_on numbers children number level digits index level_is (λ same. own (subst (λ n. from ≤ n) (sym (is ∙ same)) le)
-      (subst (λ n. IsBefore n least) (sym (is ∙ same)) before))
-      ∙ under number has le before (lower number has le before),
-)
+-- a region under a link is the link's own, or under one of its children
+module _ (numbers : List ℕ) (links : ℕ → ℕ → ℕ) (from level : ℕ) where
+  pub IsUnder-last : (link prefix at : ℕ) → level ≡ 0 → IsUnder numbers links from level link prefix at → suc at ≡ link
+  IsUnder-last zero prefix at none under = absurd (false≢true under.led)
+  IsUnder-last (suc index) prefix at none under = ap suc (sym (leads_last links (get_or numbers at 0) level index at none under.led))
 
--- what is before a number that ends before a prefix has a lower digit
-pub lower_digit : (digits level prefix digit number : ℕ) (least : Option ℕ) (ends : Bool) → level ≡ suc digits
-    → MatchOption least (ends ≡ false) (λ other. ends ≡ ltb (above digits other) (8 * prefix + digit)) → ends ≡ true
-    → above level number ≡ prefix → IsBefore number least → above digits number % 8 < digit
-lower_digit digits level prefix digit number None ends level_is told is has before = absurd (false≢true (sym told ∙ is))
-lower_digit digits level prefix digit number (Some other) ends level_is told is has before =
-    let lt = ltb-true _ _ (sym told ∙ is) in
-    let le = above_rises digits number other (omega (arith, before)) in
-    let own : above digits number / 8 ≡ prefix = sym (ap (λ l. above l number) level_is) ∙ has in
-    omega (arith, lt, le, own)
+  pub IsUnder-on : (digits link prefix at : ℕ) → level ≡ suc digits → suc at ≢ link → IsUnder numbers links from level link prefix at
+      → let digit = above digits (get_or numbers at 0) % 8 in IsUnder numbers links from digits (links link digit) (8 * prefix + digit) at
+  IsUnder-on digits zero prefix at is differs under = absurd (false≢true under.led)
+  IsUnder-on digits (suc index) prefix at is differs under =
+      let has = subst (λ l. above l (get_or numbers at 0) ≡ prefix) is under.has in
+      record {
+        in_range = under.in_range;
+        low = under.low;
+        has = omega (arith, has, above_suc digits (get_or numbers at 0));
+        led = sym (leads_on links (get_or numbers at 0) level digits index at is (λ same. differs (ap suc (sym same)))) ∙ under.led;
+      }
 
--- a digit below the next one is below one, or it
-pub below_next : (d digit : ℕ) (P : Type 0) → d < digit + 1 → (d < digit → P) → (d ≡ digit → P) → P
-below_next d digit P lt below same =
-    elim (ltb d digit) as (λ b. ltb d digit ≡ b → P) [
-      | true ↦ λ less. below (ltb-true d digit less)
-      | false ↦ λ not. same (let le = ltb-false d digit not in omega arith)
-    ] refl
+-- it is on a digit below one, or from that on
+pub by_digit : (link at d digit : ℕ) (P : Type 0) → ((suc at ≢ link → d < digit) → P) → (suc at ≢ link → digit ≤ d → P) → P
+by_digit link at d digit P below above = elim (eqb (suc at) link) as (λ b. eqb (suc at) link ≡ b → P) [
+  | true ↦ λ same. below (λ differs. absurd (differs (eqb-true _ _ same)))
+  | false ↦ λ differs. elim (ltb d digit) as (λ b. ltb d digit ≡ b → P) [
+    | true ↦ λ lt. below (λ _. ltb-true d digit lt)
+    | false ↦ λ ge. above (λ same. grind (arith, nat_tests)) (ltb-false d digit ge)
+  ] refl
+] refl
 
--- the level at the end of a way, and its digit
-pub placed_at_end : (numbers : List ℕ) (children : List (List ℕ)) (roots : List ℕ) (number : ℕ) (level_of : ℕ → ℕ)
-    → HaveLevels numbers children roots level_of → (digits link last digit : ℕ)
-    → ((index : ℕ) → link ≡ suc index → (level_of index ≡ digits) × (above digits (get_or numbers index 0) ≡ above digits number))
-    → end_under children number digits link ≡ Some (last, digit)
-    → (level : ℕ) × (level_of last ≡ suc level) × (above level number ≡ 8 * above (suc level) (get_or numbers last 0) + digit)
-placed_at_end numbers children roots number level_of have digits zero last digit placed is = absurd (none-some _ is)
-placed_at_end numbers children roots number level_of have zero (suc index) last digit placed is = absurd (none-some _ is)
-placed_at_end numbers children roots number level_of have (suc digits) (suc index) last digit placed is =
-    let next = above digits number % 8 in
-    let here = placed index refl in
-    elim (eqb (child_of children index next) 0)
-    as (λ b. eqb (child_of children index next) 0 ≡ b
-    → cond b (Some (index, next)) (end_under children number digits (child_of children index next)) ≡ Some (last, digit)
-    → (level : ℕ) × (level_of last ≡ suc level) × (above level number ≡ 8 * above (suc level) (get_or numbers last 0) + digit)) [
-      | true ↦ λ none ended.
-          let same = same_Some (index, next) (last, digit) ended in
-          let index_is : index ≡ last = ap (λ (e : ℕ × ℕ). e.0) same in
-          let digit_is : next ≡ digit = ap (λ (e : ℕ × ℕ). e.1) same in
-          let above_is : above (suc digits) (get_or numbers last 0) ≡ above digits number / 8 =
-          ap (λ i. above (suc digits) (get_or numbers i 0)) (sym index_is) ∙ here.1 in
-          (digits, ap level_of (sym index_is) ∙ here.0, omega (arith, digit_is, above_is))
-      | false ↦ λ some later.
-          placed_at_end numbers children roots number level_of have digits (child_of children index next) last digit (λ child child_is.
-          let led = have.led index next child child_is in
-          let level_is : level_of child ≡ digits = omega (arith, led.0, here.0) in
-          let above_is : above (level_of index) (get_or numbers index 0) ≡ above digits number / 8 =
-          ap (λ l. above l (get_or numbers index 0)) (here.0) ∙ here.1 in
-          (level_is, ap (λ l. above l (get_or numbers child 0)) (sym level_is) ∙ led.1 ∙ omega (arith, above_is))) later
-    ] refl is
+-- what ends before a prefix is up to each number from that on
+pub ends_upto : (digits child number : ℕ) (least : Option ℕ) (ends : Bool)
+    → MatchOption least (ends ≡ false) (λ other. ends ≡ ltb (above digits other) child) → ends ≡ true
+    → child ≤ above digits number → IsUpTo number least
+ends_upto digits child number None ends told is le = absurd (false≢true (sym told ∙ is))
+ends_upto digits child number (Some other) ends told is le =
+    let lt = ltb-true _ _ (sym told ∙ is) in grind (arith, lt, le, above_rises digits number other)
 
-pub height_small : (number : ℕ) → height_of number < 18
-height_small number =
-    elim (ltb number 262144) as (λ b. cond b 6 (cond (ltb number 1073741824) 10 17) < 18) [
-      | true ↦ omega arith
-      | false ↦ elim (ltb number 1073741824) as (λ b. cond b 10 17 < 18) [ true ↦ omega arith | false ↦ omega arith ]
-    ]
-
--- a height is one of three
-heights : (number : ℕ) (P : ℕ → Type 0) → P 6 → P 10 → P 17 → P (height_of number)
-heights number P short longer longest =
-    elim (ltb number 262144) as (λ b. P (cond b 6 (cond (ltb number 1073741824) 10 17))) [
-      | true ↦ short
-      | false ↦ elim (ltb number 1073741824) as (λ b. P (cond b 10 17)) [ true ↦ longer | false ↦ longest ]
-    ]
-
--- the least number from one on that stands, by the least of each height
-module _ (numbers : List ℕ) (children : List (List ℕ)) (roots : List ℕ) (known : AreIndexed numbers (standing numbers children roots))
-    (from : ℕ) (short longer longest : Option ℕ)
-    (least_short : IsLeastUnder numbers children from 6 (get_or roots 6 0) 0 short)
-    (least_longer : IsLeastUnder numbers children from 10 (get_or roots 10 0) 0 longer)
-    (least_longest : IsLeastUnder numbers children from 17 (get_or roots 17 0) 0 longest) where
-  none_before : (number : ℕ) → number < 2 ^ 51 → from ≤ number → IsBefore number (lesser_of (lesser_of short longer) longest)
-      → standing numbers children roots number ≡ None
-  none_before number small le before =
-      let two = before_lesser number (lesser_of short longer) longest before in
-      let one = before_lesser number short longer two.0 in
-      heights number (λ h. above h number ≡ 0 → standing_under numbers children number h (get_or roots h 0) ≡ None)
-      (λ none. least_short.1 number none le one.0) (λ none. least_longer.1 number none le one.1)
-      (λ none. least_longest.1 number none le two.1)
-      (above_height number small)
-
-  none_at_all : IsBefore 0 (lesser_of (lesser_of short longer) longest) → ((number : ℕ) → IsBefore number (lesser_of (lesser_of short longer) longest))
-      → (number : ℕ) → from ≤ number → standing numbers children roots number ≡ None
-  none_at_all _ before number le = by_index (standing numbers children roots number) refl
-    where
-      by_index : (o : Option ℕ) → standing numbers children roots number ≡ o → standing numbers children roots number ≡ None
-      by_index None is = is
-      by_index (Some at) is = none_before number (let small = known.small number at is in omega arith) le (before number)
-
-  pub least_standing : (o : Option ℕ) → lesser_of (lesser_of short longer) longest ≡ o → MatchOption o
-      ((number : ℕ) → from ≤ number → standing numbers children roots number ≡ None)
-      (λ least. (from ≤ least) × (standing numbers children roots least ≢ None) × (least < 2 ^ 50)
-      × ((number : ℕ) → from ≤ number → number < least → standing numbers children roots number ≡ None))
-  least_standing None is = none_at_all (rw is tt) (λ number. rw is tt)
-  least_standing (Some least) is =
-      let one : IsOneFrom numbers from (Some least) = subst (IsOneFrom numbers from) is
-      (one_lesser numbers from (lesser_of short longer) longest (one_lesser numbers from short longer least_short.0 least_longer.0)
-      least_longest.0) in
-      let found : standing numbers children roots least ≡ Some one.1 =
-      ap (standing numbers children roots) (sym one.3) ∙ known.found one.1 one.2 in
-      let small = known.small least one.1 found in (
-        one.0,
-        λ none. none-some one.1 (sym none ∙ found),
-        small,
-        λ number le lt. none_before number (omega (arith, small, lt)) le (rw is lt),
-      )
+-- the least number from one on, by the least of each height
+module _ (numbers : List ℕ) (links : ℕ → ℕ → ℕ) (linked : AreLinked numbers links) (from : ℕ) (short longer longest : Option ℕ)
+    (least_short : IsLeastUnder numbers links from 6 (links 0 6) 0 short)
+    (least_longer : IsLeastUnder numbers links from 10 (links 0 10) 0 longer)
+    (least_longest : IsLeastUnder numbers links from 17 (links 0 17) 0 longest) where
+  pub least_of_all : ((at : ℕ) → at < length numbers → get_or numbers at 0 < 2 ^ 50)
+      → IsLeastFrom numbers from (lesser_of (lesser_of short longer) longest)
+  least_of_all small = (
+    one_lesser numbers from (lesser_of short longer) longest (one_lesser numbers from short longer least_short.0 least_longer.0) least_longest.0,
+    λ at lt low.
+        let n = get_or numbers at 0 in
+        heights n (λ h. above h n ≡ 0 → leads links n h (links 0 h) at ≡ true → IsUpTo n (lesser_of (lesser_of short longer) longest))
+        (λ has led. upto_left n (lesser_of short longer) longest (upto_left n short longer (least_short.1 at
+        (record { in_range = lt; low = low; has = has; led = led }))))
+        (λ has led. upto_left n (lesser_of short longer) longest (upto_right n short longer (least_longer.1 at
+        (record { in_range = lt; low = low; has = has; led = led }))))
+        (λ has led. upto_right n (lesser_of short longer) longest (least_longest.1 at
+        (record { in_range = lt; low = low; has = has; led = led })))
+        (above_height n (let below = small at lt in omega arith)) (linked.led at lt),
+  )

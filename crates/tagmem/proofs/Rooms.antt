@@ -7,7 +7,7 @@ use Rattle.std.proofs.lemmas.List.{Elements.All-from_get_or, Folds.{list_any_at,
 use Rattle.std.proofs.lemmas.List.FromFn.{length-range_with_len, get_or-range_with_len}
 use Rattle.std.proofs.lemmas.Map.Made.{length-le_from_is_member, is_member-Decides, IsDistinct-from_AllPairs}
 use Rattle.tagmem.specs.declared.block.Block.{Block}
-use Rattle.tagmem.specs.{Blocks.{numbers_of, block_number_at, AreDistinct, IsAbsent}, Regions.AreCounted}
+use Rattle.tagmem.specs.{Blocks.{numbers_of, block_number_at, AreDistinct, IsAbsent}, Pages.AreCounted}
 
 -- the numbers of the blocks of pages
 abbrev numbers_in : List ℕ → List ℕ

@@ -6,6 +6,7 @@ pub mod Kept
 pub mod Listed
 pub mod ListLaws
 pub mod Orders
+pub mod Pages
 pub mod Regions
 pub mod Rooms
 pub mod Stores

@@ -1,65 +1,73 @@
 -- How regions lead to one another by the octal digits of their numbers. All of it is this profile's own.
-use Rattle.std.specs.Prelude.{◌≡◌, ℕ, zero, suc, ◌+◌, ◌*◌, ◌/◌, ◌%◌, ◌<◌, ◌≤◌, cond, eqb, ltb, List, [], length}
-use Rattle.std.specs.Prelude.{⊤, Option, None, Some, Result, Ok, Err, slice_index, slice_index_or, slice_set, min}
+use Rattle.std.specs.Prelude.{◌≡◌, ◌≢◌, ℕ, zero, suc, ◌+◌, ◌*◌, ◌/◌, ◌%◌, ◌^◌, ◌<◌, ◌≤◌, Bool, true, false, ◌||◌, cond, eqb, ltb}
+use Rattle.std.specs.Prelude.{⊤, List, [], length, Option, None, Some, Result, Ok, Err, slice_index, slice_index_or, min}
 
 -- what a number has above so many digits
 abbrev pub above : ℕ → ℕ → ℕ
-above zero number = number
-above (suc digits) number = above digits number / 8
+above digits number = number / 2 ^ (3 * digits)
 
 -- how many digits the way of a number has
 abbrev pub height_of : ℕ → ℕ
 height_of number = cond (ltb number 262144) 6 (cond (ltb number 1073741824) 10 17)
 
--- the child of a region on a digit, as a link: one more than an index, and 0 for none
-abbrev pub child_of : List (List ℕ) → ℕ → ℕ → ℕ
-child_of children index digit = slice_index (slice_index_or children index []) digit
+-- a link is one more than the index of a region, and 0 for none. From 0 go the roots, each on its height, and from
+-- another link those of its region, each on its digit
+abbrev pub linked : List ℕ → List (List ℕ) → ℕ → ℕ → ℕ
+linked roots children zero height = slice_index roots height
+linked roots children (suc index) digit = slice_index (slice_index_or children index []) digit
 
--- where a number stands among those to which a link leads on its last digits
-abbrev pub standing_under : List ℕ → List (List ℕ) → ℕ → ℕ → ℕ → Option ℕ
-standing_under numbers children number digits zero = None
-standing_under numbers children number zero (suc index) = cond (eqb (slice_index numbers index) number) (Some index) None
-standing_under numbers children number (suc digits) (suc index) = cond (eqb (slice_index numbers index) number) (Some index)
-    (standing_under numbers children number digits (child_of children index (above digits number % 8)))
+-- the way of a number's last digits from a link comes to the region at an index
+abbrev pub leads : (ℕ → ℕ → ℕ) → ℕ → ℕ → ℕ → ℕ → Bool
+leads links number digits zero at = false
+leads links number zero (suc index) at = eqb index at
+leads links number (suc digits) (suc index) at = eqb index at || leads links number digits (links (suc index) (above digits number % 8)) at
 
--- where a number stands among all, from the root of its height on
-abbrev pub standing : List ℕ → List (List ℕ) → List ℕ → ℕ → Option ℕ
-standing numbers children roots number =
-    standing_under numbers children number (height_of number) (slice_index roots (height_of number))
+-- the whole way does
+abbrev pub leads_all : (ℕ → ℕ → ℕ) → ℕ → ℕ → Bool
+leads_all links number at = leads links number (height_of number) (links 0 (height_of number)) at
 
--- where the way of a number from a link ends: after which index, and on which digit
-abbrev pub end_under : List (List ℕ) → ℕ → ℕ → ℕ → Option (ℕ × ℕ)
-end_under children number digits zero = None
-end_under children number zero (suc index) = None
-end_under children number (suc digits) (suc index) = let digit = above digits number % 8 in
-    cond (eqb (child_of children index digit) 0) (Some (index, digit)) (end_under children number digits (child_of children index digit))
+-- what is linked from a link on a digit has so many digits left, and this above them: a root has its height and nothing,
+-- and a child one digit less than its parent, and the digit after what that has
+abbrev pub IsPlaced : List ℕ → (ℕ → ℕ) → ℕ → ℕ → ℕ → ℕ → Type 0
+IsPlaced numbers level_of zero height level prefix = (level ≡ height) × (prefix ≡ 0)
+IsPlaced numbers level_of (suc index) digit level prefix =
+    (level_of index ≡ suc level) × (prefix ≡ 8 * above (suc level) (slice_index numbers index) + digit)
 
--- the way of a number ends after an index, on a digit, or has no root at its height
-abbrev pub EndsAt : List (List ℕ) → List ℕ → ℕ → Option ℕ → ℕ → Type 0
-EndsAt children roots number None height = (height ≡ height_of number) × (slice_index roots height ≡ 0)
-EndsAt children roots number (Some index) digit =
-    end_under children number (height_of number) (slice_index roots (height_of number)) ≡ Some (index, digit)
+-- at each region so many digits are left
+abbrev pub HaveLevels : List ℕ → (ℕ → ℕ → ℕ) → (ℕ → ℕ) → Type 0
+HaveLevels numbers links level_of = (link digit index : ℕ) → links link digit ≡ suc index
+    → IsPlaced numbers level_of link digit (level_of index) (above (level_of index) (slice_index numbers index))
 
--- a number stands at an index, or at none, and then its way ends
-abbrev pub IsStanding : List ℕ → List (List ℕ) → List ℕ → ℕ → Result ℕ (Option ℕ × ℕ) → Type 0
-IsStanding numbers children roots number (Ok index) = standing numbers children roots number ≡ Some index
-IsStanding numbers children roots number (Err end) =
-    (standing numbers children roots number ≡ None) × EndsAt children roots number end.0 end.1
+-- links lead to regions, and the way of each region's number to it; and some number of digits is left at each
+pub record AreLinked (numbers : List ℕ) (links : ℕ → ℕ → ℕ) : Type 0 where
+  pub within : (link digit : ℕ) → links link digit ≤ length numbers
+  pub past : (link digit : ℕ) → length numbers < link → links link digit ≡ 0
+  pub led : (at : ℕ) → at < length numbers → leads_all links (slice_index numbers at) at ≡ true
+  pub levelled : ((level_of : ℕ → ℕ) → HaveLevels numbers links level_of → ⊥) → ⊥
 
--- so many digits are left at each region: at a root its height, at a child one less, after the digits of the way to it
-pub record HaveLevels (numbers : List ℕ) (children : List (List ℕ)) (roots : List ℕ) (level_of : ℕ → ℕ) : Type 0 where
-  pub rooted : (height index : ℕ) → slice_index roots height ≡ suc index
-      → (level_of index ≡ height) × (above height (slice_index numbers index) ≡ 0)
-  pub led : (index digit child : ℕ) → child_of children index digit ≡ suc child
-      → (level_of index ≡ suc (level_of child))
-      × (above (level_of child) (slice_index numbers child) ≡ 8 * above (level_of index) (slice_index numbers index) + digit)
+-- the links are there, and maybe more
+abbrev pub AreKept : (ℕ → ℕ → ℕ) → (ℕ → ℕ → ℕ) → Type 0
+AreKept links more = (link digit : ℕ) → links link digit ≢ 0 → more link digit ≡ links link digit
 
--- each link leads to a region or to none, and some number of digits is left at each region
-pub record AreLinked (numbers : List ℕ) (children : List (List ℕ)) (roots : List ℕ) : Type 0 where
-  pub rooted : (height : ℕ) → slice_index roots height ≤ length numbers
-  pub within : (index digit : ℕ) → child_of children index digit ≤ length numbers
-  pub as_many : length children ≡ length numbers
-  pub levelled : ((level_of : ℕ → ℕ) → HaveLevels numbers children roots level_of → ⊥) → ⊥
+-- a number is no region's, and its way ends where a link has nothing on a digit: with a link more there it comes to that
+pub record IsEnding (numbers : List ℕ) (links : ℕ → ℕ → ℕ) (number link digit : ℕ) : Type 0 where
+  pub absent : (at : ℕ) → at < length numbers → slice_index numbers at ≢ number
+  pub in_range : link ≤ length numbers
+  pub height : digit < 18
+  pub octal : 0 < link → digit < 8
+  pub none : links link digit ≡ 0
+  pub goes_on : (more : ℕ → ℕ → ℕ) (at : ℕ) → AreKept links more → more link digit ≡ suc at → leads_all more number at ≡ true
+  pub placed : (level_of : ℕ → ℕ) → HaveLevels numbers links level_of → (level : ℕ) × IsPlaced numbers level_of link digit level (above level number)
+
+-- a number stands at an index, or its way ends
+abbrev pub IsStanding : List ℕ → (ℕ → ℕ → ℕ) → ℕ → Result ℕ (ℕ × ℕ) → Type 0
+IsStanding numbers links number (Ok at) = (at < length numbers) × (slice_index numbers at ≡ number)
+IsStanding numbers links number (Err end) = IsEnding numbers links number end.0 end.1
+
+-- there is a link more, and else the same
+pub record IsLinkedTo (old new : ℕ → ℕ → ℕ) (link digit to : ℕ) : Type 0 where
+  pub own : new link digit ≡ to
+  pub others : (l d : ℕ) → (l ≡ link → d ≢ digit) → new l d ≡ old l d
 
 -- the last number that has a prefix, and so many digits behind it
 abbrev pub last_of : ℕ → ℕ → ℕ
@@ -69,28 +77,29 @@ last_of (suc digits) prefix = last_of digits (8 * prefix + 7)
 -- what is there is one of some numbers, and not less than another
 abbrev pub IsOneFrom : List ℕ → ℕ → Option ℕ → Type 0
 IsOneFrom numbers from None = ⊤
-IsOneFrom numbers from (Some one) = (from ≤ one) × (index : ℕ) × (index < length numbers) × (slice_index numbers index ≡ one)
+IsOneFrom numbers from (Some one) = (from ≤ one) × (at : ℕ) × (at < length numbers) × (slice_index numbers at ≡ one)
 
--- a number is less than what is there
-abbrev pub IsBefore : ℕ → Option ℕ → Type 0
-IsBefore number None = ⊤
-IsBefore number (Some other) = number < other
+-- there is one, and it is not above a number
+abbrev pub IsUpTo : ℕ → Option ℕ → Type 0
+IsUpTo number None = ⊥
+IsUpTo number (Some one) = one ≤ number
 
--- the least number from one on among those with a prefix to which a link leads on so many digits
-abbrev pub IsLeastUnder : List ℕ → List (List ℕ) → ℕ → ℕ → ℕ → ℕ → Option ℕ → Type 0
-IsLeastUnder numbers children from digits link prefix least = IsOneFrom numbers from least
-    × ((number : ℕ) → above digits number ≡ prefix → from ≤ number → IsBefore number least
-    → standing_under numbers children number digits link ≡ None)
+-- the region at an index has a number from one on, with a prefix, and a link leads to it on so many digits
+pub record IsUnder (numbers : List ℕ) (links : ℕ → ℕ → ℕ) (from digits link prefix at : ℕ) : Type 0 where
+  pub in_range : at < length numbers
+  pub low : from ≤ slice_index numbers at
+  pub has : above digits (slice_index numbers at) ≡ prefix
+  pub led : leads links (slice_index numbers at) digits link at ≡ true
 
--- the children with a link more after an index, if there is one
-abbrev pub children_with : List (List ℕ) → Option ℕ → ℕ → ℕ → List (List ℕ)
-children_with children None height link = children
-children_with children (Some index) digit link = slice_set children index (slice_set (slice_index_or children index []) digit link)
+-- the least number of those
+abbrev pub IsLeastUnder : List ℕ → (ℕ → ℕ → ℕ) → ℕ → ℕ → ℕ → ℕ → Option ℕ → Type 0
+IsLeastUnder numbers links from digits link prefix least = IsOneFrom numbers from least
+    × ((at : ℕ) → IsUnder numbers links from digits link prefix at → IsUpTo (slice_index numbers at) least)
 
--- the roots with a link more, if there is none
-abbrev pub roots_with : List ℕ → Option ℕ → ℕ → ℕ → List ℕ
-roots_with roots None height link = slice_set roots height link
-roots_with roots (Some index) digit link = roots
+-- the least number from one on
+abbrev pub IsLeastFrom : List ℕ → ℕ → Option ℕ → Type 0
+IsLeastFrom numbers from least = IsOneFrom numbers from least
+    × ((at : ℕ) → at < length numbers → from ≤ slice_index numbers at → IsUpTo (slice_index numbers at) least)
 
 -- the lesser of two numbers that are there
 abbrev pub lesser_of : Option ℕ → Option ℕ → Option ℕ

@@ -1,8 +1,8 @@
 //! Which pages are there, in the order of their numbers.
-ghost use Rattle.std.specs.Prelude.{◌≡◌, ◌≢◌, ◌/◌, ◌*◌, ◌+◌, ◌^◌, ◌<◌, ◌≤◌, ℕ, Bool, Option, true, false, None, Some, Err, IfSome, length};
-ghost use Rattle.std.specs.Prelude.{MatchOption, OnOk, OnErr, vec_capacity, vec_len};
-ghost use Rattle.tagmem.specs.Orders.{AreLinked, IsStanding, standing, children_with, roots_with};
-ghost use Rattle.tagmem.specs.Regions.{AreCounted, AreIndexed, EachHasPage, children_of, is_there, numbers_of, pages_of};
+ghost use Rattle.std.specs.Prelude.{◌≡◌, ◌≢◌, ◌/◌, ◌*◌, ◌+◌, ◌^◌, ◌<◌, ◌≤◌, ℕ, true, false, Some, Err, IfSome, length};
+ghost use Rattle.std.specs.Prelude.{MatchOption, OnOk, OnErr, slice_index};
+ghost use Rattle.tagmem.specs.{Blocks.AreDistinct, Orders.{AreLinked, IsLeastFrom, IsLeastUnder, IsLinkedTo, last_of}};
+ghost use Rattle.tagmem.specs.{Pages.{AreCounted, IsLeast, IsWith}, Regions.{is_there, links_of, numbers_of}};
 
 use crate::order::{find, least_under, lesser};
 use crate::region::Region;
@@ -22,17 +22,13 @@ pub(crate) struct Directory {
     hints: Vec<usize>,
     // How many pages are there.
     count: usize,
-    ghost each_has_root: { length roots ≡ 18 },
-    ghost linked: { AreLinked (numbers_of regions.items) (children_of regions.items) roots },
-    ghost indexed: { (region : ℕ → Option ℕ) → region ≡ standing (numbers_of regions.items) (children_of regions.items) roots
-        → AreIndexed (numbers_of regions.items) region },
-    ghost used: { EachHasPage (pages_of regions.items) },
-    ghost counted: { (there : ℕ → Bool) → there ≡ is_there (pages_of regions.items) (standing (numbers_of regions.items)
-        (children_of regions.items) roots) → AreCounted there count },
+    ghost distinct: { AreDistinct (numbers_of regions.items) },
+    ghost linked: { AreLinked (numbers_of regions.items) (links_of roots regions.items) },
+    ghost counted: { AreCounted (is_there regions.items) count },
 }
 
 impl Directory {
-    ghost use Rattle.tagmem.specs.{Directories.{region_of, there_in}, Regions.{IsLeast, IsWith}, Rooms.{blocks_of, blocks_with}};
+    ghost use Rattle.tagmem.specs.{Directories.{IsRegionIn, there_in}, Rooms.{blocks_of, blocks_with}};
 
     // Of no page. It takes no memory.
     pub(crate) fn new(alloc: Global) -> Directory
@@ -64,19 +60,26 @@ impl Directory {
 
     // The least region from a number on.
     fn next_region(&self, from: u64) -> Option<u64>
-        ensures { MatchOption result
-            ((region : ℕ) → from ≤ region → region_of self.now region ≡ None)
-            (λ least. (from ≤ least) × (region_of self.now least ≢ None) × (least < 2 ^ 50)
-            × ((region : ℕ) → from ≤ region → region < least → region_of self.now region ≡ None)) }
+        ensures { IsLeastFrom (numbers_of self.now.regions.items) from result }
     {
-        let short = least_under(&self.regions, from, 6, self.roots[6], 0);
-        let longer = least_under(&self.regions, from, 10, self.roots[10], 0);
-        let longest = least_under(&self.regions, from, 17, self.roots[17], 0);
-        lesser(lesser(short, longer), longest)
+        lesser(
+            lesser(self.least_at(from, 6), self.least_at(from, 10)),
+            self.least_at(from, 17),
+        )
+    }
+
+    // The least region from a number on to which the root of a height leads.
+    #[inline(always)]
+    fn least_at(&self, from: u64, height: usize) -> Option<u64>
+        requires height { height < 18 }
+        requires small { last_of height 0 < 2 ^ 64 }
+        ensures { IsLeastUnder (numbers_of self.now.regions.items) (links_of self.now.roots self.now.regions.items) from height
+            (slice_index self.now.roots height) 0 result }
+    {
+        least_under(&self.regions, from, height, self.roots[height], 0)
     }
 
     // The first page of a region, from a place on, that is there.
-    #[tactic(auto, using(crate::proofs::Regions::first_small))]
     fn first_in(&self, region: u64, place: u8) -> Option<u64>
         requires place { place < 64 }
         requires region { region < 2 ^ 51 }
@@ -84,6 +87,8 @@ impl Directory {
             ((page : ℕ) → 64 * region + place ≤ page → page < 64 * region + 64 → there_in self.now page ≡ false)
             (λ first. IsLeast (there_in self.now) (64 * region + place) (Some first)) }
         ensures small { IfSome result (λ first. first < 2 ^ 56) }
+        ensures found { let numbers = numbers_of self.now.regions.items in
+            (at : ℕ) → at < length numbers → slice_index numbers at ≡ region → place ≡ 0 → result ≢ None }
     {
         match self.region_at(region) {
             Ok(at) => match self.regions[at].first_from(place) {
@@ -103,9 +108,9 @@ impl Directory {
 
     // Where a region stands in the list, or where its way ends. It is mostly where its hint says.
     #[inline(always)]
-    pub(crate) fn region_at(&self, region: u64) -> Result<usize, (Option<usize>, usize)>
+    pub(crate) fn region_at(&self, region: u64) -> Result<usize, (usize, usize)>
         requires { region < 2 ^ 51 }
-        ensures { IsStanding (numbers_of self.now.regions.items) (children_of self.now.regions.items) self.now.roots region result }
+        ensures { IsRegionIn self.now region result }
     {
         let place = region as usize & self.hints.len().wrapping_sub(1);
         let at = *self.hints.get(place).unwrap_or(&0);
@@ -117,8 +122,8 @@ impl Directory {
 
     // Whether a page is there, whose region stands somewhere or not.
     #[inline(always)]
-    pub(crate) fn has(&self, page: u64, region: Result<usize, (Option<usize>, usize)>) -> bool
-        requires { IsStanding (numbers_of self.now.regions.items) (children_of self.now.regions.items) self.now.roots (page / 64) region }
+    pub(crate) fn has(&self, page: u64, region: Result<usize, (usize, usize)>) -> bool
+        requires { IsRegionIn self.now (page / 64) region }
         ensures { result ≡ there_in self.now page }
     {
         match region {
@@ -131,11 +136,11 @@ impl Directory {
     pub(crate) fn insert(
         &mut self,
         page: u64,
-        region: Result<usize, (Option<usize>, usize)>,
+        region: Result<usize, (usize, usize)>,
         there: bool,
     ) -> Result<(), NoMemory>
         requires small { page < 2 ^ 56 }
-        requires region { IsStanding (numbers_of self.old.regions.items) (children_of self.old.regions.items) self.old.roots (page / 64) region }
+        requires region { IsRegionIn self.old (page / 64) region }
         requires there { there ≡ there_in self.old page }
         requires fits { self.old.count + 1 < 2 ^ 64 }
         ensures ok { OnOk result (IsWith (there_in self.old) (there_in self.new) page) }
@@ -160,9 +165,9 @@ impl Directory {
     }
 
     // Adds a region with one page, to which the end of its way leads.
-    fn add_region(&mut self, page: u64, end: (Option<usize>, usize)) -> Result<(), NoMemory>
+    fn add_region(&mut self, page: u64, end: (usize, usize)) -> Result<(), NoMemory>
         requires small { page < 2 ^ 56 }
-        requires absent { IsStanding (numbers_of self.old.regions.items) (children_of self.old.regions.items) self.old.roots (page / 64) (Err end) }
+        requires absent { IsRegionIn self.old (page / 64) (Err end) }
         requires fits { self.old.count + 1 < 2 ^ 64 }
         ensures ok { OnOk result (IsWith (there_in self.old) (there_in self.new) page) }
         ensures blocks { OnOk result (blocks_of self.new ≡ blocks_of self.old + 32) }
@@ -176,31 +181,28 @@ impl Directory {
         let Ok(()) = self.regions.reserve((at + 1).max(FEWEST) - at) else {
             return Err(NoMemory);
         };
-        join(&mut self.regions, &mut self.roots, end, link);
-        let mut region = Region::new(page / 64);
-        region.add((page % 64) as u8);
-        self.regions.push_reserved(region);
+        self.regions
+            .push_reserved(Region::new(page / 64, (page % 64) as u8));
         self.count += 1;
+        join(&mut self.regions, &mut self.roots, end, link);
         Ok(())
     }
 }
 
 // Links the end of a way.
-fn join(regions: &mut Vec<Region>, roots: &mut [u32; 18], end: (Option<usize>, usize), link: u32)
-    requires in_range { IfSome end.0 (λ index. index < length regions.old.items) }
+fn join(regions: &mut Vec<Region>, roots: &mut [u32; 18], end: (usize, usize), link: u32)
+    requires in_range { end.0 ≤ length regions.old.items }
     requires height { end.1 < 18 }
-    requires digit { IfSome end.0 (λ _. end.1 < 8) }
-    ensures len { vec_len regions.new ≡ vec_len regions.old }
-    ensures capacity { vec_capacity regions.new ≡ vec_capacity regions.old }
+    requires digit { 0 < end.0 → end.1 < 8 }
     ensures numbers { numbers_of regions.new.items ≡ numbers_of regions.old.items }
-    ensures pages { pages_of regions.new.items ≡ pages_of regions.old.items }
-    ensures children { children_of regions.new.items ≡ children_with (children_of regions.old.items) end.0 end.1 link }
-    ensures roots { roots.new ≡ roots_with roots.old end.0 end.1 link }
+    ensures there { (page : ℕ) → is_there regions.new.items page ≡ is_there regions.old.items page }
+    ensures linked { IsLinkedTo (links_of roots.old regions.old.items) (links_of roots.new regions.new.items) end.0 end.1 link }
 {
-    match end.0 {
-        Some(last) => regions[last].lead(end.1, link),
-        None => roots[end.1] = link,
+    if end.0 == 0 {
+        roots[end.1] = link;
+        return;
     }
+    regions[end.0 - 1].lead(end.1, link);
 }
 
 // Sets the hint of a region. Where it stands at half of the places or beyond, there are four times as many first, from

@@ -3,9 +3,9 @@
 //! A region has links to eight others: a link is one more than an index in the list, and 0 for none. From a region a
 //! way goes on to the child that the next octal digit of a number names, the highest first. So a way has no more steps
 //! than a number has digits, and all that is led to on a digit is less than all on a higher one.
-ghost use Rattle.std.specs.Prelude.{◌≡◌, ◌*◌, ◌+◌, ◌^◌, ◌<◌, ◌≤◌, ℕ, MatchOption, false, length, ltb};
-ghost use Rattle.tagmem.specs.Orders.{AreLinked, IsLeastUnder, IsStanding, above, child_of, height_of, last_of, lesser_of};
-ghost use Rattle.tagmem.specs.Regions.{children_of, numbers_of};
+ghost use Rattle.std.specs.Prelude.{◌≡◌, ◌*◌, ◌+◌, ◌^◌, ◌<◌, ◌≤◌, ℕ, List, MatchOption, false, length, ltb, suc};
+ghost use Rattle.tagmem.specs.Orders.{AreLinked, IsLeastUnder, IsStanding, above, height_of, last_of, lesser_of};
+ghost use Rattle.tagmem.specs.Regions.{links_of, numbers_of};
 
 use crate::region::Region;
 
@@ -24,21 +24,21 @@ pub(crate) fn height(number: u64) -> usize
     }
 }
 
-// Where the region with a number stands, or else where the last region on its way does and the digit on which that
-// leads to none. Where the way has no root, there is no last region, and its height stands for the digit.
+// Where the region with a number stands, or else the link to the last region on its way and the digit on which that
+// leads to none. Where the way has no root, the link is 0, and its height stands for the digit.
 pub(crate) fn find(
     regions: &[Region],
     roots: &[u32; 18],
     number: u64,
-) -> Result<usize, (Option<usize>, usize)>
+) -> Result<usize, (usize, usize)>
     requires small { number < 2 ^ 51 }
-    requires linked { AreLinked (numbers_of regions.now) (children_of regions.now) roots.now }
-    ensures { IsStanding (numbers_of regions.now) (children_of regions.now) roots.now number result }
+    requires linked { AreLinked (numbers_of regions.now) (links_of roots.now regions.now) }
+    ensures { IsStanding (numbers_of regions.now) (links_of roots.now regions.now) number result }
 {
     let mut level = height(number);
     let root = roots[level];
     if root == 0 {
-        return Err((None, level));
+        return Err((0, level));
     }
     let mut index = root as usize - 1;
     loop {
@@ -50,7 +50,7 @@ pub(crate) fn find(
         let digit = (number >> (3 * level)) as usize % 8;
         let child = region.children[digit];
         if child == 0 {
-            return Err((Some(index), digit));
+            return Err((index + 1, digit));
         }
         index = child as usize - 1;
     }
@@ -66,10 +66,10 @@ pub(crate) fn least_under(
     prefix: u64,
 ) -> Option<u64>
     requires in_range { link ≤ length regions.now }
-    requires within { (index digit : ℕ) → child_of (children_of regions.now) index digit ≤ length regions.now }
+    requires within { (roots : List ℕ) (index digit : ℕ) → links_of roots regions.now (suc index) digit ≤ length regions.now }
     requires low { level < 18 }
     requires small { last_of level prefix < 2 ^ 64 }
-    ensures { IsLeastUnder (numbers_of regions.now) (children_of regions.now) from level link prefix result }
+    ensures { (roots : List ℕ) → IsLeastUnder (numbers_of regions.now) (links_of roots regions.now) from level link prefix result }
 {
     if link == 0 {
         return None;

@@ -1,5 +1,6 @@
 //! A region: 64 pages that stand side by side.
 ghost use Rattle.std.specs.Prelude.{◌≡◌, ◌≢◌, ◌<◌, ◌^◌, ℕ, false, length, slice_index, slice_set, true};
+ghost use Rattle.tagmem.specs.Pages.{has_page, HasPage, IsLeast};
 
 // Its number, a bit for each of its pages, which says whether it is there, and the links to eight other regions.
 #[derive(Drop)]
@@ -7,22 +8,25 @@ pub(crate) struct Region {
     pub(crate) number: u64,
     there: u64,
     pub(crate) children: [u32; 8],
+    ghost in_memory: { number < 2 ^ 50 },
     ghost small: { there < 2 ^ 64 },
+    ghost used: { HasPage there },
     ghost each_has_child: { length children ≡ 8 },
 }
 
 impl Region {
-    ghost use Rattle.tagmem.specs.Regions.{has_page, pages_in, IsLeast};
-
-    // A region of which no page is there, and which leads to no other.
-    pub(crate) fn new(number: u64) -> Region
+    // A region of which one page is there, and which leads to no other.
+    pub(crate) fn new(number: u64, place: u8) -> Region
+        requires in_memory { number < 2 ^ 50 }
+        requires place { place < 64 }
         ensures number { result.number ≡ number }
-        ensures none { (place : ℕ) → has_page (pages_in result) place ≡ false }
+        ensures own { has_page result.there place ≡ true }
+        ensures others { (other : ℕ) → other ≢ place → has_page result.there other ≡ false }
         ensures children { (digit : ℕ) → slice_index result.children digit ≡ 0 }
     {
         Region {
             number,
-            there: 0,
+            there: 1 << place,
             children: [0; 8],
         }
     }
@@ -31,7 +35,7 @@ impl Region {
     #[inline(always)]
     pub(crate) fn has(&self, place: u8) -> bool
         requires { place < 64 }
-        ensures { result ≡ has_page (pages_in self.now) place }
+        ensures { result ≡ has_page self.now.there place }
     {
         (self.there >> place) % 2 == 1
     }
@@ -39,7 +43,7 @@ impl Region {
     // The first page from a place on that is there.
     #[tactic(auto, using(crate::proofs::Regions::past))]
     pub(crate) fn first_from(&self, place: u8) -> Option<u8>
-        ensures { IsLeast (has_page (pages_in self.now)) place result }
+        ensures { IsLeast (has_page self.now.there) place result }
     {
         for i in place..64 {
             if self.has(i) {
@@ -54,8 +58,8 @@ impl Region {
         requires { place < 64 }
         ensures number { self.new.number ≡ self.old.number }
         ensures children { self.new.children ≡ self.old.children }
-        ensures own { has_page (pages_in self.new) place ≡ true }
-        ensures others { (other : ℕ) → other ≢ place → has_page (pages_in self.new) other ≡ has_page (pages_in self.old) other }
+        ensures own { has_page self.new.there place ≡ true }
+        ensures others { (other : ℕ) → other ≢ place → has_page self.new.there other ≡ has_page self.old.there other }
     {
         self.there |= 1 << place;
     }
@@ -64,7 +68,7 @@ impl Region {
     pub(crate) fn lead(&mut self, digit: usize, link: u32)
         requires { digit < 8 }
         ensures number { self.new.number ≡ self.old.number }
-        ensures pages { pages_in self.new ≡ pages_in self.old }
+        ensures there { self.new.there ≡ self.old.there }
         ensures children { self.new.children ≡ slice_set self.old.children digit link }
     {
         self.children[digit] = link;

@@ -1,31 +1,23 @@
-use Rattle.std.proofs.Common.{[], set, sym, ap, ◌∙◌, arith}
-use Rattle.std.proofs.{Math.Seq.map-set_same, lemmas.List.{get_or-map, map-set}}
-use Rattle.tagmem.specs.{declared.region.Region.Region, Orders.children_with, Regions.{children_of, pages_in}}
+use Rattle.std.proofs.Common.{◌≡◌, suc, ◌-◌, set, ap, subst, ◌∙◌, arith}
+use Rattle.std.proofs.{Math.Seq.map-set_same}
+use Rattle.tagmem.specs.{declared.region.Region.Region, Orders.IsLinkedTo, Regions.{links_of, has_number}}
+use Rattle.tagmem.proofs.{Orders.IsLinkedTo-set, Regions.list_any-set}
 use Rattle.tagmem.proofs.directory.join.Goals as goal
 
-pub index_mut-requires : goal.index_mut-requires
-index_mut-requires c =
-    let in_range = rw c.in-Some.is at c.requires.in_range in
-    omega (arith, in_range, c.args.regions.now.ok.0)
-
-pub returns-in-Some-clause-numbers : goal.returns-in-Some-clause-numbers
-returns-in-Some-clause-numbers c =
-    map-set_same (λ (r : Region). r.number) c.args.regions.now.items c.in-Some.last c.lead.new.self c.index_mut.result.now
+pub returns-clause-numbers : goal.returns-clause-numbers
+returns-clause-numbers c =
+    map-set_same (λ (r : Region). r.number) c.args.regions.now.items (c.args.end.0 - 1) c.lead.new.self c.index_mut.result.now
     (c.lead.ensures.number ∙ ap (λ (r : Region). r.number) c.index_mut.ensures.value)
 
-pub returns-in-Some-clause-pages : goal.returns-in-Some-clause-pages
-returns-in-Some-clause-pages c =
-    map-set_same pages_in c.args.regions.now.items c.in-Some.last c.lead.new.self c.index_mut.result.now
-    (c.lead.ensures.pages ∙ ap pages_in c.index_mut.ensures.value)
+pub returns-clause-there : goal.returns-clause-there
+returns-clause-there c = λ page.
+    list_any-set (has_number page) c.args.regions.now.items (c.args.end.0 - 1) c.lead.new.self c.index_mut.result.now (cc)
 
-pub returns-in-Some-clause-children : goal.returns-in-Some-clause-children
-returns-in-Some-clause-children c =
+pub returns-clause-linked : goal.returns-clause-linked
+returns-clause-linked c =
     let regions = c.args.regions.now.items in
-    let children = children_of regions in
-    let last = c.in-Some.last in
-    let in_range = rw c.in-Some.is at c.requires.in_range in
-    let row = ap (λ (r : Region). r.children) c.index_mut.ensures.value
-    ∙ sym (get_or-map (λ (r : Region). r.children) regions last c.index_mut.result.now [] in_range) in
-    map-set (λ (r : Region). r.children) regions last c.lead.new.self
-    ∙ ap (set children last) (c.lead.ensures.children ∙ ap (λ row. set row c.args.end.1 c.args.link) row)
-    ∙ ap (λ end. children_with children end c.args.end.1 c.args.link) (sym c.in-Some.is)
+    let counted : suc (c.args.end.0 - 1) ≡ c.args.end.0 = let some = c.if-end-eq0.false in omega arith in
+    let new = set regions (c.args.end.0 - 1) c.lead.new.self in
+    subst (λ l. IsLinkedTo (links_of c.args.roots.now regions) (links_of c.args.roots.now new) l c.args.end.1 c.args.link) counted
+    (IsLinkedTo-set c.args.roots.now regions (c.args.end.0 - 1) c.args.end.1 c.args.link c.index_mut.result.now c.lead.new.self
+    (omega (arith, c.requires.in_range)) c.index_mut.ensures.value (omega (arith, c.requires.digit)) c.lead.ensures.children)

@@ -1,48 +1,27 @@
-use Rattle.std.proofs.Common.{◌≡◌, ◌/◌, Some, refl, arith}
-use Rattle.std.proofs.lemmas.List.{length-map}
-use Rattle.tagmem.specs.{declared.region.Region.Region, Directories.region_of}
-use Rattle.tagmem.proofs.Regions.{IsWith-set, EachHasPage-set, AreCounted-set, numbers_of-kept, children_of-kept}
-use Rattle.tagmem.proofs.directory.Directory.insert.Goals.{In-Ok}
+use Rattle.std.proofs.Common.{set, refl, ap, ◌∙◌}
+use Rattle.std.proofs.Math.Seq.{map-set_same}
+use Rattle.tagmem.specs.{declared.region.Region.Region, Directories.there_in, Regions.{is_there}}
+use Rattle.tagmem.proofs.Regions.{AreCounted-with, IsWith-set}
 use Rattle.tagmem.proofs.directory.Directory.insert.Goals as goal
-
--- the region stands
-stands : (c : In-Ok) → region_of c.args.self.now (c.args.page / 64) ≡ Some c.in-Ok.at
-stands c = rw c.in-Ok.is at c.requires.region
-
-pub index_mut-requires : goal.index_mut-requires
-index_mut-requires c =
-    let s = c.args.self.now in
-    let lt = (s.indexed _ refl).in_range (c.args.page / 64) c.in-Ok.at (stands (goal.at.index_mut-requires c).In-Ok) in
-    omega (arith, lt, length-map s.regions.items (λ (r : Region). r.number), s.regions.ok.0)
 
 pub returns-in-Ok-clause-ok : goal.returns-in-Ok-clause-ok
 returns-in-Ok-clause-ok c =
-    let s = c.args.self.now in
-    let in_ok = stands (goal.at.returns-in-Ok-clause-ok c).In-Ok in
-    let known = s.indexed _ refl in
-    let numbers = numbers_of-kept s.regions.items (region_of s) known c.args.page c.in-Ok.at c.index_mut.result.now c.add.new.self
-    in_ok c.index_mut.ensures.value c.add.ensures.own c.add.ensures.others c.add.ensures.number in
-    let children = children_of-kept s.regions.items (region_of s) known c.args.page c.in-Ok.at c.index_mut.result.now c.add.new.self
-    in_ok c.index_mut.ensures.value c.add.ensures.own c.add.ensures.others c.add.ensures.children in
-    rw (numbers, children) (IsWith-set s.regions.items (region_of s) known c.args.page c.in-Ok.at c.index_mut.result.now c.add.new.self
-    in_ok c.index_mut.ensures.value c.add.ensures.own c.add.ensures.others)
+    IsWith-set c.args.self.now.regions.items c.in-Ok.at c.index_mut.result.now _ c.index_mut.ensures.value (rw c.in-Ok.is at c.requires.region)
+    c.args.page c.add.new.self refl c.add.ensures.number c.add.ensures.own c.add.ensures.others
 
 pub invariant_of-self-in-Ok : goal.invariant_of-self-in-Ok
 invariant_of-self-in-Ok c =
     let s = c.args.self.now in
-    let in_ok = stands (goal.at.invariant_of-self-in-Ok c).In-Ok in
-    let known = s.indexed _ refl in
-    let numbers = numbers_of-kept s.regions.items (region_of s) known c.args.page c.in-Ok.at c.index_mut.result.now c.add.new.self
-    in_ok c.index_mut.ensures.value c.add.ensures.own c.add.ensures.others c.add.ensures.number in
-    let children = children_of-kept s.regions.items (region_of s) known c.args.page c.in-Ok.at c.index_mut.result.now c.add.new.self
-    in_ok c.index_mut.ensures.value c.add.ensures.own c.add.ensures.others c.add.ensures.children in
+    let old = s.regions.items in
+    let stands = rw c.in-Ok.is at c.requires.region in
+    let numbers = map-set_same (λ (r : Region). r.number) old c.in-Ok.at c.add.new.self c.index_mut.result.now
+    (c.add.ensures.number ∙ ap (λ (r : Region). r.number) c.index_mut.ensures.value) in
+    let children = map-set_same (λ (r : Region). r.children) old c.in-Ok.at c.add.new.self c.index_mut.result.now
+    (c.add.ensures.children ∙ ap (λ (r : Region). r.children) c.index_mut.ensures.value) in
     record {
-      each_has_root = s.each_has_root;
+      distinct = rw numbers s.distinct;
       linked = rw (numbers, children) s.linked;
-      indexed = λ region is. rw (is, numbers, children) known;
-      used = EachHasPage-set s.regions.items (region_of s) known c.args.page c.in-Ok.at c.index_mut.result.now c.add.new.self
-          in_ok c.index_mut.ensures.value c.add.ensures.own c.add.ensures.others s.used;
-      counted = λ there is. rw (is, numbers, children) (AreCounted-set s.regions.items (region_of s) known c.args.page c.in-Ok.at
-          c.index_mut.result.now c.add.new.self in_ok c.index_mut.ensures.value c.add.ensures.own c.add.ensures.others s.count
-          (s.counted _ refl));
+      counted = AreCounted-with (there_in s) (is_there (set old c.in-Ok.at c.add.new.self)) c.args.page s.count
+          (IsWith-set old c.in-Ok.at c.index_mut.result.now _ c.index_mut.ensures.value stands c.args.page c.add.new.self refl
+          c.add.ensures.number c.add.ensures.own c.add.ensures.others) s.counted;
     }

@@ -1,9 +1,8 @@
 use Rattle.std.specs.FinMap as map
 use Rattle.std.proofs.Common.{◌≡◌, ◌<◌, ◌∷◌, [], ◌++◌, ◌/◌, ◌%◌, length, get_or, set, All, refl, sym, ap, subst, ◌∙◌}
-use Rattle.std.proofs.{Common.{arith, ℕ, List}, lemmas.List.{length-map, get_or_push, get_or_append_left, Elements.All-from_get_or}}
+use Rattle.std.proofs.{Common.{arith}, lemmas.List.{length-map, get_or_push, get_or_append_left, Elements.All-from_get_or}}
 use Rattle.tagmem.specs.{declared.{block.Block.Block, directory.Directory.Directory}, Blocks.{block_number_at, contents_of, IsAbsent}}
-use Rattle.tagmem.specs.{Blocks.{numbers_of}, Directories.there_in, Granules.with_write, Trees.AreTrees, Orders.IsStanding}
-use Rattle.tagmem.specs.Regions.{children_of, numbers_of as regions_numbers}
+use Rattle.tagmem.specs.{Blocks.{numbers_of}, Directories.{IsRegionIn, there_in}, Granules.with_write, Trees.AreTrees}
 use Rattle.tagmem.specs.Rooms.{HasRoomFor, blocks_of, blocks_with}
 use Rattle.tagmem.proofs.Added.{IsAdded, numbers_of-add, length-add, AreDistinct-add, ArePaged-add, ArePaged-has, contents_of-add}
 use Rattle.tagmem.proofs.{Added.{AreStored-add, len-add}, Blocks.get_absent, Indexes.OnErr-from, NextPut.none_in_page}
@@ -44,19 +43,12 @@ invariant_of-self-in_default c =
       fits = m.fits;
     }
 
-abbrev numbers_in : Directory → List ℕ
-numbers_in directory = regions_numbers directory.regions.items
-
-abbrev children_in : Directory → List (List ℕ)
-children_in directory = children_of directory.regions.items
-
 pub insert-requires : goal.insert-requires
 insert-requires c =
     let same = sym c.make_room.ensures.directory in
     record {
       small = omega (arith, c.requires.in_memory);
-      region = subst (λ (d : Directory). IsStanding (numbers_in d) (children_in d) d.roots (c.args.granule / 256 / 64)
-          c.region_at-region.result) same c.region_at-region.ensures;
+      region = subst (λ (d : Directory). IsRegionIn d (c.args.granule / 256 / 64) c.region_at-region.result) same c.region_at-region.ensures;
       there = c.has-there.ensures ∙ ap (λ d. there_in d (c.args.granule / 256)) same;
       fits = omega (arith, c.make_room.new.self.roomy, c.make_room.new.self.blocks.small);
     }
@@ -68,7 +60,7 @@ one_more c =
     let new = there_in c.insert.new.self in
     let with = c.in-Ok.ensures.ok in
     let own : c.args.granule / 8 / 32 ≡ c.args.granule / 256 = omega arith in
-    is_room m.blocks.items new c.insert.new.self.count (c.insert.new.self.counted _ refl) m.distinct
+    is_room m.blocks.items new c.insert.new.self.count c.insert.new.self.counted m.distinct
     (ArePaged-has m.blocks.items (there_in m.directory) new (c.args.granule / 256) with (m.paged _ refl))
     (c.args.granule / 8) (ap new own ∙ with.0)
     (subst (λ blocks. IsAbsent blocks (c.args.granule / 8)) (sym c.make_room.ensures.blocks) c.requires.absent)
