@@ -19,11 +19,15 @@ length-slots_of block =
     ∙ block.each_has_tag
 
 -- a slot of a block is its tag with its bytes and its code
-pub get_or-slots_of : (block : Block) (slot : ℕ)
+pub slot_of : (block : Block) (slot : ℕ)
     → get_or (slots_of block) slot None ≡ slot_with (get_or block.tags slot None) (get_or block.rows slot []) (get_or block.codes slot 0)
-get_or-slots_of block slot =
+slot_of block slot =
     get_or-slots_with block.tags block.rows block.codes slot (block.each_has_tag ∙ sym block.each_has_row)
     (block.each_has_tag ∙ sym block.each_has_code)
+
+-- past the last there is none
+pub past_last : (block : Block) (slot : ℕ) → 8 ≤ slot → get_or (slots_of block) slot None ≡ None
+past_last block slot large = get_or-eq_default (slots_of block) None (let wide = length-slots_of block in omega arith)
 
 -- what a block says of a granule
 abbrev pub in_block : Block → ℕ → Option Entry
@@ -78,7 +82,7 @@ find-entries_from g (slot ∷ slots) q =
 in_slots-block : (block : Block) (q : ℕ) → in_slots (8 * block.number) (slots_of block) q ≡ in_block block q
 in_slots-block block q =
     let past : 8 * block.number + 8 ≤ q → get_or (slots_of block) (q - 8 * block.number) None ≡ None =
-    λ le. get_or-eq_default (slots_of block) None (let wide = length-slots_of block in omega arith) in
+    λ le. past_last block _ (omega arith) in
     let own : block.number ≡ q / 8 → get_or (slots_of block) (q - 8 * block.number) None ≡ get_or (slots_of block) (q % 8) None =
     λ is. let same : q - 8 * block.number ≡ q % 8 = omega arith in ap (λ n. get_or (slots_of block) n None) same in
     grind (arith, nat_tests, past, own)

@@ -159,8 +159,8 @@ OnErr-from (Ok _) P p = tt
 OnErr-from (Err _) P p = p
 
 -- a granule that has an entry is the next that was put
-pub next_put-at : (l : List Listed) → IsRising l → (k index : ℕ) → IsEntryAt l k index → IsNextPut (contents_of l) k (Some k)
-next_put-at l rising k index at =
+pub next_put_at : (l : List Listed) → IsRising l → (k index : ℕ) → IsEntryAt l k index → IsNextPut (contents_of l) k (Some k)
+next_put_at l rising k index at =
     (omega arith, λ is. none-some _ (sym is ∙ get_at l rising k index at nothing), λ q le lt. absurd (omega arith))
 
 module _ (l : List Listed) (k index : ℕ) (gap : IsGapFor l k index) where
@@ -173,8 +173,8 @@ module _ (l : List Listed) (k index : ℕ) (gap : IsGapFor l k index) where
   }
 
   -- the entry after the gap has the next
-  pub next_put-gap : IsRising l → (x : Listed) → index < length l → x ≡ get_or l index x → IsNextPut (contents_of l) k (Some x.granule)
-  next_put-gap rising x lt read =
+  pub next_put_gap : IsRising l → (x : Listed) → index < length l → x ≡ get_or l index x → IsNextPut (contents_of l) k (Some x.granule)
+  next_put_gap rising x lt read =
       let granule_is : granule_at l index ≡ x.granule =
       granule_at-get_or l index x lt ∙ sym (ap (λ (listed : Listed). listed.granule) read) in
       let above = gap.higher_after index (omega arith) lt in
@@ -187,5 +187,5 @@ module _ (l : List Listed) (k index : ℕ) (gap : IsGapFor l k index) where
       )
 
   -- and after the last entry none was put
-  pub next_put-end : length l ≤ index → IsNextPut (contents_of l) k None
-  next_put-end last = λ q le. get_in_gap l q index (gap_above q le (λ i after in_range. absurd (omega arith)))
+  pub next_put_end : length l ≤ index → IsNextPut (contents_of l) k None
+  next_put_end last = λ q le. get_in_gap l q index (gap_above q le (λ i after in_range. absurd (omega arith)))

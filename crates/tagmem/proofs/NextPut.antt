@@ -1,12 +1,12 @@
 -- Where the next granule that was put is, by its block.
 use Rattle.std.specs.FinMap as map
 use Rattle.std.proofs.Common.{◌≡◌, ◌≢◌, ℕ, ◌+◌, ◌*◌, ◌/◌, ◌%◌, ◌^◌, ◌<◌, ◌≤◌, Bool, false, List, get_or, Option, Some, None}
-use Rattle.std.proofs.{Common.{sym, refl, ap, subst, ◌∙◌, arith, MatchOption}, Math.ListN.get_or-eq_default}
+use Rattle.std.proofs.{Common.{sym, refl, ap, subst, ◌∙◌, arith, MatchOption}}
 use Rattle.std.proofs.lemmas.Bool.{false≢true}
 use Rattle.tagmem.specs.{declared.block.Block.Block, Blocks.{slots_of, contents_of, IsFirstFrom}}
 use Rattle.tagmem.specs.{Blocks.{numbers_of, AreDistinct, ArePaged, IsBlockAt}, Pages.IsLeast}
 use Rattle.tagmem.specs.Granules.{Entry, Granules, AreStored, NonePut, IsNextPut}
-use Rattle.tagmem.proofs.Blocks.{length-slots_of, get_read, get_absent}
+use Rattle.tagmem.proofs.Blocks.{get_read, get_absent}
 
 -- a granule that was put is below 2^60
 pub put_below : (m : Granules) → AreStored m → (q : ℕ) → map.get m q ≢ None → q < 2 ^ 60
@@ -29,16 +29,13 @@ module _ (blocks : List Block) (known : AreDistinct (numbers_of blocks)) (n slot
   get_own q own = get_read blocks known q index block (subst (λ m. IsBlockAt blocks m index) (sym own) at) read
 
   -- a block of which no slot from one on was put
-  pub none_put-block : IsFirstFrom (slots_of block) slot None → NonePut (contents_of blocks) (8 * n + slot) (8 * n + 8)
-  none_put-block none q le lt = get_own q (omega arith) ∙ none (q % 8) (omega arith)
+  pub none_put_block : IsFirstFrom (slots_of block) slot None → NonePut (contents_of blocks) (8 * n + slot) (8 * n + 8)
+  none_put_block none q le lt = get_own q (omega arith) ∙ none (q % 8) (omega arith)
 
   -- and one that has a first
-  pub next_put-block : (first : ℕ) → IsFirstFrom (slots_of block) slot (Some first)
+  pub next_put_block : (first : ℕ) → first < 8 → IsFirstFrom (slots_of block) slot (Some first)
       → IsNextPut (contents_of blocks) (8 * n + slot) (Some (8 * n + first))
-  next_put-block first found =
-      let past : 8 ≤ first → get_or (slots_of block) first None ≡ None = λ large.
-      get_or-eq_default (slots_of block) None (let wide = length-slots_of block in omega arith) in
-      let small : first < 8 = grind (arith, found.1, past) in
+  next_put_block first small found =
       let own : get_or (slots_of block) first None ≡ map.get (contents_of blocks) (8 * n + first) =
       let index_is : first ≡ (8 * n + first) % 8 = omega arith in
       ap (λ i. get_or (slots_of block) i None) index_is ∙ sym (get_own (8 * n + first) (omega arith)) in (
@@ -60,18 +57,18 @@ none_in_page blocks there paged page absent q le lt =
 module _ (blocks : List Block) (there : ℕ → Bool) (paged : ArePaged blocks there) (g : ℕ)
     (none : NonePut (contents_of blocks) g (256 * (g / 256) + 256)) where
   -- there is none where no later page is
-  pub next_put-last : IsLeast there (g / 256 + 1) None → IsNextPut (contents_of blocks) g None
-  next_put-last absent =
+  pub next_put_last : IsLeast there (g / 256 + 1) None → IsNextPut (contents_of blocks) g None
+  next_put_last absent =
       next_after (contents_of blocks) g (256 * (g / 256) + 256) None (omega arith) none
       (λ q le. none_in_page blocks there paged (q / 256) (absent (q / 256) (omega arith)) q (omega arith) (omega arith))
 
   -- else the next is the first of the least later page, which has one
-  pub next_put-later : (page : ℕ) → IsLeast there (g / 256 + 1) (Some page) → (next : Option ℕ)
+  pub next_put_later : (page : ℕ) → IsLeast there (g / 256 + 1) (Some page) → (next : Option ℕ)
       → MatchOption next (NonePut (contents_of blocks) (8 * (32 * page)) (8 * (32 * page + 32)))
       (λ first. IsNextPut (contents_of blocks) (8 * (32 * page)) (Some first))
       → IsNextPut (contents_of blocks) g next
-  next_put-later page later None empty = absurd (paged.used page later.1 (λ q le lt. empty q (omega arith) (omega arith)))
-  next_put-later page later (Some first) found =
+  next_put_later page later None empty = absurd (paged.used page later.1 (λ q le lt. empty q (omega arith) (omega arith)))
+  next_put_later page later (Some first) found =
       let above : 256 * (g / 256) + 256 ≤ 8 * (32 * page) = let le = later.0 in omega arith in
       let between : NonePut (contents_of blocks) (256 * (g / 256) + 256) (8 * (32 * page)) = λ q le lt.
       none_in_page blocks there paged (q / 256) (later.2 (q / 256) (omega arith) (omega arith)) q (omega arith) (omega arith) in

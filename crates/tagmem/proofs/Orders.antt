@@ -5,7 +5,7 @@ use Rattle.std.proofs.Common.{eqb-true, pow-add, length-append, length-set, get_
 use Rattle.std.proofs.{Math.Nat.div-div-eq-div-mul, lemmas.Bool.{ne_eqb, eq-eqb, ltb-true, ltb-false, false≢true, Decides.nat_tests}}
 use Rattle.std.proofs.lemmas.List.{get_or-map, get_or_push, get_or_append_left, map-set}
 use Rattle.tagmem.specs.Orders.{above, height_of, leads, leads_all, IsPlaced, HaveLevels, AreLinked, AreKept, IsEnding, IsLinkedTo}
-use Rattle.tagmem.specs.{declared.region.Region.Region, Orders.{IsOneFrom, IsUpTo, IsUnder, IsLeastUnder, IsLeastFrom, last_of, lesser_of}}
+use Rattle.tagmem.specs.{declared.region.Region.Region, Orders.{IsOneFrom, IsUpTo, IsUnder, IsLeastUnder, IsLeastFrom, lesser_of}}
 use Rattle.tagmem.specs.Regions.{children_of, links_of, numbers_of}
 
 -- a region of the list has its number and its links
@@ -64,23 +64,24 @@ above_rises zero a b le = omega arith
 above_rises (suc digits) a b le =
     let rises = above_rises digits a b le in omega (arith, above_suc digits a, above_suc digits b)
 
--- a number has no more digits than its height
-pub above_height : (number : ℕ) → number < 2 ^ 51 → above (height_of number) number ≡ 0
-above_height number small = elim (ltb number 262144)
-    as (λ b. ltb number 262144 ≡ b → above (cond b 6 (cond (ltb number 1073741824) 10 17)) number ≡ 0) [
-      | true ↦ λ short. let lt = ltb-true number 262144 short in omega arith
-      | false ↦ λ _. elim (ltb number 1073741824) as (λ b. ltb number 1073741824 ≡ b → above (cond b 10 17) number ≡ 0) [
-        | true ↦ λ long. let lt = ltb-true number 1073741824 long in omega arith
-        | false ↦ λ _. omega arith
+-- a height is one of three, and a number has no more digits than that
+by_height : (number : ℕ) (P : ℕ → Type 0) → (number < 262144 → P 6) → (number < 1073741824 → P 10) → P 17 → P (height_of number)
+by_height number P short longer longest =
+    elim (ltb number 262144) as (λ b. ltb number 262144 ≡ b → P (cond b 6 (cond (ltb number 1073741824) 10 17))) [
+      | true ↦ λ lt. short (ltb-true number 262144 lt)
+      | false ↦ λ _. elim (ltb number 1073741824) as (λ b. ltb number 1073741824 ≡ b → P (cond b 10 17)) [
+        | true ↦ λ lt. longer (ltb-true number 1073741824 lt)
+        | false ↦ λ _. longest
       ] refl
     ] refl
 
--- a height is one of three
-heights : (number : ℕ) (P : ℕ → Type 0) → P 6 → P 10 → P 17 → P (height_of number)
-heights number P short longer longest = elim (ltb number 262144) as (λ b. P (cond b 6 (cond (ltb number 1073741824) 10 17))) [
-  | true ↦ short
-  | false ↦ elim (ltb number 1073741824) as (λ b. P (cond b 10 17)) [ true ↦ longer | false ↦ longest ]
-]
+pub above_height : (number : ℕ) → number < 2 ^ 51 → above (height_of number) number ≡ 0
+above_height number small = by_height number (λ h. above h number ≡ 0) (λ lt. omega arith) (λ lt. omega arith) (omega arith)
+
+-- nor is it less than what it has above digits
+pub above_le : (digits number : ℕ) → above digits number ≤ number
+above_le zero number = omega arith
+above_le (suc digits) number = omega (arith, above_suc digits number, above_le digits number)
 
 module _ (links : ℕ → ℕ → ℕ) (number : ℕ) where
   -- a link leads to its region
@@ -248,35 +249,22 @@ pub own_upto : (from number : ℕ) (o : Option ℕ) → MatchOption o (number < 
 own_upto from number None less le = absurd (omega arith)
 own_upto from number (Some same) is le = omega (arith, is.0)
 
--- prefixes have room for a digit more
-pub last_rises : (digits a b : ℕ) → a ≤ b → last_of digits a ≤ last_of digits b
-last_rises zero a b le = le
-last_rises (suc digits) a b le = last_rises digits (8 * a + 7) (8 * b + 7) (omega arith)
-
-pub last_above : (digits prefix : ℕ) → prefix ≤ last_of digits prefix
-last_above zero prefix = omega arith
-last_above (suc digits) prefix = let le = last_above digits (8 * prefix + 7) in omega arith
-
-pub last_with : (level digits prefix digit : ℕ) → level ≡ suc digits → digit < 8 → last_of digits (8 * prefix + digit) ≤ last_of level prefix
-last_with level digits prefix digit is small =
-    subst (λ l. last_of digits (8 * prefix + digit) ≤ last_of l prefix) (sym is)
-    (last_rises digits (8 * prefix + digit) (8 * prefix + 7) (omega arith))
-
 -- a region under a link is the link's own, or under one of its children
 module _ (numbers : List ℕ) (links : ℕ → ℕ → ℕ) (from level : ℕ) where
   pub IsUnder-last : (link prefix at : ℕ) → level ≡ 0 → IsUnder numbers links from level link prefix at → suc at ≡ link
   IsUnder-last zero prefix at none under = absurd (false≢true under.led)
   IsUnder-last (suc index) prefix at none under = ap suc (sym (leads_last links (get_or numbers at 0) level index at none under.led))
 
-  pub IsUnder-on : (digits link prefix at : ℕ) → level ≡ suc digits → suc at ≢ link → IsUnder numbers links from level link prefix at
-      → let digit = above digits (get_or numbers at 0) % 8 in IsUnder numbers links from digits (links link digit) (8 * prefix + digit) at
-  IsUnder-on digits zero prefix at is differs under = absurd (false≢true under.led)
-  IsUnder-on digits (suc index) prefix at is differs under =
+  pub IsUnder-on : (digits link prefix at : ℕ) → level ≡ suc digits → suc at ≢ link → get_or numbers at 0 < 2 ^ 64
+      → IsUnder numbers links from level link prefix at → let digit = above digits (get_or numbers at 0) % 8 in
+      IsUnder numbers links from digits (links link digit) (prefix * 8 % 2 ^ 64 + digit) at
+  IsUnder-on digits zero prefix at is differs small under = absurd (false≢true under.led)
+  IsUnder-on digits (suc index) prefix at is differs small under =
       let has = subst (λ l. above l (get_or numbers at 0) ≡ prefix) is under.has in
       record {
         in_range = under.in_range;
         low = under.low;
-        has = omega (arith, has, above_suc digits (get_or numbers at 0));
+        has = omega (arith, has, above_suc digits (get_or numbers at 0), above_le digits (get_or numbers at 0));
         led = sym (leads_on links (get_or numbers at 0) level digits index at is (λ same. differs (ap suc (sym same)))) ∙ under.led;
       }
 
@@ -309,10 +297,10 @@ module _ (numbers : List ℕ) (links : ℕ → ℕ → ℕ) (linked : AreLinked 
     one_lesser numbers from (lesser_of short longer) longest (one_lesser numbers from short longer least_short.0 least_longer.0) least_longest.0,
     λ at lt low.
         let n = get_or numbers at 0 in
-        heights n (λ h. above h n ≡ 0 → leads links n h (links 0 h) at ≡ true → IsUpTo n (lesser_of (lesser_of short longer) longest))
-        (λ has led. upto_left n (lesser_of short longer) longest (upto_left n short longer (least_short.1 at
+        by_height n (λ h. above h n ≡ 0 → leads links n h (links 0 h) at ≡ true → IsUpTo n (lesser_of (lesser_of short longer) longest))
+        (λ _ has led. upto_left n (lesser_of short longer) longest (upto_left n short longer (least_short.1 at
         (record { in_range = lt; low = low; has = has; led = led }))))
-        (λ has led. upto_left n (lesser_of short longer) longest (upto_right n short longer (least_longer.1 at
+        (λ _ has led. upto_left n (lesser_of short longer) longest (upto_right n short longer (least_longer.1 at
         (record { in_range = lt; low = low; has = has; led = led }))))
         (λ has led. upto_right n (lesser_of short longer) longest (least_longest.1 at
         (record { in_range = lt; low = low; has = has; led = led })))

@@ -68,10 +68,10 @@ module _ (regions : List Region) (at : ℕ) (region : Region) (number : ℕ) (is
   number_is = ap number_of is ∙ sym (get_or-map number_of regions at region 0 in_range) ∙ stands.1
 
   -- one page more is found in it
-  pub IsWith-set : (page : ℕ) (new : Region) → number ≡ page / 64 → new.number ≡ region.number → has_page new.there (page % 64) ≡ true
+  pub IsWith_set : (page : ℕ) (new : Region) → number ≡ page / 64 → new.number ≡ region.number → has_page new.there (page % 64) ≡ true
       → ((place : ℕ) → place ≢ page % 64 → has_page new.there place ≡ has_page region.there place)
       → IsWith (is_there regions) (is_there (set regions at new)) page
-  IsWith-set page new own_number same own others = (
+  IsWith_set page new own_number same own others = (
     list_any_at (has_number page) (set regions at new) at new (omega (arith, in_range, length-set regions at new))
         (ap (has_number page) (get_or-set_same regions at new new in_range) ∙ grind (arith, nat_tests, own, number_is)),
     λ q differs. list_any-set (has_number q) regions at new region
@@ -104,24 +104,20 @@ module _ (regions : List Region) (at : ℕ) (region : Region) (number : ℕ) (is
     none_in place none q le below = there_own q (omega arith) ∙ none (q % 64) (omega arith)
 
     -- or one is the first
-    pub least_in : (place first : ℕ) → IsLeast (has_page region.there) place (Some first)
-        → (first < 64) × IsLeast (is_there regions) (64 * number + place) (Some (64 * number + first))
-    least_in place first found =
-        let small : first < 64 = grind (arith, found.1, past region first) in
+    pub least_in : (place first : ℕ) → first < 64 → IsLeast (has_page region.there) place (Some first)
+        → IsLeast (is_there regions) (64 * number + place) (Some (64 * number + first))
+    least_in place first small found =
         let place_is : first ≡ (64 * number + first) % 64 = omega arith in (
-          small,
-          (
-            omega (arith, found.0),
-            there_own (64 * number + first) (omega arith) ∙ ap (has_page region.there) (sym place_is) ∙ found.1,
-            λ q le below. there_own q (omega arith) ∙ found.2 (q % 64) (omega arith) (omega arith),
-          ),
+          omega (arith, found.0),
+          there_own (64 * number + first) (omega arith) ∙ ap (has_page region.there) (sym place_is) ∙ found.1,
+          λ q le below. there_own q (omega arith) ∙ found.2 (q % 64) (omega arith) (omega arith),
         )
 
 -- a region more, in which one page is found
-pub IsWith-push : (regions : List Region) (page : ℕ) (region : Region) → region.number ≡ page / 64
+pub IsWith_push : (regions : List Region) (page : ℕ) (region : Region) → region.number ≡ page / 64
     → has_page region.there (page % 64) ≡ true → ((place : ℕ) → place ≢ page % 64 → has_page region.there place ≡ false)
     → IsWith (is_there regions) (is_there (regions ++ region ∷ [])) page
-IsWith-push regions page region number own others = (
+IsWith_push regions page region number own others = (
   list_any-append (has_number page) regions (region ∷ []) ∙ grind (arith, nat_tests, own),
   λ q differs. list_any-append (has_number q) regions (region ∷ []) ∙ grind (arith, nat_tests, others (q % 64)),
 )

@@ -1,7 +1,6 @@
 -- Slots, one by one.
-use Rattle.std.proofs.Common.{◌≡◌, ◌≢◌, ℕ, zero, suc, Bool, true, false, true≢false, List, [], ◌∷◌, length, get_or, set}
-use Rattle.std.proofs.Common.{Option, Some, None, is_some, is_none, unwrap_or, sym, refl, ap, arith}
-use Rattle.std.proofs.lemmas.Option.{none-some}
+use Rattle.std.proofs.Common.{◌≡◌, ℕ, zero, suc, Bool, List, [], ◌∷◌, length, get_or, set}
+use Rattle.std.proofs.Common.{Option, Some, None, unwrap_or, sym, refl, ap, arith}
 use Rattle.tagmem.specs.{Blocks.{slot_with, slots_with}, Granules.blank}
 
 -- there are as many as there are tags
@@ -37,27 +36,8 @@ slots_with-set (t ∷ tags) (r ∷ rows) (c ∷ codes) zero tag row code = refl
 slots_with-set (t ∷ tags) (r ∷ rows) (c ∷ codes) (suc i) tag row code =
     ap (λ rest. slot_with t r c ∷ rest) (slots_with-set tags rows codes i tag row code)
 
--- there is nothing where there is no tag
-pub is_none-slot_with : (tag : Option Bool) (row : List ℕ) (code : ℕ) → is_none (slot_with tag row code) ≡ is_none tag
-is_none-slot_with None row code = refl
-is_none-slot_with (Some tag) row code = refl
-
--- the bytes and the code of a slot, where what was never put has none
+-- the bytes of a slot, where what was never put has none
 pub bytes-slot_with : (tag : Option Bool) (row : List ℕ) (code : ℕ) → (tag ≡ None → row ≡ blank.1)
     → (unwrap_or (slot_with tag row code) blank).1 ≡ row
 bytes-slot_with None row code none = sym (none refl)
 bytes-slot_with (Some tag) row code none = refl
-
-pub code-slot_with : (tag : Option Bool) (row : List ℕ) (code : ℕ) → (tag ≡ None → code ≡ 0)
-    → (unwrap_or (slot_with tag row code) blank).2 ≡ code
-code-slot_with None row code none = sym (none refl)
-code-slot_with (Some tag) row code none = refl
-
--- there is an entry where there is a tag
-pub slot_with-none : (tag : Option Bool) (row : List ℕ) (code : ℕ) → is_some tag ≡ false → slot_with tag row code ≡ None
-slot_with-none None row code none = refl
-slot_with-none (Some tag) row code none = absurd (true≢false none)
-
-pub slot_with-some : (tag : Option Bool) (row : List ℕ) (code : ℕ) → is_some tag ≡ true → slot_with tag row code ≢ None
-slot_with-some None row code some is = true≢false (sym some)
-slot_with-some (Some tag) row code some is = none-some _ (sym is)

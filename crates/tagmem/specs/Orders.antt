@@ -69,11 +69,6 @@ pub record IsLinkedTo (old new : ℕ → ℕ → ℕ) (link digit to : ℕ) : Ty
   pub own : new link digit ≡ to
   pub others : (l d : ℕ) → (l ≡ link → d ≢ digit) → new l d ≡ old l d
 
--- the last number that has a prefix, and so many digits behind it
-abbrev pub last_of : ℕ → ℕ → ℕ
-last_of zero prefix = prefix
-last_of (suc digits) prefix = last_of digits (8 * prefix + 7)
-
 -- what is there is one of some numbers, and not less than another
 abbrev pub IsOneFrom : List ℕ → ℕ → Option ℕ → Type 0
 IsOneFrom numbers from None = ⊤

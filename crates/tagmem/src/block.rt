@@ -1,5 +1,5 @@
 //! A block: eight granules that stand side by side.
-ghost use Rattle.std.specs.Prelude.{◌≡◌, ◌+◌, ◌<◌, ◌≤◌, ℕ, length, is_none, None, Some, slice_index_or, slice_set};
+ghost use Rattle.std.specs.Prelude.{◌≡◌, ◌+◌, ◌<◌, ◌≤◌, ℕ, IfSome, length, is_none, None, Some, slice_index_or, slice_set};
 ghost use Rattle.tagmem.specs.Granules.{IsBlankWhereUnput, overwritten, shown};
 
 use crate::overwrites::overwrite;
@@ -37,6 +37,7 @@ impl Block {
 
     // The tag and the bytes of a granule.
     #[inline(always)]
+    #[tactic(auto, using(crate::proofs::Blocks::slot_of))]
     pub(crate) fn get(&self, slot: u8) -> Option<(bool, [u8; 16])>
         requires { slot < 8 }
         ensures { result ≡ shown (slice_index_or (slots_of self.now) slot None) }
@@ -49,6 +50,7 @@ impl Block {
 
     // The tag, the bytes and the code of a granule.
     #[inline(always)]
+    #[tactic(auto, using(crate::proofs::Blocks::slot_of))]
     pub(crate) fn entry(&self, slot: u8) -> Option<(bool, [u8; 16], u64)>
         requires { slot < 8 }
         ensures { result ≡ slice_index_or (slots_of self.now) slot None }
@@ -62,6 +64,7 @@ impl Block {
 
     // The code of a granule, and 0 where it was never put.
     #[inline(always)]
+    #[tactic(auto, using(crate::proofs::Blocks::slot_of))]
     pub(crate) fn code(&self, slot: u8) -> u64
         requires { slot < 8 }
         ensures { result ≡ code_in_slot (slots_of self.now) slot }
@@ -70,8 +73,10 @@ impl Block {
     }
 
     // The first slot from one on that was put.
+    #[tactic(auto, using(crate::proofs::Blocks::slot_of, crate::proofs::Blocks::past_last))]
     pub(crate) fn first_from(&self, slot: u8) -> Option<u8>
-        ensures { IsFirstFrom (slots_of self.now) slot result }
+        ensures first { IsFirstFrom (slots_of self.now) slot result }
+        ensures small { IfSome result (λ first. first < 8) }
     {
         for i in slot as usize..8 {
             if self.tags[i].is_some() {
@@ -84,6 +89,7 @@ impl Block {
     // Writes bytes inside a granule from a byte index on, over zeros where it was never put, and sets
     // its tag and its code. Says whether it was never put.
     #[inline(always)]
+    #[tactic(auto, using(crate::proofs::Blocks::slot_of))]
     pub(crate) fn put(
         &mut self,
         slot: u8,

@@ -1,7 +1,7 @@
 //! Which pages are there, in the order of their numbers.
 ghost use Rattle.std.specs.Prelude.{◌≡◌, ◌≢◌, ◌/◌, ◌*◌, ◌+◌, ◌^◌, ◌<◌, ◌≤◌, ℕ, true, false, Some, Err, IfSome, length};
 ghost use Rattle.std.specs.Prelude.{MatchOption, OnOk, OnErr, slice_index};
-ghost use Rattle.tagmem.specs.{Blocks.AreDistinct, Orders.{AreLinked, IsLeastFrom, IsLeastUnder, IsLinkedTo, last_of}};
+ghost use Rattle.tagmem.specs.{Blocks.AreDistinct, Orders.{AreLinked, IsLeastFrom, IsLeastUnder, IsLinkedTo}};
 ghost use Rattle.tagmem.specs.{Pages.{AreCounted, IsLeast, IsWith}, Regions.{is_there, links_of, numbers_of}};
 
 use crate::order::{find, least_under, lesser};
@@ -44,6 +44,7 @@ impl Directory {
     }
 
     // The least page from a number on that is there.
+    #[tactic(auto, using(crate::proofs::Regions::none_before, crate::proofs::Regions::numbers_small))]
     pub(crate) fn next(&self, page: u64) -> Option<u64>
         requires { page ≤ 2 ^ 56 }
         ensures least { IsLeast (there_in self.now) page result }
@@ -71,8 +72,7 @@ impl Directory {
     // The least region from a number on to which the root of a height leads.
     #[inline(always)]
     fn least_at(&self, from: u64, height: usize) -> Option<u64>
-        requires height { height < 18 }
-        requires small { last_of height 0 < 2 ^ 64 }
+        requires { height < 18 }
         ensures { IsLeastUnder (numbers_of self.now.regions.items) (links_of self.now.roots self.now.regions.items) from height
             (slice_index self.now.roots height) 0 result }
     {
@@ -122,6 +122,7 @@ impl Directory {
 
     // Whether a page is there, whose region stands somewhere or not.
     #[inline(always)]
+    #[tactic(auto, using(crate::proofs::Regions::none_there))]
     pub(crate) fn has(&self, page: u64, region: Result<usize, (usize, usize)>) -> bool
         requires { IsRegionIn self.now (page / 64) region }
         ensures { result ≡ there_in self.now page }

@@ -119,6 +119,7 @@ impl TaggedStore for ListStore {
 
     ghost count_fits = { λ s. len_fits s.entries.items s.rising s.counted };
 
+    #[tactic(auto, using(crate::proofs::Indexes::read_at, crate::proofs::Indexes::get_in_gap))]
     fn get(&self, granule: u64) -> Option<(bool, [u8; 16])> {
         match self.index_of(granule) {
             Ok(index) => {
@@ -130,6 +131,7 @@ impl TaggedStore for ListStore {
         }
     }
 
+    #[tactic(auto, using(crate::proofs::Indexes::read_at, crate::proofs::Indexes::get_in_gap))]
     fn code(&self, granule: u64) -> u64 {
         match self.index_of(granule) {
             Ok(index) => self.entries[index].code,
@@ -137,6 +139,7 @@ impl TaggedStore for ListStore {
         }
     }
 
+    #[tactic(auto, using(crate::proofs::Indexes::next_put_at, crate::proofs::Indexes::next_put_end))]
     fn next_put(&self, granule: u64) -> Option<u64> {
         match self.index_of(granule) {
             Ok(_) => Some(granule),

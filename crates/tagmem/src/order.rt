@@ -4,7 +4,7 @@
 //! way goes on to the child that the next octal digit of a number names, the highest first. So a way has no more steps
 //! than a number has digits, and all that is led to on a digit is less than all on a higher one.
 ghost use Rattle.std.specs.Prelude.{◌≡◌, ◌*◌, ◌+◌, ◌^◌, ◌<◌, ◌≤◌, ℕ, List, MatchOption, false, length, ltb, suc};
-ghost use Rattle.tagmem.specs.Orders.{AreLinked, IsLeastUnder, IsStanding, above, height_of, last_of, lesser_of};
+ghost use Rattle.tagmem.specs.Orders.{AreLinked, IsLeastUnder, IsStanding, above, height_of, lesser_of};
 ghost use Rattle.tagmem.specs.Regions.{links_of, numbers_of};
 
 use crate::region::Region;
@@ -57,7 +57,7 @@ pub(crate) fn find(
 }
 
 // The least number from one on of a region that a link leads to: their numbers have a prefix, and so many digits
-// after it.
+// after it. A prefix that is none's may lose its highest bits.
 pub(crate) fn least_under(
     regions: &[Region],
     from: u64,
@@ -68,7 +68,6 @@ pub(crate) fn least_under(
     requires in_range { link ≤ length regions.now }
     requires within { (roots : List ℕ) (index digit : ℕ) → links_of roots regions.now (suc index) digit ≤ length regions.now }
     requires low { level < 18 }
-    requires small { last_of level prefix < 2 ^ 64 }
     ensures { (roots : List ℕ) → IsLeastUnder (numbers_of regions.now) (links_of roots regions.now) from level link prefix result }
 {
     if link == 0 {
@@ -80,7 +79,7 @@ pub(crate) fn least_under(
         return least;
     }
     for digit in 0..8 {
-        let child = 8 * prefix + digit;
+        let child = (prefix << 3) + digit;
         if child < from >> (3 * (level - 1)) {
             continue;
         }

@@ -79,6 +79,7 @@ impl PageStore {
     }
 
     // The first granule of a block, from a slot on, that was put.
+    #[tactic(auto, using(crate::proofs::Blocks::get_absent))]
     fn first_in(&self, number: u64, slot: u8) -> Option<u64>
         ensures { let contents = contents_of self.now.blocks.items in let from = 8 * number + slot in
             MatchOption result
@@ -87,7 +88,7 @@ impl PageStore {
     {
         match self.index_of(number) {
             Some(index) => match self.blocks[index].first_from(slot) {
-                Some(first) => Some(u64::from(first) + 8 * number),
+                Some(first) => Some((number << 3) + u64::from(first)),
                 None => None,
             },
             None => None,
@@ -189,6 +190,7 @@ impl PageStore {
     // Writes bytes inside a granule from a byte index on, over zeros where it was never put, and sets
     // its tag and its code.
     #[inline(always)]
+    #[tactic(auto, using(crate::proofs::Blocks::get_absent))]
     fn put(
         &mut self,
         granule: u64,
@@ -229,6 +231,7 @@ impl TaggedStore for PageStore {
     ghost count_fits = { λ s. s.fits };
 
     #[inline(always)]
+    #[tactic(auto, using(crate::proofs::Blocks::get_read, crate::proofs::Blocks::get_absent))]
     fn get(&self, granule: u64) -> Option<(bool, [u8; 16])> {
         match self.index_of(granule / 8) {
             Some(index) => self.blocks[index].get((granule % 8) as u8),
@@ -237,6 +240,7 @@ impl TaggedStore for PageStore {
     }
 
     #[inline(always)]
+    #[tactic(auto, using(crate::proofs::Blocks::get_read, crate::proofs::Blocks::get_absent))]
     fn code(&self, granule: u64) -> u64 {
         match self.index_of(granule / 8) {
             Some(index) => self.blocks[index].code((granule % 8) as u8),
@@ -245,6 +249,7 @@ impl TaggedStore for PageStore {
     }
 
     #[inline(always)]
+    #[tactic(auto, using(crate::proofs::Blocks::get_read, crate::proofs::Blocks::get_absent))]
     fn entry(&self, granule: u64) -> Option<(bool, [u8; 16], u64)> {
         match self.index_of(granule / 8) {
             Some(index) => self.blocks[index].entry((granule % 8) as u8),

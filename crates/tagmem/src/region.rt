@@ -1,5 +1,5 @@
 //! A region: 64 pages that stand side by side.
-ghost use Rattle.std.specs.Prelude.{◌≡◌, ◌≢◌, ◌<◌, ◌^◌, ℕ, false, length, slice_index, slice_set, true};
+ghost use Rattle.std.specs.Prelude.{◌≡◌, ◌≢◌, ◌<◌, ◌^◌, ℕ, IfSome, false, length, slice_index, slice_set, true};
 ghost use Rattle.tagmem.specs.Pages.{has_page, HasPage, IsLeast};
 
 // Its number, a bit for each of its pages, which says whether it is there, and the links to eight other regions.
@@ -43,7 +43,8 @@ impl Region {
     // The first page from a place on that is there.
     #[tactic(auto, using(crate::proofs::Regions::past))]
     pub(crate) fn first_from(&self, place: u8) -> Option<u8>
-        ensures { IsLeast (has_page self.now.there) place result }
+        ensures first { IsLeast (has_page self.now.there) place result }
+        ensures small { IfSome result (λ first. first < 64) }
     {
         for i in place..64 {
             if self.has(i) {

@@ -63,6 +63,7 @@ impl Trees {
     }
 
     // The index of the block with a number, from the root of its place on.
+    #[tactic(auto, using(crate::proofs::Ways::leads_from_root))]
     pub(crate) fn find(&self, blocks: &[Block], number: u64, root: usize) -> Option<usize>
         requires root { suc root ≡ slice_index self.now.roots.items (place_of self.now.mask number) }
         requires as_many { length self.now.links.items ≡ 2 * length blocks.now }

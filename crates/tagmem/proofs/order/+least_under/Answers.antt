@@ -1,8 +1,9 @@
-use Rattle.std.proofs.Common.{◌≡◌, ℕ, suc, [], ◌+◌, ◌-◌, ◌*◌, ◌%◌, ◌<◌, ◌≤◌, List, get_or, length, sym, ap, subst, ◌∙◌, arith}
+use Rattle.std.proofs.Common.{◌≡◌, ◌≢◌, ℕ, suc, [], ◌+◌, ◌-◌, ◌*◌, ◌%◌, ◌^◌, ◌<◌, ◌≤◌, List, get_or, length, sym, ap, subst, ◌∙◌, arith}
 use Rattle.std.proofs.lemmas.List.{length-map}
-use Rattle.tagmem.specs.{declared.region.Region.Region, Orders.{IsOneFrom, IsUnder, IsUpTo, above, last_of, lesser_of}, Regions.{links_of, numbers_of}}
-use Rattle.tagmem.proofs.Orders.{above_rises, by_digit, child_is, ends_upto, IsUnder-last, IsUnder-on, last_above, last_with, number_is}
+use Rattle.tagmem.specs.{declared.region.Region.Region, Orders.{IsOneFrom, IsUnder, IsUpTo, above, lesser_of}, Regions.{links_of, numbers_of}}
+use Rattle.tagmem.proofs.Orders.{above_rises, by_digit, child_is, ends_upto, IsUnder-last, IsUnder-on, number_is}
 use Rattle.tagmem.proofs.Orders.{one_lesser, one_own, own_upto, upto_left, upto_right}
+use Rattle.tagmem.proofs.Regions.{numbers_small}
 use Rattle.tagmem.proofs.order.+least_under.Goals.{After-own-least, In-loop-digit}
 use Rattle.tagmem.proofs.order.+least_under.Goals as goal
 
@@ -34,14 +35,18 @@ module _ (t : ℕ) (c : After-own-least t) where
       subst (λ n. IsUpTo n c.own-least.result) same
       (own_upto c.args.from c.index-regions-link.result.number c.own-least.result c.own-least.ensures (omega (arith, same, low)))
 
--- digits are left, and a prefix that is one longer
+-- digits are left, and what is on one of them is under its link
 counted : (t : ℕ) (c : In-loop-digit t) → c.args.level ≡ suc (c.args.level - 1)
 counted t c = let some = c.if-level-eq0.false in omega arith
 
-room : (t : ℕ) (c : In-loop-digit t) → last_of (c.args.level - 1) (8 * c.args.prefix + c.loop-digit.digit) < 18446744073709551616
-room t c =
-    let within = last_with c.args.level (c.args.level - 1) c.args.prefix c.loop-digit.digit (counted t c) c.loop-digit-test.true in
-    omega (arith, within, c.requires.small)
+on_digit : (t : ℕ) (c : In-loop-digit t) (roots : List ℕ) (at : ℕ) → suc at ≢ c.args.link
+    → IsUnder (numbers_of c.args.regions.now) (links_of roots c.args.regions.now) c.args.from c.args.level c.args.link c.args.prefix at
+    → let digit = above (c.args.level - 1) (get_or (numbers_of c.args.regions.now) at 0) % 8 in
+    IsUnder (numbers_of c.args.regions.now) (links_of roots c.args.regions.now) c.args.from (c.args.level - 1)
+    (links_of roots c.args.regions.now c.args.link digit) (c.args.prefix * 8 % 2 ^ 64 + digit) at
+on_digit t c roots at differs under =
+    IsUnder-on (numbers_of c.args.regions.now) (links_of roots c.args.regions.now) c.args.from c.args.level (c.args.level - 1)
+    c.args.link c.args.prefix at (counted t c) differs (omega (arith, numbers_small c.args.regions.now at under.in_range)) under
 
 pub returns-then-level-eq0 : goal.returns-then-level-eq0
 returns-then-level-eq0 t c = λ roots.
@@ -59,44 +64,32 @@ loop-digit-init t c =
       under = λ roots at under lower. own t after at under.low (grind (arith, lower));
     }
 
-pub overflow_mul-child : goal.overflow_mul-child
-overflow_mul-child t c =
-    let in_loop = (goal.at.overflow_mul-child t c).In-loop-digit in
-    omega (arith, room t in_loop, last_above (c.args.level - 1) (8 * c.args.prefix + c.loop-digit.digit))
-
-pub overflow_add-child : goal.overflow_add-child
-overflow_add-child t c =
-    let in_loop = (goal.at.overflow_add-child t c).In-loop-digit in
-    omega (arith, room t in_loop, last_above (c.args.level - 1) (8 * c.args.prefix + c.loop-digit.digit))
-
 -- a region's number on the digit that is passed over is below the first
 pub loop-digit-preserved-then-child-from : goal.loop-digit-preserved-then-child-from
 loop-digit-preserved-then-child-from t c =
-    let is = counted t (goal.at.loop-digit-preserved-then-child-from t c).In-loop-digit in
+    let in_loop = (goal.at.loop-digit-preserved-then-child-from t c).In-loop-digit in
     record {
       one = c.loop-digit.invariant.one;
       under = λ roots at under lower. c.loop-digit.invariant.under roots at under (λ differs.
-          let on = IsUnder-on (numbers_of c.args.regions.now) (links_of roots c.args.regions.now) c.args.from c.args.level (c.args.level - 1)
-          c.args.link c.args.prefix at is differs under in
+          let on = on_digit t in_loop roots at differs under in
           omega (arith, lower differs, on.has, c.if-child-from.true, above_rises (c.args.level - 1) c.args.from _ on.low));
     }
 
 pub least_under-next-requires : goal.least_under-next-requires
 least_under-next-requires t c =
-    let in_loop = (goal.at.least_under-next-requires t c).In-loop-digit in
     let after = (goal.at.least_under-next-requires t c).After-own-least in
     let some = c.if-level-eq0.false in (
       omega (arith, c.decreases),
       (
         rw (named t after [] c.loop-digit.digit, linked t after) (c.requires.within [] (c.args.link - 1) c.loop-digit.digit),
-        (c.requires.within, (omega (arith, c.requires.low), room t in_loop)),
+        (c.requires.within, omega (arith, c.requires.low)),
       ),
     )
 
 pub loop-digit-preserved : goal.loop-digit-preserved
 loop-digit-preserved t c =
     let after = (goal.at.loop-digit-preserved t c).After-own-least in
-    let counted = counted t (goal.at.loop-digit-preserved t c).In-loop-digit in
+    let in_loop = (goal.at.loop-digit-preserved t c).In-loop-digit in
     let numbers = numbers_of c.args.regions.now in
     let least = c.loop-digit.least in
     let next = c.least_under-next.result in
@@ -110,10 +103,10 @@ loop-digit-preserved t c =
           (λ below. upto_left n least next (c.loop-digit.invariant.under roots at under below))
           (λ differs le. upto_right n least next ((c.least_under-next.ensures roots).1 at
           (let same : above (c.args.level - 1) n % 8 ≡ c.loop-digit.digit = omega (arith, le, lower differs) in
-          subst (λ l. IsUnder numbers links c.args.from (c.args.level - 1) l (8 * c.args.prefix + c.loop-digit.digit) at)
+          subst (λ l. IsUnder numbers links c.args.from (c.args.level - 1) l (c.args.prefix * 8 % 2 ^ 64 + c.loop-digit.digit) at)
           (sym (named t after roots c.loop-digit.digit))
-          (subst (λ d. IsUnder numbers links c.args.from (c.args.level - 1) (links c.args.link d) (8 * c.args.prefix + d) at) same
-          (IsUnder-on numbers links c.args.from c.args.level (c.args.level - 1) c.args.link c.args.prefix at counted differs under))))));
+          (subst (λ d. IsUnder numbers links c.args.from (c.args.level - 1) (links c.args.link d) (c.args.prefix * 8 % 2 ^ 64 + d) at) same
+          (on_digit t in_loop roots at differs under))))));
     }
 
 pub returns-after-loop-digit : goal.returns-after-loop-digit
@@ -131,8 +124,7 @@ returns-then-ends_before t c = λ roots. (
       by_digit c.args.link at (above (c.args.level - 1) n % 8) c.loop-digit.digit (IsUpTo n c.loop-digit.least)
       (c.loop-digit.invariant.under roots at under)
       (λ differs le.
-      let on = IsUnder-on (numbers_of c.args.regions.now) (links_of roots c.args.regions.now) c.args.from c.args.level (c.args.level - 1)
-      c.args.link c.args.prefix at (counted t (goal.at.returns-then-ends_before t c).In-loop-digit) differs under in
-      ends_upto (c.args.level - 1) (8 * c.args.prefix + c.loop-digit.digit) n c.loop-digit.least c.ends_before.result c.ends_before.ensures
+      let on = on_digit t (goal.at.returns-then-ends_before t c).In-loop-digit roots at differs under in
+      ends_upto (c.args.level - 1) (c.args.prefix * 8 % 2 ^ 64 + c.loop-digit.digit) n c.loop-digit.least c.ends_before.result c.ends_before.ensures
       c.if-ends_before.true (omega (arith, on.has, le))),
 )

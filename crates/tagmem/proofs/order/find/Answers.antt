@@ -97,12 +97,6 @@ module _ (c : Else-region-number) where
 pub overflow_sub-level : goal.overflow_sub-level
 overflow_sub-level c = let some = some_left (goal.at.overflow_sub-level c).Else-region-number in omega arith
 
-pub overflow_mul-digit : goal.overflow_mul-digit
-overflow_mul-digit c = let low = c.loop-region.invariant.low in omega arith
-
-pub overflow_shr-digit : goal.overflow_shr-digit
-overflow_shr-digit c = let low = c.loop-region.invariant.low in omega arith
-
 pub returns-then-child-eq0 : goal.returns-then-child-eq0
 returns-then-child-eq0 c =
     let after = (goal.at.returns-then-child-eq0 c).Else-region-number in

@@ -2,7 +2,7 @@ use Rattle.std.proofs.Common.{◌≡◌, ◌≢◌, ℕ, suc, ◌/◌, ◌∷◌
 use Rattle.std.proofs.lemmas.{Grind.get_or_default_zero, List.{length-map, map-append, Quantifiers.all_pairs_push}}
 use Rattle.tagmem.specs.{declared.region.Region.Region, Blocks.AreDistinct, Directories.there_in, Orders.IsLinkedTo}
 use Rattle.tagmem.specs.Regions.{is_there, links_of, numbers_of}
-use Rattle.tagmem.proofs.{Orders.{AreLinked-more, links_of-push}, Regions.{AreCounted-with, IsWith-push}}
+use Rattle.tagmem.proofs.{Orders.{AreLinked-more, links_of-push}, Regions.{AreCounted-with, IsWith_push}}
 use Rattle.tagmem.proofs.directory.Directory.add_region.Goals as goal
 
 pub invariant_of-self : goal.invariant_of-self
@@ -25,7 +25,7 @@ invariant_of-self-2 c =
     ∙ ap (λ n. numbers_of old ++ n ∷ []) c.new.ensures.number in
     let there : (page : ℕ) → is_there new page ≡ is_there (old ++ c.new.result ∷ []) page =
     λ page. c.join.ensures.there page ∙ ap (λ items. is_there items page) pushed in
-    let with = IsWith-push old c.args.page c.new.result c.new.ensures.number c.new.ensures.own c.new.ensures.others in
+    let with = IsWith_push old c.args.page c.new.result c.new.ensures.number c.new.ensures.own c.new.ensures.others in
     let joined : IsLinkedTo (links_of s.roots old) (links_of c.join.new.roots new) c.args.end.0 c.args.end.1 (suc (length (numbers_of old))) =
     record {
       own = c.join.ensures.linked.own ∙ omega (arith, c.in-Ok.ensures.1, c.len-at.ensures, s.regions.ok.0, long);

@@ -8,26 +8,23 @@ returns-in-Some-clause-first c =
     let s = c.args.self.now in
     subst (λ n. IsLeast (there_in s) (64 * c.args.region + c.args.place) (Some (64 * c.args.region + n))) (sym c.from.ensures)
     (least_in s.regions.items c.in-Ok.at c.index.result.now c.args.region c.index.ensures c.in-Ok.ensures s.distinct
-    c.args.place c.in-Some.first c.in-Some.ensures).1
+    c.args.place c.in-Some.first c.in-Some.ensures.small c.in-Some.ensures.first)
 
 pub returns-in-Some-clause-small : goal.returns-in-Some-clause-small
 returns-in-Some-clause-small c =
-    let s = c.args.self.now in
-    let least = least_in s.regions.items c.in-Ok.at c.index.result.now c.args.region c.index.ensures c.in-Ok.ensures s.distinct
-    c.args.place c.in-Some.first c.in-Some.ensures in
     omega (
       arith,
       c.from.ensures,
-      least.0,
+      c.in-Some.ensures.small,
       c.index.result.now.in_memory,
-      number_is s.regions.items c.in-Ok.at c.index.result.now c.args.region c.index.ensures c.in-Ok.ensures,
+      number_is c.args.self.now.regions.items c.in-Ok.at c.index.result.now c.args.region c.index.ensures c.in-Ok.ensures,
     )
 
 pub returns-in-None-clause-first : goal.returns-in-None-clause-first
 returns-in-None-clause-first c =
     let s = c.args.self.now in
     none_in s.regions.items c.in-Ok.at c.index.result.now c.args.region c.index.ensures c.in-Ok.ensures s.distinct
-    c.args.place c.in-None.ensures
+    c.args.place c.in-None.ensures.first
 
 pub returns-in-Err-clause-first : goal.returns-in-Err-clause-first
 returns-in-Err-clause-first c = λ page le lt.

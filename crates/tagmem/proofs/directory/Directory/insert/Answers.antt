@@ -1,12 +1,12 @@
 use Rattle.std.proofs.Common.{set, refl, ap, ◌∙◌}
 use Rattle.std.proofs.Math.Seq.{map-set_same}
 use Rattle.tagmem.specs.{declared.region.Region.Region, Directories.there_in, Regions.{is_there}}
-use Rattle.tagmem.proofs.Regions.{AreCounted-with, IsWith-set}
+use Rattle.tagmem.proofs.Regions.{AreCounted-with, IsWith_set}
 use Rattle.tagmem.proofs.directory.Directory.insert.Goals as goal
 
 pub returns-in-Ok-clause-ok : goal.returns-in-Ok-clause-ok
 returns-in-Ok-clause-ok c =
-    IsWith-set c.args.self.now.regions.items c.in-Ok.at c.index_mut.result.now _ c.index_mut.ensures.value (rw c.in-Ok.is at c.requires.region)
+    IsWith_set c.args.self.now.regions.items c.in-Ok.at c.index_mut.result.now _ c.index_mut.ensures.value (rw c.in-Ok.is at c.requires.region)
     c.args.page c.add.new.self refl c.add.ensures.number c.add.ensures.own c.add.ensures.others
 
 pub invariant_of-self-in-Ok : goal.invariant_of-self-in-Ok
@@ -22,6 +22,6 @@ invariant_of-self-in-Ok c =
       distinct = rw numbers s.distinct;
       linked = rw (numbers, children) s.linked;
       counted = AreCounted-with (there_in s) (is_there (set old c.in-Ok.at c.add.new.self)) c.args.page s.count
-          (IsWith-set old c.in-Ok.at c.index_mut.result.now _ c.index_mut.ensures.value stands c.args.page c.add.new.self refl
+          (IsWith_set old c.in-Ok.at c.index_mut.result.now _ c.index_mut.ensures.value stands c.args.page c.add.new.self refl
           c.add.ensures.number c.add.ensures.own c.add.ensures.others) s.counted;
     }

@@ -1,7 +1,7 @@
 use Rattle.std.proofs.Common.{◌≡◌, ◌≢◌, ℕ, suc, ◌-◌, ◌+◌, ◌*◌, ◌/◌, ◌%◌, get_or, sym, ap, subst, ◌∙◌, arith}
 use Rattle.std.proofs.lemmas.{Grind.get_or_default_zero, List.get_or-map}
-use Rattle.tagmem.specs.{declared.block.Block.Block, Blocks.{IsBlockAt, block_number_at}, Trees.{LeadsTo, child_of, place_of}}
-use Rattle.tagmem.proofs.Ways.{leads_from_root, leads_nowhere, leads_on}
+use Rattle.tagmem.specs.{declared.block.Block.Block, Blocks.{IsBlockAt, block_number_at}, Trees.{LeadsTo, child_of}}
+use Rattle.tagmem.proofs.Ways.{leads_nowhere, leads_on}
 use Rattle.tagmem.proofs.trees.Trees.find.Goals.{After-index-child}
 use Rattle.tagmem.proofs.trees.Trees.find.Goals as goal
 
@@ -20,16 +20,6 @@ from_child c i at =
     c.index-child.ensures ∙ get_or_default_zero links (2 * index + c.loop-index.bits % 2) c.index-child.result.now
     (omega (arith, c.loop-index.invariant.in_range, c.requires.as_many)) in
     rw child (leads_on links c.loop-index.bits index i differs (c.loop-index.invariant.sought i at))
-
-pub loop-index-init : goal.loop-index-init
-loop-index-init c =
-    let s = c.args.self.now in
-    let le = c.requires.trees.rooted (place_of s.mask c.args.number) in
-    record {
-      in_range = omega (arith, le, c.requires.root);
-      sought = λ i at. rw c.requires.root
-          (leads_from_root c.args.blocks.now s.mask s.roots.items s.links.items c.requires.trees c.args.number i at);
-    }
 
 pub returns-then-child-eq0 : goal.returns-then-child-eq0
 returns-then-child-eq0 c = λ i lt is.
