@@ -1,15 +1,112 @@
--- What blocks have at a granule, and what a put in one of them does.
-use Rattle.std.specs.{Cmp.{nat_cmp_total, unsigned_tied}, FinMap.{find, get-from_entries, nat_cmp-IsAntisymmetric}}
-use Rattle.std.specs.{FinMap.same_map, Option.option_or, Ordering.eq_by_cmp}
-use Rattle.std.specs.FinMap as map
-use Rattle.std.proofs.Common.{◌≡◌, ℕ, zero, suc, ◌+◌, ◌-◌, ◌*◌, ◌/◌, ◌%◌, ◌<◌, ◌≤◌, ◌≢◌, Bool, true, false, cond, eqb}
-use Rattle.std.proofs.Common.{leb, List, [], ◌∷◌, ◌++◌, length, get_or, set, Option, Some, None, sym, refl, ap}
-use Rattle.std.proofs.Common.{◌∙◌, arith, nat_cmp, eqb-true, get_or-set_same, get_or-set_other}
-use Rattle.std.proofs.{Math.ListN.get_or-eq_default, lemmas.{Bool.Decides.nat_tests, List.length-map}}
-use Rattle.tagmem.specs.{declared.block.Block.Block, Blocks.{slots_of, slot_with, with_slot, entries_from, entries_of}}
-use Rattle.tagmem.specs.Blocks.{contents_of, block_number_at, numbers_of, IsBlockAt, IsAbsent, AreDistinct}
-use Rattle.tagmem.specs.Granules.{Entry}
-use Rattle.tagmem.proofs.{Granules.get-put, Slots.{length-slots_with, get_or-slots_with}}
+-- What blocks have at a granule, and what becomes of it as blocks change and are added.
+use Rattle.std.specs.{Cmp.{nat_cmp_total, unsigned_tied}, FinMap.{find, get-from_entries, nat_cmp-IsAntisymmetric, same_map}}
+use Rattle.std.specs.{Option.option_or, Ordering.eq_by_cmp}
+use Rattle.std.specs.FinMap as finite
+use Rattle.std.proofs.Common.{◌≡◌, ◌≢◌, ℕ, zero, suc, ◌+◌, ◌-◌, ◌*◌, ◌/◌, ◌%◌, ◌<◌, ◌≤◌, Bool, true, false, cond, eqb, leb, List, [], ◌∷◌}
+use Rattle.std.proofs.Common.{◌++◌, length, get_or, set, map, Option, Some, None, unwrap_or, sym, refl, ap, subst, ◌∙◌, arith, nat_cmp}
+use Rattle.std.proofs.Common.{eqb-true, get_or-set_same, get_or-set_other, length-append}
+use Rattle.std.proofs.{Math.ListN.get_or-eq_default, Math.Seq.map-set_same, lemmas.{Bool.Decides.nat_tests, Grind.get_or_default_zero}}
+use Rattle.std.proofs.lemmas.List.{get_or-map, length-map, map-append, get_or_push, Quantifiers.all_pairs_push}
+use Rattle.tagmem.specs.{declared.block.Block.Block, Blocks.{slots_of, slot_with, slots_with, with_slot, entries_from, entries_of}}
+use Rattle.tagmem.specs.{Blocks.{contents_of, block_number_at, numbers_of, IsBlockAt, IsAbsent, AreDistinct}, Granules.{Entry, blank}}
+use Rattle.tagmem.proofs.Granules.{get-put}
+
+-- there are as many as there are tags
+pub length-slots_with : (tags : List (Option Bool)) (rows : List (List ℕ)) (codes : List ℕ) → length tags ≡ length rows
+    → length tags ≡ length codes → length (slots_with tags rows codes) ≡ length tags
+length-slots_with [] rows codes same equal = refl
+length-slots_with (tag ∷ tags) [] codes same equal = absurd (omega arith)
+length-slots_with (tag ∷ tags) (row ∷ rows) [] same equal = absurd (omega arith)
+length-slots_with (tag ∷ tags) (row ∷ rows) (code ∷ codes) same equal =
+    ap suc (length-slots_with tags rows codes (omega arith) (omega arith))
+
+-- each is a tag with its bytes and its code
+pub get_or-slots_with : (tags : List (Option Bool)) (rows : List (List ℕ)) (codes : List ℕ) (i : ℕ) → length tags ≡ length rows
+    → length tags ≡ length codes
+    → get_or (slots_with tags rows codes) i None ≡ slot_with (get_or tags i None) (get_or rows i []) (get_or codes i 0)
+get_or-slots_with [] rows codes i same equal = refl
+get_or-slots_with (tag ∷ tags) [] codes i same equal = absurd (omega arith)
+get_or-slots_with (tag ∷ tags) (row ∷ rows) [] i same equal = absurd (omega arith)
+get_or-slots_with (tag ∷ tags) (row ∷ rows) (code ∷ codes) zero same equal = refl
+get_or-slots_with (tag ∷ tags) (row ∷ rows) (code ∷ codes) (suc i) same equal =
+    get_or-slots_with tags rows codes i (omega arith) (omega arith)
+
+-- a tag set with its bytes and its code is one of them set
+pub slots_with-set : (tags : List (Option Bool)) (rows : List (List ℕ)) (codes : List ℕ) (i : ℕ)
+    (tag : Option Bool) (row : List ℕ) (code : ℕ)
+    → slots_with (set tags i tag) (set rows i row) (set codes i code) ≡ set (slots_with tags rows codes) i (slot_with tag row code)
+slots_with-set [] rows codes i tag row code = refl
+slots_with-set (t ∷ tags) [] codes zero tag row code = refl
+slots_with-set (t ∷ tags) [] codes (suc i) tag row code = refl
+slots_with-set (t ∷ tags) (r ∷ rows) [] zero tag row code = refl
+slots_with-set (t ∷ tags) (r ∷ rows) [] (suc i) tag row code = refl
+slots_with-set (t ∷ tags) (r ∷ rows) (c ∷ codes) zero tag row code = refl
+slots_with-set (t ∷ tags) (r ∷ rows) (c ∷ codes) (suc i) tag row code =
+    ap (λ rest. slot_with t r c ∷ rest) (slots_with-set tags rows codes i tag row code)
+
+-- the bytes of a slot, where what was never put has none
+pub bytes-slot_with : (tag : Option Bool) (row : List ℕ) (code : ℕ) → (tag ≡ None → row ≡ blank.1)
+    → (unwrap_or (slot_with tag row code) blank).1 ≡ row
+bytes-slot_with None row code none = sym (none refl)
+bytes-slot_with (Some tag) row code none = refl
+
+-- the number that a block has
+abbrev number_of : Block → ℕ
+number_of block = block.number
+
+-- where no number stands twice, each has one index at most
+pub one_number : (numbers : List ℕ) → AreDistinct numbers → (i j : ℕ) → i < length numbers → j < length numbers
+    → get_or numbers i 0 ≡ get_or numbers j 0 → i ≡ j
+one_number numbers known i j lt_i lt_j same =
+    let below : i < j → ⊥ = λ less. known i j 0 less lt_j same in
+    let above : j < i → ⊥ = λ less. known j i 0 less lt_i (sym same) in
+    grind (arith, below, above)
+
+-- a block at the index of another of its number leaves the numbers as they are
+pub numbers_of-set : (blocks : List Block) (new : Block) (index : ℕ) → IsBlockAt blocks new.number index
+    → numbers_of (set blocks index new) ≡ numbers_of blocks
+numbers_of-set blocks new index at =
+    map-set_same number_of blocks index new new (sym at.has_number ∙ get_or-map number_of blocks index new 0 at.in_range)
+
+-- a block more, at the index behind the others
+module _ (blocks : List Block) (block : Block) (number index : ℕ)
+    (its_number : block.number ≡ number) (last : index ≡ length blocks) where
+  length-push : length (blocks ++ block ∷ []) ≡ length blocks + 1
+  length-push = length-append blocks (block ∷ [])
+
+  numbers : map number_of (blocks ++ block ∷ []) ≡ map number_of blocks ++ block.number ∷ []
+  numbers = map-append number_of blocks (block ∷ [])
+
+  -- is the last of the numbers
+  pub numbers_of-push : numbers_of blocks ++ number ∷ [] ≡ numbers_of (blocks ++ block ∷ [])
+  numbers_of-push = ap (λ n. numbers_of blocks ++ n ∷ []) (sym its_number) ∙ sym numbers
+
+  block_number_at-last : block_number_at (blocks ++ block ∷ []) index ≡ number
+  block_number_at-last =
+      let many : length (map number_of blocks) ≡ index = length-map blocks number_of ∙ sym last in
+      ap (λ ns. get_or ns index 0) numbers ∙ get_or_push _ block.number 0 index many ∙ its_number
+
+  -- is there
+  pub IsBlockAt-push : IsBlockAt (blocks ++ block ∷ []) number index
+  IsBlockAt-push = record { in_range = omega (arith, length-push, last); has_number = block_number_at-last }
+
+  -- and one more, where it is absent
+  pub AreDistinct-push : IsAbsent blocks number → AreDistinct (numbers_of blocks) → AreDistinct (numbers_of (blocks ++ block ∷ []))
+  AreDistinct-push absent known =
+      subst AreDistinct numbers_of-push (all_pairs_push (λ (a b : ℕ). a ≢ b) (numbers_of blocks) number known (λ k d lt is.
+      absent k (omega (arith, length-map blocks number_of)) (sym (get_or_default_zero (numbers_of blocks) k d lt) ∙ is)))
+
+entries_from-none : (g : ℕ) (slots : List (Option Entry)) → ((i : ℕ) → get_or slots i None ≡ None) → entries_from g slots ≡ []
+entries_from-none g [] none = refl
+entries_from-none g (slot ∷ slots) none =
+    ap (λ s. with_slot g s (entries_from (suc g) slots)) (none 0) ∙ entries_from-none (suc g) slots (λ i. none (suc i))
+
+-- a block of which no granule was put adds no entry
+pub entries_of-push : (blocks : List Block) (block : Block) → ((i : ℕ) → get_or (slots_of block) i None ≡ None)
+    → entries_of (blocks ++ block ∷ []) ≡ entries_of blocks
+entries_of-push [] block none = ap (λ es. es ++ []) (entries_from-none (8 * block.number) (slots_of block) none)
+entries_of-push (first ∷ blocks) block none =
+    ap (λ es. entries_from (8 * first.number) (slots_of first) ++ es) (entries_of-push blocks block none)
 
 -- a block has eight slots
 pub length-slots_of : (block : Block) → length (slots_of block) ≡ 8
@@ -95,7 +192,7 @@ find-entries_of (block ∷ blocks) q =
     ∙ ap (option_or (in_block block q)) (find-entries_of blocks q)
 
 -- the map has what is found
-get-contents_of : (blocks : List Block) (q : ℕ) → map.get (contents_of blocks) q ≡ found blocks q
+get-contents_of : (blocks : List Block) (q : ℕ) → finite.get (contents_of blocks) q ≡ found blocks q
 get-contents_of blocks q = get-from_entries nat_cmp_total (entries_of blocks) q ∙ find-entries_of blocks q
 
 -- no block before an index has the number
@@ -177,25 +274,23 @@ module _ (blocks : List Block) (known : AreDistinct (numbers_of blocks)) where
   -- each number has one index at most
   one_index : (number index i : ℕ) → IsBlockAt blocks number index → i < length blocks → block_number_at blocks i ≡ number → i ≡ index
   one_index number index i at lt is =
-      let long = length-map blocks (λ (block : Block). block.number) in
-      let below : i < index → ⊥ = λ less. known i index 0 less (omega (arith, at.in_range, long)) (is ∙ sym at.has_number) in
-      let above : index < i → ⊥ = λ less. known index i 0 less (omega (arith, lt, long)) (at.has_number ∙ sym is) in
-      grind (arith, below, above)
+      let long = length-map blocks number_of in
+      one_number (numbers_of blocks) known i index (omega (arith, lt, long)) (omega (arith, at.in_range, long)) (is ∙ sym at.has_number)
 
   -- what stands in a granule is what its block says
   pub get_present : (q index : ℕ) (d : Block) → IsBlockAt blocks (q / 8) index
-      → map.get (contents_of blocks) q ≡ get_or (slots_of (get_or blocks index d)) (q % 8) None
+      → finite.get (contents_of blocks) q ≡ get_or (slots_of (get_or blocks index d)) (q % 8) None
   get_present q index d at = get-contents_of blocks q ∙ found_present blocks q index d at (λ i lt is. one_index _ index i at lt is)
 
   -- read there
   pub get_read : (q index : ℕ) (block : Block) → IsBlockAt blocks (q / 8) index → block ≡ get_or blocks index block
-      → map.get (contents_of blocks) q ≡ get_or (slots_of block) (q % 8) None
+      → finite.get (contents_of blocks) q ≡ get_or (slots_of block) (q % 8) None
   get_read q index block at read = get_present q index block at ∙ ap (λ (b : Block). get_or (slots_of b) (q % 8) None) (sym read)
 
   -- a put in its block changes that granule alone
   pub contents_of-set : (new d : Block) (index g : ℕ) (entry : Entry) → IsBlockAt blocks (g / 8) index → new.number ≡ g / 8
       → slots_of new ≡ set (slots_of (get_or blocks index d)) (g % 8) (Some entry)
-      → contents_of (set blocks index new) ≡ map.insert (contents_of blocks) g entry
+      → contents_of (set blocks index new) ≡ finite.insert (contents_of blocks) g entry
   contents_of-set new d index g entry at number are = same_map nat_cmp_total nat_cmp-IsAntisymmetric _ _ (λ q.
       get-contents_of (set blocks index new) q ∙ found-set blocks new d index g entry at none number are q
       ∙ ap (cond (eqb q g) (Some entry)) (sym (get-contents_of blocks q)) ∙ sym (get-put (contents_of blocks) g entry q))
@@ -204,5 +299,5 @@ module _ (blocks : List Block) (known : AreDistinct (numbers_of blocks)) where
       none i lt is = omega (arith, one_index _ index i at (omega (arith, at.in_range)) is)
 
 -- a granule whose block is absent was never put
-pub get_absent : (blocks : List Block) (q : ℕ) → IsAbsent blocks (q / 8) → map.get (contents_of blocks) q ≡ None
+pub get_absent : (blocks : List Block) (q : ℕ) → IsAbsent blocks (q / 8) → finite.get (contents_of blocks) q ≡ None
 get_absent blocks q absent = get-contents_of blocks q ∙ found_absent blocks q absent

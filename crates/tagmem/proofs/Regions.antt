@@ -7,7 +7,7 @@ use Rattle.std.proofs.lemmas.{Bool.{Decides.nat_tests, false≢true, eq-eqb, ne_
 use Rattle.std.proofs.lemmas.{List.Folds.{list_any_at, list_any_none, list_any-append}, Nat.Bits.bit_at_above}
 use Rattle.tagmem.specs.{declared.region.Region.Region, Blocks.AreDistinct, Regions.{numbers_of, has_number, is_there}}
 use Rattle.tagmem.specs.{Orders.{IsLeastFrom, IsUpTo}, Pages.{has_page, HasPage, IsLeast, IsWith, AreCounted}}
-use Rattle.tagmem.proofs.Numbers.{one_number}
+use Rattle.tagmem.proofs.Blocks.{one_number}
 
 abbrev number_of : Region → ℕ
 number_of region = region.number

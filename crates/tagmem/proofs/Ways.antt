@@ -1,15 +1,9 @@
 -- Where ways lead, and how a block is put at the end of one.
-use Rattle.std.specs.Fn.{iterate}
 use Rattle.std.proofs.Common.{◌≡◌, ◌≢◌, ℕ, zero, suc, ◌+◌, ◌*◌, ◌/◌, ◌%◌, ◌<◌, ◌≤◌, true, false, eqb, List, get_or, set}
 use Rattle.std.proofs.Common.{length, refl, sym, ap, subst, ◌∙◌, arith, eqb-true, get_or-set_same, get_or-set_other}
 use Rattle.std.proofs.lemmas.Bool.Decides.{nat_tests}
 use Rattle.tagmem.specs.{declared.block.Block.Block, Blocks.{numbers_of, IsBlockAt}}
-use Rattle.tagmem.specs.Trees.{place_of, child_of, step, way, LeadsTo, EndsAt, AreForward, AreTrees}
-
--- the last step of several
-iterate-suc : {A : Type 0} (h : A → A) (n : ℕ) (x : A) → iterate h (suc n) x ≡ h (iterate h n x)
-iterate-suc h zero x = refl
-iterate-suc h (suc n) x = iterate-suc h n (h x)
+use Rattle.tagmem.specs.Trees.{place_of, child_of, way, LeadsTo, AreKept, IsEnding, AreForward, AreTrees}
 
 -- from no block a way leads to none
 nowhere : (links : List ℕ) (bits steps : ℕ) → (way links bits 0 steps).1 ≡ 0
@@ -30,133 +24,88 @@ leads_on links bits first index differs to further = to by_steps
     by_steps zero is = differs (omega (arith, is))
     by_steps (suc steps) is = further steps is
 
--- a way goes on where it was
-pub goes_on : (links : List ℕ) (number first steps bits index : ℕ) → way links number (suc first) steps ≡ (bits, suc index)
-    → way links number (suc first) (suc steps) ≡ (bits / 2, child_of links (suc index) (bits % 2))
-goes_on links number first steps bits index is = iterate-suc (step links) steps (number, suc first) ∙ ap (step links) is
+-- a link leads to its block, and to where its child leads
+pub leads_from : (links : List ℕ) (bits index to child : ℕ) → get_or links (2 * index + bits % 2) 0 ≡ child
+    → LeadsTo links (bits / 2) child (suc to) → LeadsTo links bits (suc index) (suc to)
+leads_from links bits index to child is led none = led (λ steps at.
+    none (suc steps) (ap (λ l. (way links (bits / 2) l steps).1) is ∙ at))
 
--- each link of a way is within the limit
-pub way-within : (links : List ℕ) (limit : ℕ) → AreForward links limit → (number link steps : ℕ) → link ≤ limit
-    → (way links number link steps).1 ≤ limit
-way-within links limit forward number link zero le = le
-way-within links limit forward number zero (suc steps) le = way-within links limit forward (number / 2) 0 steps le
-way-within links limit forward number (suc index) (suc steps) le =
-    way-within links limit forward (number / 2) (get_or links (2 * index + number % 2) 0) steps (forward.within (2 * index + number % 2))
-
--- a link that was none
-module _ (links : List ℕ) (index side value : ℕ) (small : side < 2) (in_range : 2 * index + side < length links)
-    (none : child_of links (suc index) side ≡ 0) where
-  abbrev linked : List ℕ
-  linked = set links (2 * index + side) value
-
-  own_child : child_of linked (suc index) side ≡ value
-  own_child = get_or-set_same links (2 * index + side) value 0 in_range
-
-  -- what a way leads to it leads to as before
-  way-kept : (bits link steps : ℕ) → (way links bits link steps).1 ≢ 0 → way linked bits link steps ≡ way links bits link steps
+-- what a way leads to it leads to with more links
+module _ (links more : List ℕ) (kept : AreKept links more) where
+  way-kept : (bits link steps : ℕ) → (way links bits link steps).1 ≢ 0 → way more bits link steps ≡ way links bits link steps
   way-kept bits link zero some = refl
   way-kept bits zero (suc steps) some = way-kept (bits / 2) 0 steps some
   way-kept bits (suc i) (suc steps) some =
-      elim (eqb (2 * i + bits % 2) (2 * index + side))
-      as (λ b. eqb (2 * i + bits % 2) (2 * index + side) ≡ b → way linked bits (suc i) (suc steps) ≡ way links bits (suc i) (suc steps)) [
-        | true ↦ λ same.
-            let ended : child_of links (suc i) (bits % 2) ≡ 0 = ap (λ p. get_or links p 0) (eqb-true _ _ same) ∙ none in
-            absurd (some (ap (λ l. (way links (bits / 2) l steps).1) ended ∙ nowhere links (bits / 2) steps))
-        | false ↦ λ differs.
-            let other : child_of linked (suc i) (bits % 2) ≡ child_of links (suc i) (bits % 2) =
-            get_or-set_other links (2 * index + side) (2 * i + bits % 2) value 0 (λ same. grind (arith, nat_tests)) in
-            ap (λ l. way linked (bits / 2) l steps) other ∙ way-kept (bits / 2) (child_of links (suc i) (bits % 2)) steps some
-      ] refl
+      ap (λ l. way more (bits / 2) l steps) (kept (2 * i + bits % 2) (λ none.
+      some (ap (λ l. (way links (bits / 2) l steps).1) none ∙ nowhere links (bits / 2) steps)))
+      ∙ way-kept (bits / 2) (child_of links (suc i) (bits % 2)) steps some
 
-  leads-kept : (bits link other : ℕ) → LeadsTo links bits link (suc other) → LeadsTo linked bits link (suc other)
+  leads-kept : (bits link other : ℕ) → LeadsTo links bits link (suc other) → LeadsTo more bits link (suc other)
   leads-kept bits link other to none = to (λ steps is.
       let some : (way links bits link steps).1 ≢ 0 = λ zero_is. omega (arith, is, zero_is) in
       none steps (ap (λ at. at.1) (way-kept bits link steps some) ∙ is))
 
-  -- and one that ended there leads to the value
-  leads-end : (number link : ℕ) → EndsAt links number link index side → LeadsTo linked number link value
-  leads-end number link (steps, at, named, _) none =
-      let some : (way links number link steps).1 ≢ 0 = λ zero_is. omega (arith, at, zero_is) in
-      none (suc steps) (ap (λ at. at.1) (iterate-suc (step linked) steps (number, link)
-      ∙ ap (step linked) (way-kept number link steps some))
-      ∙ ap (λ l. child_of linked l ((way links number link steps).0 % 2)) at
-      ∙ ap (child_of linked (suc index)) named ∙ own_child)
+-- a list in which one link is set
+module _ (links : List ℕ) (place value : ℕ) (in_range : place < length links) where
+  at_place : (p : ℕ) (P : ℕ → Type 0) → (p ≡ place → P value) → P (get_or links p 0) → P (get_or (set links place value) p 0)
+  at_place p P here there = elim (eqb p place) as (λ b. eqb p place ≡ b → P (get_or (set links place value) p 0)) [
+    | true ↦ λ same. let is = eqb-true p place same in
+        subst P (sym (ap (λ q. get_or (set links place value) q 0) is ∙ get_or-set_same links place value 0 in_range)) (here is)
+    | false ↦ λ differs. subst P (sym (get_or-set_other links place p value 0 (λ same. grind (arith, nat_tests)))) there
+  ] refl
 
-  forward-kept : (limit : ℕ) → AreForward links limit → index < limit → value ≡ limit + 1 → AreForward linked (limit + 1)
-  forward-kept limit forward before is = record { after = λ place. (at place).0; within = λ place. (at place).1 }
-    where
-      at : (place : ℕ) → (get_or linked place 0 ≢ 0 → place / 2 + 1 < get_or linked place 0) × (get_or linked place 0 ≤ limit + 1)
-      at place = elim (eqb place (2 * index + side)) as (λ b. eqb place (2 * index + side) ≡ b
-          → (get_or linked place 0 ≢ 0 → place / 2 + 1 < get_or linked place 0) × (get_or linked place 0 ≤ limit + 1)) [
-            | true ↦ λ same.
-                let here = eqb-true _ _ same in
-                let own : get_or linked place 0 ≡ value = ap (λ p. get_or linked p 0) here ∙ own_child in
-                (λ some. omega (arith, own, is, here, small, before), omega (arith, own, is))
-            | false ↦ λ differs.
-                let other : get_or linked place 0 ≡ get_or links place 0 =
-                get_or-set_other links (2 * index + side) place value 0 (λ same. grind (arith, nat_tests)) in
-                (λ some. rw other (forward.after place (λ is. some (other ∙ is))), omega (arith, other, forward.within place))
-          ] refl
+  kept-set : get_or links place 0 ≡ 0 → AreKept links (set links place value)
+  kept-set none p some = at_place p (λ n. n ≡ get_or links p 0) (λ is. absurd (some (ap (λ q. get_or links q 0) is ∙ none))) refl
 
 -- the trees with one block more
 module _ (numbers : List ℕ) (mask limit : ℕ) (roots links : List ℕ) (trees : AreTrees numbers mask limit roots links)
     (number place : ℕ) (number_is : number ≡ get_or numbers limit 0) (place_is : place ≡ place_of mask number) where
-  -- each of the blocks before it, or it
-  each_or_last : (P : ℕ → Type 0) → ((index : ℕ) → index < limit → P index) → P limit → (index : ℕ) → index < limit + 1 → P index
-  each_or_last P each last index lt =
-      elim (eqb index limit) as (λ b. eqb index limit ≡ b → P index) [
-        | true ↦ λ same. subst P (sym (eqb-true _ _ same)) last
-        | false ↦ λ differs. each index (grind (arith, nat_tests))
-      ] refl
-
-  own_number : get_or numbers limit 0 ≡ number
-  own_number = sym number_is
+  with_last : (more_roots more : List ℕ) → AreForward more (limit + 1) → ((p : ℕ) → get_or more_roots p 0 ≤ limit + 1)
+      → AreKept roots more_roots → AreKept links more → LeadsTo more number (get_or more_roots place 0) (suc limit)
+      → AreTrees numbers mask (limit + 1) more_roots more
+  with_last more_roots more forward rooted kept_roots kept led = record {
+    forward = forward;
+    rooted = rooted;
+    leads = λ index lt. elim (eqb index limit) as (λ b. eqb index limit ≡ b
+        → LeadsTo more (get_or numbers index 0) (get_or more_roots (place_of mask (get_or numbers index 0)) 0) (suc index)) [
+          | true ↦ λ same. subst (λ i. LeadsTo more (get_or numbers i 0) (get_or more_roots (place_of mask (get_or numbers i 0)) 0) (suc i))
+              (sym (eqb-true index limit same)) (subst (λ n. LeadsTo more n (get_or more_roots (place_of mask n) 0) (suc limit)) number_is
+              (subst (λ p. LeadsTo more number (get_or more_roots p 0) (suc limit)) place_is led))
+          | false ↦ λ differs.
+              let old = trees.leads index (grind (arith, nat_tests)) in
+              let root = place_of mask (get_or numbers index 0) in
+              subst (λ r. LeadsTo more (get_or numbers index 0) r (suc index))
+              (sym (kept_roots root (λ none. leads_nowhere links _ _ index none old)))
+              (leads-kept links more kept (get_or numbers index 0) (get_or roots root 0) index old)
+        ] refl;
+  }
 
   -- as a root
   pub AreTrees-root : get_or roots place 0 ≡ 0 → place < length roots
       → AreTrees numbers mask (limit + 1) (set roots place (limit + 1)) links
-  AreTrees-root none in_range =
-      let own : get_or (set roots place (limit + 1)) place 0 ≡ limit + 1 = get_or-set_same roots place (limit + 1) 0 in_range in
-      record {
-        forward = record { after = trees.forward.after; within = λ p. let le = trees.forward.within p in omega arith };
-        rooted = λ p. by_place p (λ root. root ≤ limit + 1)
-            (λ here. let is = ap (λ q. get_or (set roots place (limit + 1)) q 0) here ∙ own in omega arith)
-            (let le = trees.rooted p in omega arith);
-        leads = each_or_last (λ index. LeadsTo links (get_or numbers index 0)
-            (get_or (set roots place (limit + 1)) (place_of mask (get_or numbers index 0)) 0) (suc index))
-            (λ index lt. by_place (place_of mask (get_or numbers index 0)) (λ root. LeadsTo links (get_or numbers index 0) root (suc index))
-            (λ here. absurd (leads_nowhere links _ _ index (ap (λ q. get_or roots q 0) here ∙ none) (trees.leads index lt)))
-            (trees.leads index lt))
-            (λ none. none 0 (ap (λ n. get_or (set roots place (limit + 1)) (place_of mask n) 0) own_number
-            ∙ ap (λ q. get_or (set roots place (limit + 1)) q 0) (sym place_is) ∙ own ∙ omega arith));
-      }
-    where
-      by_place : (p : ℕ) (P : ℕ → Type 0) → (p ≡ place → P (get_or (set roots place (limit + 1)) p 0)) → P (get_or roots p 0)
-          → P (get_or (set roots place (limit + 1)) p 0)
-      by_place p P here there = elim (eqb p place) as (λ b. eqb p place ≡ b → P (get_or (set roots place (limit + 1)) p 0)) [
-        | true ↦ λ same. here (eqb-true _ _ same)
-        | false ↦ λ differs. subst P (sym (get_or-set_other roots place p (limit + 1) 0 (λ same. grind (arith, nat_tests)))) there
-      ] refl
+  AreTrees-root none in_range = with_last (set roots place (limit + 1)) links
+      (record { after = trees.forward.after; within = λ p. let le = trees.forward.within p in omega arith })
+      (λ p. at_place roots place (limit + 1) in_range p (λ root. root ≤ limit + 1) (λ _. omega arith)
+      (let le = trees.rooted p in omega arith))
+      (kept-set roots place (limit + 1) in_range none) (λ p some. refl)
+      (λ none. none 0 (get_or-set_same roots place (limit + 1) 0 in_range ∙ omega arith))
 
   -- and as a child at the end of its way
-  pub AreTrees-child : (root parent side : ℕ) → get_or roots place 0 ≡ root → side < 2 → 2 * parent + side < length links
-      → EndsAt links number root parent side → AreTrees numbers mask (limit + 1) roots (set links (2 * parent + side) (limit + 1))
-  AreTrees-child root parent side root_is small in_range ends =
-      let none = ends.3 in
-      let le : suc parent ≤ limit =
-      let within = way-within links limit trees.forward number root ends.0 (rw (← root_is) (trees.rooted place)) in
-      omega (arith, ends.1, within) in
-      record {
-        forward = forward-kept links parent side (limit + 1) small in_range none limit trees.forward (omega (arith, le)) refl;
-        rooted = λ p. let le = trees.rooted p in omega arith;
-        leads = each_or_last (λ index. LeadsTo (set links (2 * parent + side) (limit + 1)) (get_or numbers index 0)
-            (get_or roots (place_of mask (get_or numbers index 0)) 0) (suc index))
-            (λ index lt. leads-kept links parent side (limit + 1) small in_range none _ _ index (trees.leads index lt))
-            (λ none. leads-end links parent side (limit + 1) small in_range (ends.3) number root ends (λ steps to.
-            none steps (ap (λ n. (way (set links (2 * parent + side) (limit + 1)) n (get_or roots (place_of mask n) 0) steps).1) own_number
-            ∙ ap (λ q. (way (set links (2 * parent + side) (limit + 1)) number (get_or roots q 0) steps).1) (sym place_is)
-            ∙ ap (λ r. (way (set links (2 * parent + side) (limit + 1)) number r steps).1) root_is ∙ to ∙ omega arith)));
-      }
+  pub AreTrees-child : (root parent side : ℕ) → get_or roots place 0 ≡ root → IsEnding links number root parent side
+      → AreTrees numbers mask (limit + 1) roots (set links (2 * parent + side) (limit + 1))
+  AreTrees-child root parent side root_is ends =
+      let le = ends.within limit (rw (← root_is) (trees.rooted place)) trees.forward.within in
+      let at = at_place links (2 * parent + side) (limit + 1) ends.in_range in
+      let kept = kept-set links (2 * parent + side) (limit + 1) ends.in_range ends.none in
+      with_last roots (set links (2 * parent + side) (limit + 1))
+      (record {
+        after = λ p. at p (λ n. n ≢ 0 → p / 2 + 1 < n) (λ is _. omega (arith, is, ends.small, le)) (trees.forward.after p);
+        within = λ p. at p (λ n. n ≤ limit + 1) (λ _. omega arith) (let le = trees.forward.within p in omega arith);
+      })
+      (λ p. let le = trees.rooted p in omega arith) (λ p some. refl) kept
+      (subst (λ r. LeadsTo (set links (2 * parent + side) (limit + 1)) number r (suc limit)) (sym root_is)
+      (ends.goes_on (set links (2 * parent + side) (limit + 1)) limit kept
+      (get_or-set_same links (2 * parent + side) (limit + 1) 0 ends.in_range ∙ omega arith)))
 
 -- no block has trees where all links are none
 pub AreTrees-empty : (numbers : List ℕ) (mask : ℕ) (roots links : List ℕ) → ((place : ℕ) → get_or roots place 0 ≡ 0)
@@ -188,16 +137,9 @@ AreTrees-alike old new mask limit roots links more alike same trees = record {
     within = λ place. rw (same place) (trees.forward.within place);
   };
   rooted = trees.rooted;
-  leads = λ index lt none. trees.leads index lt (λ steps to.
-      none steps (way_alike (get_or new index 0) _ steps
-      ∙ ap (λ n. (way links n (get_or roots (place_of mask n) 0) steps).1) (alike index lt) ∙ to));
+  leads = λ index lt. subst (λ n. LeadsTo more n (get_or roots (place_of mask n) 0) (suc index)) (sym (alike index lt))
+      (leads-kept links more (λ place some. same place) (get_or old index 0) _ index (trees.leads index lt));
 }
-  where
-    way_alike : (bits link steps : ℕ) → (way more bits link steps).1 ≡ (way links bits link steps).1
-    way_alike bits link zero = refl
-    way_alike bits zero (suc steps) = way_alike (bits / 2) 0 steps
-    way_alike bits (suc i) (suc steps) =
-        ap (λ l. (way more (bits / 2) l steps).1) (same (2 * i + bits % 2)) ∙ way_alike (bits / 2) (child_of links (suc i) (bits % 2)) steps
 
 -- from the root of its place the way of a number leads to its block
 pub leads_from_root : (blocks : List Block) (mask : ℕ) (roots links : List ℕ)

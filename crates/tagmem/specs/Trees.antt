@@ -1,5 +1,5 @@
 -- How `Trees` lead to blocks. All of it is this profile's own.
-use Rattle.std.specs.Prelude.{◌≡◌, ◌≢◌, ℕ, zero, suc, ◌+◌, ◌*◌, ◌/◌, ◌%◌, ◌^◌, ◌<◌, ◌≤◌, List, slice_index, bit_and}
+use Rattle.std.specs.Prelude.{◌≡◌, ◌≢◌, ℕ, zero, suc, ◌+◌, ◌*◌, ◌/◌, ◌%◌, ◌^◌, ◌<◌, ◌≤◌, List, length, slice_index, bit_and}
 use Rattle.std.specs.Fn.{iterate}
 
 -- the place of a number: bits from the middle of its product by a number chosen for that, as many as the mask has
@@ -23,11 +23,18 @@ way links number link steps = iterate (step links) steps (number, link)
 abbrev pub LeadsTo : List ℕ → ℕ → ℕ → ℕ → Type 0
 LeadsTo links number link other = ((steps : ℕ) → (way links number link steps).1 ≢ other) → ⊥
 
--- it ends after a block, on a side
-abbrev pub EndsAt : List ℕ → ℕ → ℕ → ℕ → ℕ → Type 0
-EndsAt links number link index side =
-    (steps : ℕ) × ((way links number link steps).1 ≡ suc index) × ((way links number link steps).0 % 2 ≡ side)
-    × (child_of links (suc index) side ≡ 0)
+-- the links are there, and maybe more
+abbrev pub AreKept : List ℕ → List ℕ → Type 0
+AreKept links more = (place : ℕ) → slice_index links place ≢ 0 → slice_index more place ≡ slice_index links place
+
+-- the way of a number from a link ends after a block, where that has no child on a side: with a child there it comes to that
+pub record IsEnding (links : List ℕ) (number link index side : ℕ) : Type 0 where
+  pub in_range : 2 * index + side < length links
+  pub within : (limit : ℕ) → link ≤ limit → ((place : ℕ) → slice_index links place ≤ limit) → suc index ≤ limit
+  pub small : side < 2
+  pub none : slice_index links (2 * index + side) ≡ 0
+  pub goes_on : (more : List ℕ) (to : ℕ) → AreKept links more → slice_index more (2 * index + side) ≡ suc to
+      → LeadsTo more number link (suc to)
 
 -- children stand after their parents, and below a limit
 pub record AreForward (links : List ℕ) (limit : ℕ) : Type 0 where

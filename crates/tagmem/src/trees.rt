@@ -1,7 +1,7 @@
 //! Where blocks stand in a list, by their numbers.
 ghost use Rattle.std.specs.Prelude.{◌≡◌, ◌+◌, ◌*◌, ◌/◌, ◌%◌, ◌<◌, ◌≤◌, ◌^◌, ℕ, suc, List, [], length, IfSome, MatchOption, OnOk};
 ghost use Rattle.std.specs.Prelude.{slice_index, vec_capacity};
-ghost use Rattle.tagmem.specs.{Blocks.{IsAbsent, IsBlockAt, numbers_of}, Trees.{AreForward, AreTrees, EndsAt, place_of}};
+ghost use Rattle.tagmem.specs.{Blocks.{IsAbsent, IsBlockAt, numbers_of}, Trees.{AreForward, AreTrees, IsEnding, place_of}};
 
 use crate::block::Block;
 use crate::room::make_room;
@@ -204,9 +204,7 @@ fn end(links: &[u32], number: u64, first: usize) -> (usize, usize)
     requires in_range { 2 * first < length links.now }
     requires even { length links.now % 2 ≡ 0 }
     requires forward { AreForward links.now (length links.now / 2) }
-    ensures in_range { 2 * result.0 + result.1 < length links.now }
-    ensures side { result.1 < 2 }
-    ensures ends { EndsAt links.now number (suc first) result.0 result.1 }
+    ensures { IsEnding links.now number (suc first) result.0 result.1 }
 {
     let mut parent = first;
     let mut bits = number;

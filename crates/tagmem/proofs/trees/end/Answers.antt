@@ -1,6 +1,16 @@
-use Rattle.std.proofs.Common.{◌≡◌, suc, ◌-◌, ◌+◌, ◌*◌, ◌/◌, ◌%◌, get_or, ap, ◌∙◌, arith}
-use Rattle.tagmem.proofs.Ways.{goes_on}
+use Rattle.std.proofs.Common.{◌≡◌, suc, ◌-◌, ◌+◌, ◌*◌, ◌%◌, get_or, refl, ◌∙◌, arith}
+use Rattle.tagmem.proofs.Ways.{leads_from}
 use Rattle.tagmem.proofs.trees.end.Goals as goal
+
+pub returns-then-child-eq0 : goal.returns-then-child-eq0
+returns-then-child-eq0 c = record {
+  in_range = omega (arith, c.loop-number.invariant.in_range, c.requires.even);
+  within = c.loop-number.invariant.within;
+  small = omega arith;
+  none = c.if-child-eq0.true;
+  goes_on = λ more to kept is. c.loop-number.invariant.goes_on more to kept
+      (leads_from more c.loop-number.bits c.loop-number.parent to (suc to) is (λ none. none 0 refl));
+}
 
 pub loop-number-preserved : goal.loop-number-preserved
 loop-number-preserved c =
@@ -9,12 +19,9 @@ loop-number-preserved c =
     let child = get_or links place 0 in
     let within = c.requires.forward.within place in
     let counted : child ≡ suc (child - 1) = let some = c.if-child-eq0.false in omega arith in
-    let reached = c.loop-number.invariant.reached in
     record {
       in_range = omega (arith, within, counted);
-      reached = (
-        suc reached.0,
-        goes_on links c.args.number c.args.first reached.0 c.loop-number.bits c.loop-number.parent reached.1
-            ∙ ap (λ l. (c.loop-number.bits / 2, l)) counted,
-      );
+      within = λ limit le all. omega (arith, all place, counted);
+      goes_on = λ more to kept led. c.loop-number.invariant.goes_on more to kept (leads_from more c.loop-number.bits c.loop-number.parent to
+          (suc (child - 1)) (kept place c.if-child-eq0.false ∙ counted) led);
     }

@@ -1,6 +1,6 @@
 use Rattle.std.proofs.Common.{◌≡◌, [], Some, get_or, set, unwrap_or, sym, ap, ◌∙◌, arith}
 use Rattle.tagmem.specs.{Blocks.{slots_of, bytes_in_slot}, Granules.{blank, overwritten}}
-use Rattle.tagmem.proofs.{Blocks.slot_of, Slots.{bytes-slot_with, slots_with-set}}
+use Rattle.tagmem.proofs.Blocks.{slot_of, bytes-slot_with, slots_with-set}
 use Rattle.tagmem.proofs.block.Block.put.Goals as goal
 
 pub returns-clause-slots : goal.returns-clause-slots

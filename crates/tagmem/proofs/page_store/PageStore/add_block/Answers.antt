@@ -4,8 +4,8 @@ use Rattle.std.proofs.{Common.{arith}, lemmas.List.{length-map, get_or_push, get
 use Rattle.tagmem.specs.{declared.{block.Block.Block, directory.Directory.Directory}, Blocks.{block_number_at, contents_of, IsAbsent}}
 use Rattle.tagmem.specs.{Blocks.{numbers_of}, Directories.{IsRegionIn, there_in}, Granules.with_write, Trees.AreTrees}
 use Rattle.tagmem.specs.Rooms.{HasRoomFor, blocks_of, blocks_with}
-use Rattle.tagmem.proofs.Added.{IsAdded, numbers_of-add, length-add, AreDistinct-add, ArePaged-add, ArePaged-has, contents_of-add}
-use Rattle.tagmem.proofs.{Added.{AreStored-add, len-add}, Blocks.get_absent, Indexes.OnErr-from, NextPut.none_in_page}
+use Rattle.tagmem.proofs.Writes.{IsAdded, numbers_of-add, length-add, AreDistinct-add, ArePaged-add, ArePaged-has, contents_of-add}
+use Rattle.tagmem.proofs.{Writes.{AreStored-add, len-add}, Blocks.get_absent, Indexes.OnErr-from, NextPut.none_in_page}
 use Rattle.tagmem.proofs.{Rooms.is_room, Ways.AreTrees-alike, Writes.IsWritten}
 use Rattle.tagmem.proofs.page_store.PageStore.add_block.Goals.{In-Ok, After-put}
 use Rattle.tagmem.proofs.page_store.PageStore.add_block.Goals as goal

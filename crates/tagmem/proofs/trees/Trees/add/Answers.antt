@@ -1,6 +1,6 @@
-use Rattle.std.proofs.Common.{◌≡◌, suc, ◌-◌, ◌<◌, ◌≤◌, get_or, length, sym, subst, ◌∙◌, arith}
+use Rattle.std.proofs.Common.{◌≡◌, suc, ◌-◌, ◌<◌, ◌≤◌, get_or, length, sym, ◌∙◌, arith}
 use Rattle.std.proofs.lemmas.{Grind.get_or_default_zero, List.get_or-map, Nat.and_le_r}
-use Rattle.tagmem.specs.{declared.block.Block.Block, Blocks.numbers_of, Trees.EndsAt}
+use Rattle.tagmem.specs.{declared.block.Block.Block, Blocks.numbers_of}
 use Rattle.tagmem.proofs.Ways.{AreTrees-root, AreTrees-child}
 use Rattle.tagmem.proofs.trees.Trees.add.Goals as goal
 
@@ -35,9 +35,6 @@ returns-clause-trees c =
     let root_is : get_or s.roots.items place 0 ≡ root =
     sym (get_or_default_zero s.roots.items place root in_range) ∙ sym c.index-root.ensures in
     let counted : suc (root - 1) ≡ root = let some = c.if-root-eq0.false in omega arith in
+    let ends = rw (c.deref.ensures.value, counted) at c.end-parent.ensures in
     AreTrees-child (numbers_of blocks) s.mask c.args.index s.roots.items s.links.items c.requires.trees number place number_is
-    c.place-place.ensures root c.end-parent.result.0 c.end-parent.result.1 root_is c.end-parent.ensures.side
-    (rw (← c.deref.ensures.value) c.end-parent.ensures.in_range)
-    (subst (λ l. EndsAt s.links.items number l c.end-parent.result.0 c.end-parent.result.1) counted
-    (subst (λ links. EndsAt links number (suc (root - 1)) c.end-parent.result.0 c.end-parent.result.1) c.deref.ensures.value
-    c.end-parent.ensures.ends))
+    c.place-place.ensures root c.end-parent.result.0 c.end-parent.result.1 root_is ends
