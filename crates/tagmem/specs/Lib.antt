@@ -2,7 +2,6 @@ pub mod Blocks
 pub mod Trees
 pub mod Directories
 pub mod Granules
-pub mod Kept
 pub mod Listed
 pub mod ListLaws
 pub mod Orders

@@ -2,10 +2,10 @@
 ghost use Rattle.std.specs.Prelude.{◌≡◌, ◌^◌, ◌<◌, ◌+◌, ◌*◌, ◌≤◌, ◌/◌, length, false, true, None, Some, MatchOption, OnOk};
 ghost use Rattle.std.specs.Prelude.{OnErr, slice_index, suc, vec_capacity};
 ghost use Rattle.std.specs.FinMap as map;
-ghost use Rattle.tagmem.specs.Blocks.{contents_of, numbers_of, AreDistinct, IsBlockAt, IsAbsent};
+ghost use Rattle.tagmem.specs.Blocks.{contents_of, numbers_of, AreDistinct, ArePaged, IsBlockAt, IsAbsent};
 ghost use Rattle.tagmem.specs.{Granules.{with_write, with_cap, with_bytes, AreStored, HasRoom}};
 ghost use Rattle.tagmem.specs.{Granules.{IsCodeFor, NonePut, IsNextPut}, Rooms.{HasRoomFor, blocks_of, blocks_with}};
-ghost use Rattle.tagmem.specs.{Kept.{HasTrees, HasPages}, Trees.place_of};
+ghost use Rattle.tagmem.specs.{Directories.there_in, Trees.{AreTrees, place_of}};
 
 use crate::block::Block;
 use crate::directory::Directory;
@@ -28,9 +28,9 @@ pub struct PageStore {
     directory: Directory,
     count: u32,
     ghost as_many: { length trees.links.items ≡ 2 * length blocks.items },
-    ghost found: { HasTrees blocks.items trees },
+    ghost found: { AreTrees (numbers_of blocks.items) trees.mask (length blocks.items) trees.roots.items trees.links.items },
     ghost distinct: { AreDistinct (numbers_of blocks.items) },
-    ghost paged: { HasPages blocks.items directory },
+    ghost paged: { ArePaged blocks.items (there_in directory) },
     ghost stored: { AreStored (contents_of blocks.items) },
     ghost counted: { count ≡ map.len (contents_of blocks.items) },
     // There is room for all blocks of the pages that are there.

@@ -89,8 +89,8 @@ impl Trees {
     pub(crate) fn make_room(&mut self, count: usize) -> Result<(), NoMemory>
         ensures kept { (many : ℕ) → HasRoomFor self.old many → HasRoomFor self.new many }
         ensures links { self.new.links.items ≡ self.old.links.items }
-        ensures trees { (numbers : List ℕ) → AreTrees numbers self.old.mask (length numbers) self.old.roots.items self.old.links.items
-            → AreTrees numbers self.new.mask (length numbers) self.new.roots.items self.new.links.items }
+        ensures trees { (numbers : List ℕ) (many : ℕ) → AreTrees numbers self.old.mask many self.old.roots.items self.old.links.items
+            → AreTrees numbers self.new.mask many self.new.roots.items self.new.links.items }
         ensures ok { OnOk result (HasRoomFor self.new count) }
     {
         let Some(links) = count.checked_mul(2) else {

@@ -14,13 +14,13 @@ use Rattle.tagmem.proofs.page_store.PageStore.add_block.Goals as goal
 pub returns-in_err-make_room-clause-in_page : goal.returns-in_err-make_room-clause-in_page
 returns-in_err-make_room-clause-in_page c =
     let s = c.args.self.now in
-    OnErr-from _ _ (none_in_page s.blocks.items (there_in s.directory) (s.paged _ refl) (c.args.granule / 256)
+    OnErr-from _ _ (none_in_page s.blocks.items (there_in s.directory) s.paged (c.args.granule / 256)
     (sym c.has-there.ensures ∙ c.in_err-make_room.ensures.only_new))
 
 pub returns-in_default-clause-in_page : goal.returns-in_default-clause-in_page
 returns-in_default-clause-in_page c =
     let s = c.args.self.now in
-    none_in_page s.blocks.items (there_in s.directory) (s.paged _ refl) (c.args.granule / 256) (sym c.has-there.ensures ∙ c.in_default.ensures.only_new)
+    none_in_page s.blocks.items (there_in s.directory) s.paged (c.args.granule / 256) (sym c.has-there.ensures ∙ c.in_default.ensures.only_new)
 
 -- and the blocks are what they were
 pub invariant_of-self-in_default : goal.invariant_of-self-in_default
@@ -31,10 +31,10 @@ invariant_of-self-in_default c =
       as_many = m.as_many;
       found = m.found;
       distinct = m.distinct;
-      paged = λ there is. rw is (record {
-        has = λ i lt. same (block_number_at m.blocks.items i / 32) ∙ (m.paged _ refl).has i lt;
-        used = λ page there. (m.paged _ refl).used page (sym (same page) ∙ there);
-      });
+      paged = record {
+        has = λ i lt. same (block_number_at m.blocks.items i / 32) ∙ m.paged.has i lt;
+        used = λ page there. m.paged.used page (sym (same page) ∙ there);
+      };
       stored = m.stored;
       counted = m.counted;
       roomy = omega (arith, c.in_default.ensures.refused, m.roomy);
@@ -61,7 +61,7 @@ one_more c =
     let with = c.in-Ok.ensures.ok in
     let own : c.args.granule / 8 / 32 ≡ c.args.granule / 256 = omega arith in
     is_room m.blocks.items new c.insert.new.self.count c.insert.new.self.counted m.distinct
-    (ArePaged-has m.blocks.items (there_in m.directory) new (c.args.granule / 256) with (m.paged _ refl))
+    (ArePaged-has m.blocks.items (there_in m.directory) new (c.args.granule / 256) with m.paged)
     (c.args.granule / 8) (ap new own ∙ with.0)
     (subst (λ blocks. IsAbsent blocks (c.args.granule / 8)) (sym c.make_room.ensures.blocks) c.requires.absent)
 
@@ -126,7 +126,7 @@ push-requires c =
           (AreTrees-alike (numbers_of m.blocks.items) (numbers_of new) m.trees.mask (length m.blocks.items) m.trees.roots.items
           m.trees.links.items m.trees.links.items (λ i lt. ap (λ ns. get_or ns i 0) (numbers_of-add _ _ _ _ _ _ _ _ _ is)
           ∙ get_or_append_left (numbers_of m.blocks.items) ((c.args.granule / 8) ∷ []) 0 i
-          (let many = length-map m.blocks.items (λ (b : Block). b.number) in omega arith)) (λ place. refl) (m.found _ refl)));
+          (let many = length-map m.blocks.items (λ (b : Block). b.number) in omega arith)) (λ place. refl) m.found));
     }
 
 pub returns-clause-ok : goal.returns-clause-ok
@@ -150,9 +150,9 @@ invariant_of-self-4 c =
     All-from_get_or (λ byte. byte < 256) c.args.bytes.now 0 (λ i lt. (c.type_inv.bytes i).fits) in
     record {
       as_many = rw (← c.deref.ensures.value) c.push.ensures.as_many;
-      found = λ many is. rw (is, ← c.deref.ensures.value) c.push.ensures.trees;
+      found = rw (← c.deref.ensures.value) c.push.ensures.trees;
       distinct = rw pushed (AreDistinct-add _ _ _ _ _ _ _ _ _ is);
-      paged = λ there there_is. rw (there_is, pushed) (ArePaged-add _ _ _ _ _ _ _ _ _ is (there_in m.directory) (there_in c.insert.new.self) c.in-Ok.ensures.ok (m.paged _ refl));
+      paged = rw pushed (ArePaged-add _ _ _ _ _ _ _ _ _ is (there_in m.directory) (there_in c.insert.new.self) c.in-Ok.ensures.ok m.paged);
       stored = rw pushed (AreStored-add _ _ _ _ _ _ _ _ _ is c.requires.in_memory c.requires.inside bytes (omega arith) c.requires.coded
           m.stored);
       counted = rw pushed (omega (arith, len, m.counted));

@@ -1,4 +1,4 @@
-use Rattle.std.proofs.Common.{◌≡◌, ◌-◌, ◌<◌, length, refl, sym, ap, ◌∙◌, arith}
+use Rattle.std.proofs.Common.{◌≡◌, ◌-◌, ◌<◌, length, sym, ap, ◌∙◌, arith}
 use Rattle.std.proofs.lemmas.List.{get_or-map}
 use Rattle.tagmem.specs.{declared.block.Block.Block, Trees.place_of}
 use Rattle.tagmem.proofs.Ways.{leads_from_root, leads_nowhere}
@@ -10,14 +10,14 @@ pub returns-then-link-eq0 : goal.returns-then-link-eq0
 returns-then-link-eq0 c = λ i lt is.
     let s = c.args.self.now in
     leads_nowhere s.trees.links.items c.args.number _ i (sym c.root-link.ensures ∙ c.if-link-eq0.true)
-    (leads_from_root s.blocks.items s.trees.mask s.trees.roots.items s.trees.links.items (s.found _ refl) c.args.number i
+    (leads_from_root s.blocks.items s.trees.mask s.trees.roots.items s.trees.links.items s.found c.args.number i
     (record { in_range = lt; has_number = is }))
 
 -- else a block is there
 in_range : (c : After-root-link) → (c.root-link.result ≡ 0 → ⊥) → c.root-link.result - 1 < length c.args.self.now.blocks.items
 in_range c some =
     let s = c.args.self.now in
-    let le = (s.found _ refl).rooted (place_of s.trees.mask c.args.number) in
+    let le = s.found.rooted (place_of s.trees.mask c.args.number) in
     omega (arith, le, c.root-link.ensures, some)
 
 pub index-requires : goal.index-requires

@@ -1,6 +1,6 @@
-use Rattle.std.proofs.{Common.{refl, length, sym, ap, subst, ◌∙◌, ◌≤◌, arith, vec_capacity}, lemmas.{List.length-map, Result.on_ok_weaker}}
+use Rattle.std.proofs.{Common.{length, ap, ◌∙◌, ◌≤◌, arith, vec_capacity}, lemmas.{Result.on_ok_weaker}}
 use Rattle.tagmem.specs.Rooms.{blocks_of, blocks_with}
-use Rattle.tagmem.specs.{declared.block.Block.Block, Blocks.numbers_of, Trees.AreTrees}
+use Rattle.tagmem.specs.{Blocks.numbers_of}
 use Rattle.tagmem.proofs.page_store.PageStore.make_room.Goals.{After-make_room-2}
 use Rattle.tagmem.proofs.page_store.PageStore.make_room.Goals as goal
 
@@ -22,24 +22,13 @@ invariant_of-self c =
       fits = rw same s.fits;
     }
 
--- the trees are those of the blocks
-found : (c : After-make_room-2) → AreTrees (numbers_of c.args.self.now.blocks.items) c.make_room-2.new.self.mask (length c.args.self.now.blocks.items)
-    c.make_room-2.new.self.roots.items c.make_room-2.new.self.links.items
-found c =
-    let s = c.args.self.now in
-    let long = length-map s.blocks.items (λ (block : Block). block.number) in
-    subst (λ n. AreTrees (numbers_of s.blocks.items) c.make_room-2.new.self.mask n c.make_room-2.new.self.roots.items
-    c.make_room-2.new.self.links.items) long
-    (c.make_room-2.ensures.trees (numbers_of s.blocks.items)
-    (subst (λ n. AreTrees (numbers_of s.blocks.items) s.trees.mask n s.trees.roots.items s.trees.links.items) (sym long) (s.found _ refl)))
-
 pub invariant_of-self-2 : goal.invariant_of-self-2
 invariant_of-self-2 c =
     let s = c.args.self.now in
     let same = c.make_room.ensures.items in
     record {
       as_many = rw same (ap length c.make_room-2.ensures.links ∙ s.as_many);
-      found = λ many is. rw (is, same) (found (goal.at.invariant_of-self-2 c).After-make_room-2);
+      found = rw same (c.make_room-2.ensures.trees (numbers_of s.blocks.items) _ s.found);
       distinct = rw same s.distinct;
       paged = rw same s.paged;
       stored = rw same s.stored;

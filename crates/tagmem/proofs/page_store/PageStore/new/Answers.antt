@@ -12,9 +12,9 @@ invariant_of-result c =
     let links = c.new-2.ensures.links in
     record {
       as_many = rw (none, links) refl;
-      found = λ many is. rw (is, none, roots, links) (AreTrees-empty [] _ [] [] (λ place. refl) (λ place. refl));
+      found = rw (none, roots, links) (AreTrees-empty [] _ [] [] (λ place. refl) (λ place. refl));
       distinct = rw none (λ i j d lt in_range. absurd (omega arith));
-      paged = λ there is. rw (is, none) (record {
+      paged = rw none (record {
         has = λ i lt. absurd (omega arith);
         used = λ page there. absurd (false≢true (sym (c.new-3.ensures.there page) ∙ there));
       });

@@ -1,4 +1,4 @@
-use Rattle.std.proofs.Common.{refl, ◌≡◌, ◌<◌, ◌*◌, ◌%◌, get_or, None, is_none, All, sym, ap, ◌∙◌, arith, length-set}
+use Rattle.std.proofs.Common.{◌≡◌, ◌<◌, ◌*◌, ◌%◌, get_or, None, is_none, All, sym, ap, ◌∙◌, arith, length-set}
 use Rattle.std.proofs.lemmas.List.Elements.{All-from_get_or}
 use mir.Val.{bool_byte}
 use Rattle.tagmem.specs.{Blocks.slots_of, Directories.there_in}
@@ -44,13 +44,12 @@ invariant_of-self c =
     All-from_get_or (λ byte. byte < 256) c.args.bytes.now 0 (λ i lt. (c.type_inv.bytes i).fits) in
     record {
       as_many = s.as_many ∙ ap (λ n. 2 * n) (sym (length-set s.blocks.items c.args.index block));
-      found = λ many is. rw (
-        is,
+      found = rw (
         numbers_of-write s.blocks.items c.args.index c.args.granule old read block _ _ _ _ written,
         length-set s.blocks.items c.args.index block,
-      ) (s.found _ refl);
+      ) s.found;
       distinct = rw (numbers_of-write s.blocks.items c.args.index c.args.granule old read block _ _ _ _ written) s.distinct;
-      paged = λ there is. rw is (ArePaged-write s.blocks.items c.args.index c.args.granule old read block _ _ _ _ written (there_in s.directory) (s.paged _ refl));
+      paged = ArePaged-write s.blocks.items c.args.index c.args.granule old read block _ _ _ _ written (there_in s.directory) s.paged;
       stored = AreStored-write s.blocks.items c.args.index c.args.granule old read block _ _ _ _ written
           c.requires.in_memory c.requires.inside bytes (omega arith) c.requires.coded s.stored;
       counted = omega (arith, len, first, s.counted);

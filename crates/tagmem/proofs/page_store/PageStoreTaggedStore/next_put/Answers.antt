@@ -1,4 +1,4 @@
-use Rattle.std.proofs.Common.{refl, ◌*◌, ◌+◌, ◌/◌, arith}
+use Rattle.std.proofs.Common.{◌*◌, ◌+◌, ◌/◌, arith}
 use Rattle.tagmem.specs.{Blocks.contents_of, Directories.there_in, Granules.NonePut}
 use Rattle.tagmem.proofs.NextPut.{next_put_last, next_put_later}
 use Rattle.tagmem.proofs.page_store.PageStoreTaggedStore.next_put.Goals.{In-None-first_between}
@@ -12,7 +12,7 @@ pub returns-in-Some-next : goal.returns-in-Some-next
 returns-in-Some-next c = record {
   least =
       let s = c.args.self.now in
-      next_put_later s.blocks.items (there_in s.directory) (s.paged _ refl) c.args.granule (rest (goal.at.returns-in-Some-next c).In-None-first_between)
+      next_put_later s.blocks.items (there_in s.directory) s.paged c.args.granule (rest (goal.at.returns-in-Some-next c).In-None-first_between)
       c.in-Some-next.page c.in-Some-next.ensures.least c.first_between-in-Some-next.result c.first_between-in-Some-next.ensures;
 }
 
@@ -20,6 +20,6 @@ pub returns-in-None-next : goal.returns-in-None-next
 returns-in-None-next c = record {
   least =
       let s = c.args.self.now in
-      next_put_last s.blocks.items (there_in s.directory) (s.paged _ refl) c.args.granule (rest (goal.at.returns-in-None-next c).In-None-first_between)
+      next_put_last s.blocks.items (there_in s.directory) s.paged c.args.granule (rest (goal.at.returns-in-None-next c).In-None-first_between)
       c.in-None-next.ensures.least;
 }
