@@ -1,11 +1,11 @@
 -- Where the ways of regions' numbers lead, and what becomes of them as a region is added.
-use Rattle.std.proofs.Common.{◌≡◌, ◌≢◌, ℕ, zero, suc, ◌+◌, ◌*◌, ◌/◌, ◌%◌, ◌^◌, ◌<◌, ◌≤◌, Bool, true, false, ◌&&◌, ◌||◌, cond, eqb, ltb}
-use Rattle.std.proofs.Common.{List, [], ◌∷◌, ◌++◌, length, get_or, set, Option, Some, None, min, MatchOption, refl, sym, ap, subst, ◌∙◌, arith}
+use Rattle.std.proofs.Common.{◌≡◌, ◌≢◌, ℕ, zero, suc, ◌+◌, ◌*◌, ◌/◌, ◌%◌, ◌^◌, ◌<◌, ◌≤◌, true, false, ◌&&◌, ◌||◌, cond, eqb, ltb}
+use Rattle.std.proofs.Common.{List, [], ◌∷◌, ◌++◌, length, get_or, set, Option, Some, None, ◌⊎◌, ⊎_elim, IfSome, refl, sym, ap, subst, ◌∙◌, arith}
 use Rattle.std.proofs.Common.{eqb-true, pow-add, length-append, length-set, get_or-set_same, get_or-set_other}
 use Rattle.std.proofs.{Math.Nat.div-div-eq-div-mul, lemmas.Bool.{ne_eqb, eq-eqb, ltb-true, ltb-false, false≢true, Decides.nat_tests}}
 use Rattle.std.proofs.lemmas.List.{get_or-map, get_or_push, get_or_append_left, map-set}
 use Rattle.tagmem.specs.Orders.{above, height_of, leads, leads_all, IsPlaced, HaveLevels, AreLinked, AreKept, IsEnding, IsLinkedTo}
-use Rattle.tagmem.specs.{declared.region.Region.Region, Orders.{IsOneFrom, IsUpTo, IsUnder, IsLeastUnder, IsLeastFrom, lesser_of}}
+use Rattle.tagmem.specs.{declared.region.Region.Region, Orders.{IsOneFrom, IsUpTo, IsUnder, IsLeastUnder, IsLeastFrom}}
 use Rattle.tagmem.specs.Regions.{children_of, links_of, numbers_of}
 
 -- a region of the list has its number and its links
@@ -214,40 +214,15 @@ pub led_to : (numbers : List ℕ) (links : ℕ → ℕ → ℕ) (number height a
 led_to numbers links number height at linked is lt same =
     subst (λ h. leads links number h (links 0 h) at ≡ true) (sym is) (subst (λ n. leads_all links n at ≡ true) same (linked.led at lt))
 
--- the lesser of two is up to what one of them is up to, and is one where both are
-module _ (number : ℕ) where
-  pub upto_left : (a b : Option ℕ) → IsUpTo number a → IsUpTo number (lesser_of a b)
-  upto_left None b up = absurd up
-  upto_left (Some one) None up = up
-  upto_left (Some one) (Some other) up = omega arith
-
-  pub upto_right : (a b : Option ℕ) → IsUpTo number b → IsUpTo number (lesser_of a b)
-  upto_right None b up = up
-  upto_right (Some one) None up = absurd up
-  upto_right (Some one) (Some other) up = omega arith
-
-pub one_lesser : (numbers : List ℕ) (from : ℕ) (a b : Option ℕ) → IsOneFrom numbers from a → IsOneFrom numbers from b
-    → IsOneFrom numbers from (lesser_of a b)
-one_lesser numbers from None b p q = q
-one_lesser numbers from (Some one) None p q = p
-one_lesser numbers from (Some one) (Some other) p q =
-    elim (ltb other one) as (λ b. ltb other one ≡ b → IsOneFrom numbers from (Some (min one other))) [
-      | true ↦ λ lt. subst (λ n. IsOneFrom numbers from (Some n)) {x = other} {y = min one other}
-          (let less = ltb-true other one lt in omega arith) q
-      | false ↦ λ ge. subst (λ n. IsOneFrom numbers from (Some n)) {x = one} {y = min one other}
-          (let le = ltb-false other one ge in omega arith) p
-    ] refl
+-- what holds of both holds of one of the two
+pub one_of : (P : Option ℕ → Type 0) (one a b : Option ℕ) → (one ≡ a) ⊎ (one ≡ b) → P a → P b → P one
+one_of P one a b is p q = ⊎_elim (λ same. subst P (sym same) p) (λ same. subst P (sym same) q) is
 
 -- a region's own number
 pub one_own : (numbers : List ℕ) (from at number : ℕ) → at < length numbers → number ≡ get_or numbers at 0 → (o : Option ℕ)
-    → MatchOption o (number < from) (λ same. (same ≡ number) × (from ≤ number)) → IsOneFrom numbers from o
-one_own numbers from at number lt is None less = tt
+    → IfSome o (λ same. (same ≡ number) × (from ≤ number)) → IsOneFrom numbers from o
+one_own numbers from at number lt is None _ = tt
 one_own numbers from at number lt is (Some same) (same_is, le) = (omega (arith, same_is, le), at, lt, sym is ∙ sym same_is)
-
-pub own_upto : (from number : ℕ) (o : Option ℕ) → MatchOption o (number < from) (λ same. (same ≡ number) × (from ≤ number))
-    → from ≤ number → IsUpTo number o
-own_upto from number None less le = absurd (omega arith)
-own_upto from number (Some same) is le = omega (arith, is.0)
 
 -- a region under a link is the link's own, or under one of its children
 module _ (numbers : List ℕ) (links : ℕ → ℕ → ℕ) (from level : ℕ) where
@@ -278,31 +253,20 @@ by_digit link at d digit P below above = elim (eqb (suc at) link) as (λ b. eqb 
   ] refl
 ] refl
 
--- what ends before a prefix is up to each number from that on
-pub ends_upto : (digits child number : ℕ) (least : Option ℕ) (ends : Bool)
-    → MatchOption least (ends ≡ false) (λ other. ends ≡ ltb (above digits other) child) → ends ≡ true
-    → child ≤ above digits number → IsUpTo number least
-ends_upto digits child number None ends told is le = absurd (false≢true (sym told ∙ is))
-ends_upto digits child number (Some other) ends told is le =
-    let lt = ltb-true _ _ (sym told ∙ is) in grind (arith, lt, le, above_rises digits number other)
-
 -- the least number from one on, by the least of each height
-module _ (numbers : List ℕ) (links : ℕ → ℕ → ℕ) (linked : AreLinked numbers links) (from : ℕ) (short longer longest : Option ℕ)
-    (least_short : IsLeastUnder numbers links from 6 (links 0 6) 0 short)
-    (least_longer : IsLeastUnder numbers links from 10 (links 0 10) 0 longer)
-    (least_longest : IsLeastUnder numbers links from 17 (links 0 17) 0 longest) where
-  pub least_of_all : ((at : ℕ) → at < length numbers → get_or numbers at 0 < 2 ^ 50)
-      → IsLeastFrom numbers from (lesser_of (lesser_of short longer) longest)
-  least_of_all small = (
-    one_lesser numbers from (lesser_of short longer) longest (one_lesser numbers from short longer least_short.0 least_longer.0) least_longest.0,
-    λ at lt low.
-        let n = get_or numbers at 0 in
-        by_height n (λ h. above h n ≡ 0 → leads links n h (links 0 h) at ≡ true → IsUpTo n (lesser_of (lesser_of short longer) longest))
-        (λ _ has led. upto_left n (lesser_of short longer) longest (upto_left n short longer (least_short.1 at
-        (record { in_range = lt; low = low; has = has; led = led }))))
-        (λ _ has led. upto_left n (lesser_of short longer) longest (upto_right n short longer (least_longer.1 at
-        (record { in_range = lt; low = low; has = has; led = led }))))
-        (λ has led. upto_right n (lesser_of short longer) longest (least_longest.1 at
-        (record { in_range = lt; low = low; has = has; led = led })))
-        (above_height n (let below = small at lt in omega arith)) (linked.led at lt),
-  )
+pub least_of_all : (numbers : List ℕ) (links : ℕ → ℕ → ℕ) → AreLinked numbers links
+    → ((at : ℕ) → at < length numbers → get_or numbers at 0 < 2 ^ 50) → (from : ℕ) (short longer longest least : Option ℕ)
+    → IsLeastUnder numbers links from 6 (links 0 6) 0 short → IsLeastUnder numbers links from 10 (links 0 10) 0 longer
+    → IsLeastUnder numbers links from 17 (links 0 17) 0 longest → IsOneFrom numbers from least
+    → ((n : ℕ) → IsUpTo n short → IsUpTo n least) → ((n : ℕ) → IsUpTo n longer → IsUpTo n least)
+    → ((n : ℕ) → IsUpTo n longest → IsUpTo n least) → IsLeastFrom numbers from least
+least_of_all numbers links linked small from short longer longest least by_short by_longer by_longest one up_short up_longer up_longest = (
+  one,
+  λ at lt low.
+      let n = get_or numbers at 0 in
+      by_height n (λ h. above h n ≡ 0 → leads links n h (links 0 h) at ≡ true → IsUpTo n least)
+      (λ _ has led. up_short n (by_short.1 at (record { in_range = lt; low = low; has = has; led = led })))
+      (λ _ has led. up_longer n (by_longer.1 at (record { in_range = lt; low = low; has = has; led = led })))
+      (λ has led. up_longest n (by_longest.1 at (record { in_range = lt; low = low; has = has; led = led })))
+      (above_height n (let below = small at lt in omega arith)) (linked.led at lt),
+)

@@ -1,6 +1,6 @@
 -- How regions lead to one another by the octal digits of their numbers. All of it is this profile's own.
 use Rattle.std.specs.Prelude.{◌≡◌, ◌≢◌, ℕ, zero, suc, ◌+◌, ◌*◌, ◌/◌, ◌%◌, ◌^◌, ◌<◌, ◌≤◌, Bool, true, false, ◌||◌, cond, eqb, ltb}
-use Rattle.std.specs.Prelude.{⊤, List, [], length, Option, None, Some, Result, Ok, Err, slice_index, slice_index_or, min}
+use Rattle.std.specs.Prelude.{⊤, List, [], length, Option, None, Some, Result, Ok, Err, slice_index, slice_index_or}
 
 -- what a number has above so many digits
 abbrev pub above : ℕ → ℕ → ℕ
@@ -95,9 +95,3 @@ IsLeastUnder numbers links from digits link prefix least = IsOneFrom numbers fro
 abbrev pub IsLeastFrom : List ℕ → ℕ → Option ℕ → Type 0
 IsLeastFrom numbers from least = IsOneFrom numbers from least
     × ((at : ℕ) → at < length numbers → from ≤ slice_index numbers at → IsUpTo (slice_index numbers at) least)
-
--- the lesser of two numbers that are there
-abbrev pub lesser_of : Option ℕ → Option ℕ → Option ℕ
-lesser_of None other = other
-lesser_of (Some one) None = Some one
-lesser_of (Some one) (Some other) = Some (min one other)

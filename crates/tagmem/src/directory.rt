@@ -146,7 +146,7 @@ impl Directory {
         requires fits { self.old.count + 1 < 2 ^ 64 }
         ensures ok { OnOk result (IsWith (there_in self.old) (there_in self.new) page) }
         ensures blocks { OnOk result (blocks_of self.new ≡ blocks_with self.old there) }
-        ensures err { OnErr result ((other : ℕ) → there_in self.new other ≡ there_in self.old other) }
+        ensures err { OnErr result (self.new.regions.items ≡ self.old.regions.items) }
         ensures refused { OnErr result (blocks_of self.new ≡ blocks_of self.old) }
         ensures only_new { OnErr result (there ≡ false) }
     {
@@ -172,7 +172,7 @@ impl Directory {
         requires fits { self.old.count + 1 < 2 ^ 64 }
         ensures ok { OnOk result (IsWith (there_in self.old) (there_in self.new) page) }
         ensures blocks { OnOk result (blocks_of self.new ≡ blocks_of self.old + 32) }
-        ensures err { OnErr result ((other : ℕ) → there_in self.new other ≡ there_in self.old other) }
+        ensures err { OnErr result (self.new.regions.items ≡ self.old.regions.items) }
         ensures refused { OnErr result (blocks_of self.new ≡ blocks_of self.old) }
     {
         let at = self.regions.len();

@@ -3,8 +3,8 @@
 //! A region has links to eight others: a link is one more than an index in the list, and 0 for none. From a region a
 //! way goes on to the child that the next octal digit of a number names, the highest first. So a way has no more steps
 //! than a number has digits, and all that is led to on a digit is less than all on a higher one.
-ghost use Rattle.std.specs.Prelude.{◌≡◌, ◌*◌, ◌+◌, ◌^◌, ◌<◌, ◌≤◌, ℕ, List, MatchOption, false, length, ltb, suc};
-ghost use Rattle.tagmem.specs.Orders.{AreLinked, IsLeastUnder, IsStanding, above, height_of, lesser_of};
+ghost use Rattle.std.specs.Prelude.{◌≡◌, ◌*◌, ◌+◌, ◌^◌, ◌<◌, ◌≤◌, ◌⊎◌, ℕ, IfSome, List, true, length, suc};
+ghost use Rattle.tagmem.specs.Orders.{AreLinked, IsLeastUnder, IsStanding, above, IsUpTo, height_of};
 ghost use Rattle.tagmem.specs.Regions.{links_of, numbers_of};
 
 use crate::region::Region;
@@ -100,15 +100,17 @@ pub(crate) fn least_under(
 
 // A number, if it is not less than another.
 fn own(number: u64, from: u64) -> Option<u64>
-    ensures { MatchOption result (number < from) (λ same. (same ≡ number) × (from ≤ number)) }
+    ensures same { IfSome result (λ same. (same ≡ number) × (from ≤ number)) }
+    ensures up { from ≤ number → IsUpTo number result }
 {
     if number < from { None } else { Some(number) }
 }
 
 // Whether a number is there that is less than all with a prefix.
+#[tactic(auto, using(crate::proofs::Orders::above_rises))]
 fn ends_before(least: Option<u64>, prefix: u64, level: usize) -> bool
     requires { level < 18 }
-    ensures { MatchOption least (result ≡ false) (λ number. result ≡ ltb (above level number) prefix) }
+    ensures { result ≡ true → (number : ℕ) → prefix ≤ above level number → IsUpTo number least }
 {
     match least {
         Some(number) => number >> (3 * level) < prefix,
@@ -118,12 +120,14 @@ fn ends_before(least: Option<u64>, prefix: u64, level: usize) -> bool
 
 // The lesser of two numbers that are there.
 pub(crate) fn lesser(first: Option<u64>, second: Option<u64>) -> Option<u64>
-    ensures { result ≡ lesser_of first second }
+    ensures one { (result ≡ first) ⊎ (result ≡ second) }
+    ensures first { (number : ℕ) → IsUpTo number first → IsUpTo number result }
+    ensures second { (number : ℕ) → IsUpTo number second → IsUpTo number result }
 {
     match first {
         Some(one) => match second {
-            Some(other) => Some(one.min(other)),
-            None => first,
+            Some(other) if other < one => second,
+            _ => first,
         },
         None => second,
     }

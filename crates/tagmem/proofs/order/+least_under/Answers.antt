@@ -1,8 +1,8 @@
 use Rattle.std.proofs.Common.{◌≡◌, ◌≢◌, ℕ, suc, [], ◌+◌, ◌-◌, ◌*◌, ◌%◌, ◌^◌, ◌<◌, ◌≤◌, List, get_or, length, sym, ap, subst, ◌∙◌, arith}
 use Rattle.std.proofs.lemmas.List.{length-map}
-use Rattle.tagmem.specs.{declared.region.Region.Region, Orders.{IsOneFrom, IsUnder, IsUpTo, above, lesser_of}, Regions.{links_of, numbers_of}}
-use Rattle.tagmem.proofs.Orders.{above_rises, by_digit, child_is, ends_upto, IsUnder-last, IsUnder-on, number_is}
-use Rattle.tagmem.proofs.Orders.{one_lesser, one_own, own_upto, upto_left, upto_right}
+use Rattle.tagmem.specs.{declared.region.Region.Region, Orders.{IsOneFrom, IsUnder, IsUpTo, above}, Regions.{links_of, numbers_of}}
+use Rattle.tagmem.proofs.Orders.{above_rises, by_digit, child_is, IsUnder-last, IsUnder-on, number_is}
+use Rattle.tagmem.proofs.Orders.{one_of, one_own}
 use Rattle.tagmem.proofs.Regions.{numbers_small}
 use Rattle.tagmem.proofs.order.+least_under.Goals.{After-own-least, In-loop-digit}
 use Rattle.tagmem.proofs.order.+least_under.Goals as goal
@@ -26,14 +26,13 @@ module _ (t : ℕ) (c : After-own-least t) where
 
   one : IsOneFrom numbers c.args.from c.own-least.result
   one = one_own numbers c.args.from (c.args.link - 1) c.index-regions-link.result.number
-      (omega (arith, in_range, length-map c.args.regions.now (λ (r : Region). r.number))) numbered c.own-least.result c.own-least.ensures
+      (omega (arith, in_range, length-map c.args.regions.now (λ (r : Region). r.number))) numbered c.own-least.result c.own-least.ensures.same
 
   own : (at : ℕ) → c.args.from ≤ get_or numbers at 0 → suc at ≡ c.args.link → IsUpTo (get_or numbers at 0) c.own-least.result
   own at low is =
       let same : c.index-regions-link.result.number ≡ get_or numbers at 0 =
       numbered ∙ ap (λ i. get_or numbers i 0) {x = c.args.link - 1} {y = at} (omega (arith, is)) in
-      subst (λ n. IsUpTo n c.own-least.result) same
-      (own_upto c.args.from c.index-regions-link.result.number c.own-least.result c.own-least.ensures (omega (arith, same, low)))
+      subst (λ n. IsUpTo n c.own-least.result) same (c.own-least.ensures.up (omega (arith, same, low)))
 
 -- digits are left, and what is on one of them is under its link
 counted : (t : ℕ) (c : In-loop-digit t) → c.args.level ≡ suc (c.args.level - 1)
@@ -91,22 +90,21 @@ loop-digit-preserved t c =
     let after = (goal.at.loop-digit-preserved t c).After-own-least in
     let in_loop = (goal.at.loop-digit-preserved t c).In-loop-digit in
     let numbers = numbers_of c.args.regions.now in
-    let least = c.loop-digit.least in
-    let next = c.least_under-next.result in
     let is = c.lesser-least.ensures in
     record {
-      one = rw is (one_lesser numbers c.args.from least next c.loop-digit.invariant.one (c.least_under-next.ensures []).0);
+      one = one_of (IsOneFrom numbers c.args.from) c.lesser-least.result c.loop-digit.least c.least_under-next.result is.one
+          c.loop-digit.invariant.one (c.least_under-next.ensures []).0;
       under = λ roots at under lower.
           let n = get_or numbers at 0 in
           let links = links_of roots c.args.regions.now in
-          subst (IsUpTo n) (sym is) (by_digit c.args.link at (above (c.args.level - 1) n % 8) c.loop-digit.digit (IsUpTo n (lesser_of least next))
-          (λ below. upto_left n least next (c.loop-digit.invariant.under roots at under below))
-          (λ differs le. upto_right n least next ((c.least_under-next.ensures roots).1 at
+          by_digit c.args.link at (above (c.args.level - 1) n % 8) c.loop-digit.digit (IsUpTo n c.lesser-least.result)
+          (λ below. is.first n (c.loop-digit.invariant.under roots at under below))
+          (λ differs le. is.second n ((c.least_under-next.ensures roots).1 at
           (let same : above (c.args.level - 1) n % 8 ≡ c.loop-digit.digit = omega (arith, le, lower differs) in
           subst (λ l. IsUnder numbers links c.args.from (c.args.level - 1) l (c.args.prefix * 8 % 2 ^ 64 + c.loop-digit.digit) at)
           (sym (named t after roots c.loop-digit.digit))
           (subst (λ d. IsUnder numbers links c.args.from (c.args.level - 1) (links c.args.link d) (c.args.prefix * 8 % 2 ^ 64 + d) at) same
-          (on_digit t in_loop roots at differs under))))));
+          (on_digit t in_loop roots at differs under)))));
     }
 
 pub returns-after-loop-digit : goal.returns-after-loop-digit
@@ -125,6 +123,5 @@ returns-then-ends_before t c = λ roots. (
       (c.loop-digit.invariant.under roots at under)
       (λ differs le.
       let on = on_digit t (goal.at.returns-then-ends_before t c).In-loop-digit roots at differs under in
-      ends_upto (c.args.level - 1) (c.args.prefix * 8 % 2 ^ 64 + c.loop-digit.digit) n c.loop-digit.least c.ends_before.result c.ends_before.ensures
-      c.if-ends_before.true (omega (arith, on.has, le))),
+      c.ends_before.ensures c.if-ends_before.true n (omega (arith, on.has, le))),
 )

@@ -1,7 +1,7 @@
 use Rattle.std.specs.FinMap as map
 use Rattle.std.proofs.Common.{◌≡◌, ◌<◌, ◌∷◌, [], ◌++◌, ◌/◌, ◌%◌, length, get_or, set, All, refl, sym, ap, subst, ◌∙◌}
 use Rattle.std.proofs.{Common.{arith}, lemmas.List.{length-map, get_or_push, get_or_append_left, Elements.All-from_get_or}}
-use Rattle.tagmem.specs.{declared.{block.Block.Block, directory.Directory.Directory}, Blocks.{block_number_at, contents_of, IsAbsent}}
+use Rattle.tagmem.specs.{declared.{block.Block.Block, directory.Directory.Directory}, Blocks.{contents_of, IsAbsent}}
 use Rattle.tagmem.specs.{Blocks.{numbers_of}, Directories.{IsRegionIn, there_in}, Granules.with_write, Trees.AreTrees}
 use Rattle.tagmem.specs.Rooms.{HasRoomFor, blocks_of, blocks_with}
 use Rattle.tagmem.proofs.Writes.{IsAdded, numbers_of-add, length-add, AreDistinct-add, ArePaged-add, ArePaged-has, contents_of-add}
@@ -26,15 +26,11 @@ returns-in_default-clause-in_page c =
 pub invariant_of-self-in_default : goal.invariant_of-self-in_default
 invariant_of-self-in_default c =
     let m = c.make_room.new.self in
-    let same = c.in_default.ensures.err in
     record {
       as_many = m.as_many;
       found = m.found;
       distinct = m.distinct;
-      paged = record {
-        has = λ i lt. same (block_number_at m.blocks.items i / 32) ∙ m.paged.has i lt;
-        used = λ page there. m.paged.used page (sym (same page) ∙ there);
-      };
+      paged = rw c.in_default.ensures.err m.paged;
       stored = m.stored;
       counted = m.counted;
       roomy = omega (arith, c.in_default.ensures.refused, m.roomy);
