@@ -122,7 +122,6 @@ impl Directory {
 
     // Whether a page is there, whose region stands somewhere or not.
     #[inline(always)]
-    #[tactic(auto, using(crate::proofs::Regions::none_there))]
     pub(crate) fn has(&self, page: u64, region: Result<usize, (usize, usize)>) -> bool
         requires { IsRegionIn self.now (page / 64) region }
         ensures { result ≡ there_in self.now page }

@@ -46,6 +46,13 @@ loop-region-init c =
           );
     }
 
+pub returns-then-region-number : goal.returns-then-region-number
+returns-then-region-number c =
+    let lt = c.loop-region.invariant.in_range in (
+      omega (arith, lt, length-map c.args.regions.now (λ (r : Region). r.number)),
+      sym (number_is c.args.regions.now c.loop-region.index c.index-regions-index.result lt c.index-regions-index.is) ∙ c.if-region-number.true,
+    )
+
 -- past a region of another number digits are left, and the next names a child
 module _ (c : Else-region-number) where
   abbrev numbers : List ℕ

@@ -1,8 +1,9 @@
 use Rattle.std.proofs.Common.{◌≡◌, ◌≢◌, ℕ, suc, ◌/◌, ◌∷◌, [], ◌++◌, length, sym, ap, subst, ◌∙◌, arith}
 use Rattle.std.proofs.lemmas.{Grind.get_or_default_zero, List.{length-map, map-append, Quantifiers.all_pairs_push}}
-use Rattle.tagmem.specs.{declared.region.Region.Region, Blocks.AreDistinct, Directories.there_in, Orders.IsLinkedTo}
+use Rattle.tagmem.specs.{declared.region.Region.Region, Blocks.AreDistinct, Directories.there_in, Orders.IsLinkedTo, Pages.IsWith}
 use Rattle.tagmem.specs.Regions.{is_there, links_of, numbers_of}
 use Rattle.tagmem.proofs.{Orders.{AreLinked-more, links_of-push}, Regions.{AreCounted-with, IsWith_push}}
+use Rattle.tagmem.proofs.directory.Directory.add_region.Goals.{After-join}
 use Rattle.tagmem.proofs.directory.Directory.add_region.Goals as goal
 
 pub invariant_of-self : goal.invariant_of-self
@@ -11,25 +12,35 @@ invariant_of-self c =
     let same = c.reserve.ensures.items in
     record { distinct = rw same s.distinct; linked = rw same s.linked; counted = rw same s.counted }
 
+module _ (c : After-join) where
+  pushed : c.push_reserved.new.self.items ≡ c.args.self.now.regions.items ++ c.new.result ∷ []
+  pushed = c.push_reserved.ensures.items ∙ ap (λ items. items ++ c.new.result ∷ []) c.reserve.ensures.items
+
+  with : IsWith (there_in c.args.self.now) (is_there c.join.new.regions.items) c.args.page
+  with =
+      let there : (page : ℕ) → is_there c.join.new.regions.items page ≡ is_there (c.args.self.now.regions.items ++ c.new.result ∷ []) page =
+      λ page. c.join.ensures.there page ∙ ap (λ items. is_there items page) pushed in
+      let last = IsWith_push c.args.self.now.regions.items c.args.page c.new.result c.new.ensures.number c.new.ensures.own c.new.ensures.others in
+      (there c.args.page ∙ last.0, λ q differs. there q ∙ last.1 q differs)
+
+pub returns-clause-ok : goal.returns-clause-ok
+returns-clause-ok c = with (goal.at.returns-clause-ok c).After-join
+
 pub invariant_of-self-2 : goal.invariant_of-self-2
 invariant_of-self-2 c =
     let s = c.args.self.now in
+    let after = (goal.at.invariant_of-self-2 c).After-join in
     let old = s.regions.items in
     let number = c.args.page / 64 in
     let new = c.join.new.regions.items in
-    let long = length-map old (λ (r : Region). r.number) in
-    let pushed : c.push_reserved.new.self.items ≡ old ++ c.new.result ∷ [] =
-    c.push_reserved.ensures.items ∙ ap (λ items. items ++ c.new.result ∷ []) c.reserve.ensures.items in
     let numbers_are : numbers_of new ≡ numbers_of old ++ number ∷ [] =
-    c.join.ensures.numbers ∙ ap numbers_of pushed ∙ map-append (λ (r : Region). r.number) old (c.new.result ∷ [])
+    c.join.ensures.numbers ∙ ap numbers_of (pushed after) ∙ map-append (λ (r : Region). r.number) old (c.new.result ∷ [])
     ∙ ap (λ n. numbers_of old ++ n ∷ []) c.new.ensures.number in
-    let there : (page : ℕ) → is_there new page ≡ is_there (old ++ c.new.result ∷ []) page =
-    λ page. c.join.ensures.there page ∙ ap (λ items. is_there items page) pushed in
-    let with = IsWith_push old c.args.page c.new.result c.new.ensures.number c.new.ensures.own c.new.ensures.others in
     let joined : IsLinkedTo (links_of s.roots old) (links_of c.join.new.roots new) c.args.end.0 c.args.end.1 (suc (length (numbers_of old))) =
     record {
-      own = c.join.ensures.linked.own ∙ omega (arith, c.in-Ok.ensures.1, c.len-at.ensures, s.regions.ok.0, long);
-      others = λ l d differs. c.join.ensures.linked.others l d differs ∙ ap (λ items. links_of s.roots items l d) pushed
+      own = c.join.ensures.linked.own
+          ∙ omega (arith, c.in-Ok.ensures.1, c.len-at.ensures, s.regions.ok.0, length-map old (λ (r : Region). r.number));
+      others = λ l d differs. c.join.ensures.linked.others l d differs ∙ ap (λ items. links_of s.roots items l d) (pushed after)
           ∙ links_of-push s.roots old c.new.result c.new.ensures.children l d;
     } in
     record {
@@ -37,6 +48,5 @@ invariant_of-self-2 c =
           c.requires.absent.absent k lt (sym (get_or_default_zero (numbers_of old) k d lt) ∙ is)));
       linked = rw numbers_are (AreLinked-more (numbers_of old) (links_of s.roots old) (links_of c.join.new.roots new) number
           c.args.end.0 c.args.end.1 s.linked c.requires.absent joined);
-      counted = AreCounted-with (there_in s) (is_there new) c.args.page s.count
-          (there c.args.page ∙ with.0, λ q differs. there q ∙ with.1 q differs) s.counted;
+      counted = AreCounted-with (there_in s) (is_there new) c.args.page s.count (with after) s.counted;
     }
