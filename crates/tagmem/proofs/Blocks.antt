@@ -3,7 +3,7 @@ use Rattle.std.specs.{Cmp.{nat_cmp_total, unsigned_tied}, FinMap.{find, get-from
 use Rattle.std.specs.{Option.option_or, Ordering.eq_by_cmp}
 use Rattle.std.specs.FinMap as finite
 use Rattle.std.proofs.Common.{◌≡◌, ◌≢◌, ℕ, zero, suc, ◌+◌, ◌-◌, ◌*◌, ◌/◌, ◌%◌, ◌<◌, ◌≤◌, Bool, true, false, cond, eqb, leb, List, [], ◌∷◌}
-use Rattle.std.proofs.Common.{◌++◌, length, get_or, set, map, Option, Some, None, unwrap_or, sym, refl, ap, subst, ◌∙◌, arith, nat_cmp}
+use Rattle.std.proofs.Common.{◌++◌, length, get_or, set, map, replicate, Option, Some, None, unwrap_or, sym, refl, ap, subst, ◌∙◌, arith, nat_cmp}
 use Rattle.std.proofs.Common.{eqb-true, get_or-set_same, get_or-set_other, length-append}
 use Rattle.std.proofs.{Math.ListN.get_or-eq_default, Math.Seq.map-set_same, lemmas.{Bool.Decides.nat_tests, Grind.get_or_default_zero}}
 use Rattle.std.proofs.lemmas.List.{get_or-map, length-map, map-append, get_or_push, Quantifiers.all_pairs_push}
@@ -11,7 +11,13 @@ use Rattle.tagmem.specs.{declared.block.Block.Block, Blocks.{slots_of, slot_with
 use Rattle.tagmem.specs.{Blocks.{contents_of, block_number_at, numbers_of, IsBlockAt, IsAbsent, AreDistinct}, Granules.{Entry, blank}}
 use Rattle.tagmem.proofs.Granules.{get-put}
 
--- there are as many as there are tags
+-- a list of one thing has it everywhere, where it is the default
+pub get_or-same : {X : Type 0} (d : X) (n i : ℕ) → get_or (replicate n d) i d ≡ d
+get_or-same d zero i = refl
+get_or-same d (suc n) zero = refl
+get_or-same d (suc n) (suc i) = get_or-same d n i
+
+-- there are as many slots as there are tags
 pub length-slots_with : (tags : List (Option Bool)) (rows : List (List ℕ)) (codes : List ℕ) → length tags ≡ length rows
     → length tags ≡ length codes → length (slots_with tags rows codes) ≡ length tags
 length-slots_with [] rows codes same equal = refl

@@ -1,9 +1,9 @@
 -- Why there is room for each block that isn't there in a page that is.
-use Rattle.std.specs.{List.{Contains, IsDistinct, list_any, range_with_len}, Set.is_member}
-use Rattle.std.proofs.Common.{◌≡◌, ◌≢◌, ℕ, zero, suc, ◌*◌, ◌/◌, ◌%◌, ◌<◌, ◌≤◌, Bool, true, ◌||◌, eqb, List, [], ◌∷◌, ◌++◌}
-use Rattle.std.proofs.{Common.{length, get_or, refl, sym, ap, ◌∙◌, arith, length-append}, lemmas.Cmp.nat_eq_equiv}
-use Rattle.std.proofs.lemmas.{Bool.{eq-eqb, Decides.{Decides-eqb}}, Grind.get_or_default_zero, List.length-map}
-use Rattle.std.proofs.lemmas.List.{Elements.All-from_get_or, Folds.{list_any_at, list_any-append}, Kept.AllPairs-cons}
+use Rattle.std.specs.{List.{Contains, IsDistinct, range_with_len}}
+use Rattle.std.proofs.Common.{◌≡◌, ◌≢◌, ℕ, zero, suc, ◌*◌, ◌/◌, ◌%◌, ◌<◌, ◌≤◌, Bool, true, eqb, List, [], ◌∷◌, ◌++◌}
+use Rattle.std.proofs.{Common.{length, refl, sym, ap, ◌∙◌, arith, length-append}, lemmas.Cmp.nat_eq_equiv}
+use Rattle.std.proofs.lemmas.{Bool.{Decides.{Decides-eqb}}, Grind.get_or_default_zero, List.length-map}
+use Rattle.std.proofs.lemmas.List.{Elements.{All-from_get_or, Contains-append_left, Contains-append_right}, Kept.AllPairs-cons}
 use Rattle.std.proofs.lemmas.List.FromFn.{length-range_with_len, get_or-range_with_len}
 use Rattle.std.proofs.lemmas.Map.Made.{length-le_from_is_member, is_member-Decides, IsDistinct-from_AllPairs}
 use Rattle.tagmem.specs.declared.block.Block.{Block}
@@ -20,24 +20,16 @@ length-numbers_in (page ∷ pages) =
     let both = length-append (range_with_len (32 * page) 32) (numbers_in pages) in
     omega (arith, both, length-range_with_len (32 * page) 32, length-numbers_in pages)
 
-in_page : (pages : List ℕ) (number k d : ℕ) → k < length pages → get_or pages k d ≡ number / 32
-    → list_any (eqb number) (numbers_in pages) ≡ true
-in_page [] number k d lt is = absurd (omega arith)
-in_page (page ∷ pages) number zero d lt is =
-    let own = range_with_len (32 * page) 32 in
-    let here : get_or own (number % 32) 0 ≡ number =
-    get_or-range_with_len (32 * page) 32 (number % 32) 0 (omega arith) ∙ omega (arith, is) in
-    let found : list_any (eqb number) own ≡ true =
-    list_any_at (eqb number) own (number % 32) 0 (let many = length-range_with_len (32 * page) 32 in omega arith)
-    (eq-eqb number _ (sym here)) in
-    list_any-append (eqb number) own (numbers_in pages) ∙ ap (λ b. b || list_any (eqb number) (numbers_in pages)) found
-in_page (page ∷ pages) number (suc k) d lt is =
-    let later : list_any (eqb number) (numbers_in pages) ≡ true = in_page pages number k d (omega arith) is in
-    list_any-append (eqb number) (range_with_len (32 * page) 32) (numbers_in pages) ∙ grind (arith, later)
-
-member-any : (numbers : List ℕ) (q : ℕ) → is_member eqb numbers q ≡ list_any (eqb q) numbers
-member-any [] q = refl
-member-any (number ∷ numbers) q = ap (λ b. eqb q number || b) (member-any numbers q)
+in_page : (pages : List ℕ) (number : ℕ) → Contains pages (number / 32) → Contains (numbers_in pages) number
+in_page [] number (k, lt, is) = absurd (omega arith)
+in_page (page ∷ pages) number (zero, lt, is) =
+    Contains-append_left (range_with_len (32 * page) 32) (numbers_in pages) number (
+      number % 32,
+      omega (arith, length-range_with_len (32 * page) 32),
+      get_or-range_with_len (32 * page) 32 (number % 32) number (omega arith) ∙ omega (arith, is),
+    )
+in_page (page ∷ pages) number (suc k, lt, is) =
+    Contains-append_right (range_with_len (32 * page) 32) (numbers_in pages) number (in_page pages number (k, omega arith, is))
 
 -- pages have places for more blocks than there are, where one of theirs is absent
 pub is_room : (blocks : List Block) (there : ℕ → Bool) (count : ℕ) → AreCounted there count → AreDistinct (numbers_of blocks)
@@ -46,7 +38,8 @@ pub is_room : (blocks : List Block) (there : ℕ → Bool) (count : ℕ) → Are
 is_room blocks there count counted known has number is absent =
     let full : 32 * count ≤ length blocks → ⊥ = λ many. counted (λ pages all each.
     let le = length-le_from_is_member nat_eq_equiv (number ∷ numbers_of blocks) (numbers_in pages) distinct (λ q member.
-    member-any (numbers_in pages) q ∙ of_pages pages each q ((is_member-Decides Decides-eqb (number ∷ numbers_of blocks) q).0 member)) in
+    (is_member-Decides Decides-eqb (numbers_in pages) q).1 (in_page pages q (each (q / 32) (is_there q
+    ((is_member-Decides Decides-eqb (number ∷ numbers_of blocks) q).0 member))))) in
     omega (arith, le, long, length-numbers_in pages, all, many)) in
     grind (arith, full)
   where
@@ -64,9 +57,3 @@ is_room blocks there count counted known has number is absent =
     is_there q (suc k, lt, same) =
         let in_range : k < length (numbers_of blocks) = omega arith in
         ap (λ n. there (n / 32)) (sym same ∙ get_or_default_zero (numbers_of blocks) k q in_range) ∙ has k (omega (arith, long))
-
-    of_pages : (pages : List ℕ) → ((page : ℕ) → there page ≡ true → Contains pages page)
-        → (q : ℕ) → Contains (number ∷ numbers_of blocks) q → list_any (eqb q) (numbers_in pages) ≡ true
-    of_pages pages each q contained =
-        let at = each (q / 32) (is_there q contained) in
-        in_page pages q at.0 (q / 32) at.1 at.2

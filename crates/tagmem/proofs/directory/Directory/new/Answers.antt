@@ -1,15 +1,10 @@
-use Rattle.std.proofs.Common.{◌≡◌, ℕ, zero, suc, [], get_or, replicate, refl, arith}
+use Rattle.std.proofs.Common.{◌≡◌, ℕ, zero, suc, [], replicate, refl, arith}
 use Rattle.std.proofs.lemmas.Bool.{false≢true}
-use Rattle.tagmem.specs.Regions.{links_of}
+use Rattle.tagmem.{specs.Regions.links_of, proofs.Blocks.get_or-same}
 use Rattle.tagmem.proofs.directory.Directory.new.Goals as goal
 
-zeros : (n h : ℕ) → ◌≡◌ {A = ℕ} (get_or (replicate n 0) h 0) 0
-zeros zero h = refl
-zeros (suc n) zero = refl
-zeros (suc n) (suc h) = zeros n h
-
 none_linked : (link digit : ℕ) → links_of (replicate 18 0) [] link digit ≡ 0
-none_linked zero digit = zeros 18 digit
+none_linked zero digit = get_or-same 0 18 digit
 none_linked (suc index) digit = refl
 
 pub invariant_of-result : goal.invariant_of-result

@@ -1,4 +1,4 @@
-use Rattle.std.proofs.Common.{get_or, length, sym, ap, ◌∙◌, arith, eqb-true}
+use Rattle.std.proofs.Common.{sym, ◌∙◌, arith}
 use Rattle.std.proofs.lemmas.{Bool.ltb-true, List.length-map}
 use Rattle.tagmem.specs.{declared.region.Region.Region}
 use Rattle.tagmem.proofs.Orders.{number_is}
