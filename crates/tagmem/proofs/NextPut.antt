@@ -2,7 +2,7 @@
 use Rattle.std.specs.FinMap as map
 use Rattle.std.proofs.Common.{◌≡◌, ◌≢◌, ℕ, ◌+◌, ◌*◌, ◌/◌, ◌%◌, ◌^◌, ◌<◌, ◌≤◌, Bool, false, List, get_or, Option, Some, None}
 use Rattle.std.proofs.{Common.{sym, refl, ap, subst, ◌∙◌, arith, MatchOption}}
-use Rattle.std.proofs.lemmas.Bool.{false≢true}
+use Rattle.std.proofs.lemmas.{Bool.false≢true, List.length-map}
 use Rattle.tagmem.specs.{declared.block.Block.Block, Blocks.{slots_of, contents_of, IsFirstFrom}}
 use Rattle.tagmem.specs.{Blocks.{numbers_of, AreDistinct, ArePaged, IsBlockAt}, Pages.IsLeast}
 use Rattle.tagmem.specs.Granules.{Entry, Granules, AreStored, NonePut, IsNextPut}
@@ -51,7 +51,8 @@ pub none_in_page : (blocks : List Block) (there : ℕ → Bool) → ArePaged blo
 none_in_page blocks there paged page absent q le lt =
     let own : q / 8 / 32 ≡ page = omega arith in
     get_absent blocks q (λ index in_range is.
-    false≢true (sym absent ∙ ap there (sym own) ∙ ap (λ n. there (n / 32)) (sym is) ∙ paged.has index in_range))
+    false≢true (sym absent ∙ ap there (sym own) ∙ ap (λ n. there (n / 32)) (sym is)
+    ∙ paged.has index 0 (omega (arith, length-map blocks (λ (b : Block). b.number)))))
 
 -- where a granule's page has none from it on
 module _ (blocks : List Block) (there : ℕ → Bool) (paged : ArePaged blocks there) (g : ℕ)

@@ -1,13 +1,13 @@
 -- Why there is room for each block that isn't there in a page that is.
 use Rattle.std.specs.{List.{Contains, IsDistinct, range_with_len}}
 use Rattle.std.proofs.Common.{◌≡◌, ◌≢◌, ℕ, zero, suc, ◌*◌, ◌/◌, ◌%◌, ◌<◌, ◌≤◌, Bool, true, eqb, List, [], ◌∷◌, ◌++◌}
-use Rattle.std.proofs.{Common.{length, refl, sym, ap, ◌∙◌, arith, length-append}, lemmas.Cmp.nat_eq_equiv}
-use Rattle.std.proofs.lemmas.{Bool.{Decides.{Decides-eqb}}, Grind.get_or_default_zero, List.length-map}
-use Rattle.std.proofs.lemmas.List.{Elements.{All-from_get_or, Contains-append_left, Contains-append_right}, Kept.AllPairs-cons}
+use Rattle.std.proofs.{Common.{All, length, refl, sym, ◌∙◌, arith, length-append}, lemmas.Cmp.nat_eq_equiv}
+use Rattle.std.proofs.lemmas.{Bool.{Decides.{Decides-eqb}}, List.length-map}
+use Rattle.std.proofs.lemmas.List.{Elements.{All-cons, All-contains, All-from_get_or, Contains-append_left, Contains-append_right}, Kept.AllPairs-cons}
 use Rattle.std.proofs.lemmas.List.FromFn.{length-range_with_len, get_or-range_with_len}
 use Rattle.std.proofs.lemmas.Map.Made.{length-le_from_is_member, is_member-Decides, IsDistinct-from_AllPairs}
 use Rattle.tagmem.specs.declared.block.Block.{Block}
-use Rattle.tagmem.specs.{Blocks.{numbers_of, block_number_at, AreDistinct, IsAbsent}, Pages.AreCounted}
+use Rattle.tagmem.specs.{Blocks.{numbers_of, AreDistinct, IsAbsent}, Pages.AreCounted}
 
 -- the numbers of the blocks of pages
 abbrev numbers_in : List ℕ → List ℕ
@@ -33,27 +33,25 @@ in_page (page ∷ pages) number (suc k, lt, is) =
 
 -- pages have places for more blocks than there are, where one of theirs is absent
 pub is_room : (blocks : List Block) (there : ℕ → Bool) (count : ℕ) → AreCounted there count → AreDistinct (numbers_of blocks)
-    → ((index : ℕ) → index < length blocks → there (block_number_at blocks index / 32) ≡ true)
+    → All (λ number. there (number / 32) ≡ true) (numbers_of blocks)
     → (number : ℕ) → there (number / 32) ≡ true → IsAbsent blocks number → length blocks < 32 * count
 is_room blocks there count counted known has number is absent =
     let full : 32 * count ≤ length blocks → ⊥ = λ many. counted (λ pages all each.
-    let le = length-le_from_is_member nat_eq_equiv (number ∷ numbers_of blocks) (numbers_in pages) distinct (λ q member.
-    (is_member-Decides Decides-eqb (numbers_in pages) q).1 (in_page pages q (each (q / 32) (is_there q
-    ((is_member-Decides Decides-eqb (number ∷ numbers_of blocks) q).0 member))))) in
+    let le = length-le_from_is_member nat_eq_equiv numbers (numbers_in pages) distinct (λ q member.
+    (is_member-Decides Decides-eqb (numbers_in pages) q).1 (in_page pages q (each (q / 32)
+    (All-contains (λ n. there (n / 32) ≡ true) numbers q (All-cons (λ n. there (n / 32) ≡ true) number (numbers_of blocks) is has)
+    ((is_member-Decides Decides-eqb numbers q).0 member))))) in
     omega (arith, le, long, length-numbers_in pages, all, many)) in
     grind (arith, full)
   where
+    numbers : List ℕ
+    numbers = number ∷ numbers_of blocks
+
     long : length (numbers_of blocks) ≡ length blocks
     long = length-map blocks (λ (block : Block). block.number)
 
-    distinct : IsDistinct eqb (number ∷ numbers_of blocks)
-    distinct = IsDistinct-from_AllPairs Decides-eqb (number ∷ numbers_of blocks)
+    distinct : IsDistinct eqb numbers
+    distinct = IsDistinct-from_AllPairs Decides-eqb numbers
         (AllPairs-cons (λ (a b : ℕ). a ≢ b) number (numbers_of blocks)
         (All-from_get_or (λ (other : ℕ). number ≢ other) (numbers_of blocks) 0 (λ index lt same.
         absent index (omega (arith, long)) (sym same))) known)
-
-    is_there : (q : ℕ) → Contains (number ∷ numbers_of blocks) q → there (q / 32) ≡ true
-    is_there q (zero, lt, same) = ap (λ n. there (n / 32)) (sym same) ∙ is
-    is_there q (suc k, lt, same) =
-        let in_range : k < length (numbers_of blocks) = omega arith in
-        ap (λ n. there (n / 32)) (sym same ∙ get_or_default_zero (numbers_of blocks) k q in_range) ∙ has k (omega (arith, long))

@@ -3,10 +3,10 @@ use Rattle.std.specs.FinMap.{from_entries}
 use Rattle.std.specs.FinMap as map
 use Rattle.std.proofs.Common.{◌≡◌, ◌≢◌, ℕ, ◌+◌, ◌*◌, ◌/◌, ◌%◌, ◌^◌, ◌<◌, ◌≤◌, Bool, true, false, cond, eqb, List, [], ◌∷◌, ◌++◌, length, get_or}
 use Rattle.std.proofs.Common.{set, All, Option, Some, None, unwrap_or, is_some, is_none, sym, refl, ap, subst, ◌∙◌, arith, eqb-true}
-use Rattle.std.proofs.{Common.{length-append, length-set}, Math.Seq.set-append_seam, lemmas.{Bool.Decides.nat_tests, Option.{none-some, same_Some}}}
-use Rattle.std.proofs.lemmas.List.{get_or-map, get_or_push, get_or_append_left, length-map}
+use Rattle.std.proofs.{Common.{length-append}, Math.Seq.set-append_seam, lemmas.{Bool.Decides.nat_tests, List.Elements.All-push, Option.{none-some, same_Some}}}
+use Rattle.std.proofs.lemmas.List.{get_or-map, get_or_push}
 use mir.Val.{bool_byte}
-use Rattle.tagmem.specs.{declared.block.Block.Block, Blocks.{slots_of, bytes_in_slot, contents_of, numbers_of, block_number_at}}
+use Rattle.tagmem.specs.{declared.block.Block.Block, Blocks.{slots_of, bytes_in_slot, contents_of, numbers_of}}
 use Rattle.tagmem.specs.{Blocks.{AreDistinct, ArePaged, IsAbsent, IsBlockAt}, Pages.IsWith}
 use Rattle.tagmem.specs.Granules.{Entry, Granules, blank, entry_at, bytes_at, overwritten, with_write, HasRoom, IsCodeFor, IsStored, AreStored, NonePut}
 use Rattle.tagmem.proofs.Blocks.{get_read as get_block, get_absent, contents_of-set, numbers_of-set, numbers_of-push, AreDistinct-push, IsBlockAt-push, entries_of-push}
@@ -84,7 +84,7 @@ module _ (blocks : List Block) (index g : ℕ) (first : Block)
     -- and each page that had a granule has one
     pub ArePaged-write : (there : ℕ → Bool) → ArePaged blocks there → ArePaged (set blocks index block) there
     ArePaged-write there paged = record {
-      has = λ i lt. ap (λ ns. there (get_or ns i 0 / 32)) numbers_of-write ∙ paged.has i (omega (arith, length-set blocks index block));
+      has = rw numbers_of-write paged.has;
       used = λ page is none. paged.used page is (λ q le lt.
           none_before (contents_of blocks) g _ q (sym (ap (λ m. map.get m q) contents_of-write) ∙ none q le lt));
     }
@@ -115,12 +115,12 @@ pub record IsAdded (blocks : List Block) (index g : ℕ) (first block : Block)
 
 -- with one page more the pages of the blocks are there
 pub ArePaged-has : (blocks : List Block) (old new : ℕ → Bool) (page : ℕ) → IsWith old new page → ArePaged blocks old
-    → (i : ℕ) → i < length blocks → new (block_number_at blocks i / 32) ≡ true
-ArePaged-has blocks old new page with paged i lt =
-    let own = block_number_at blocks i / 32 in
+    → All (λ number. new (number / 32) ≡ true) (numbers_of blocks)
+ArePaged-has blocks old new page with paged i d lt =
+    let own = get_or (numbers_of blocks) i d / 32 in
     elim (eqb own page) as (λ b. eqb own page ≡ b → new own ≡ true) [
       | true ↦ λ same. ap new (eqb-true own page same) ∙ with.0
-      | false ↦ λ differs. with.1 own (λ same. grind (arith, nat_tests)) ∙ paged.has i lt
+      | false ↦ λ differs. with.1 own (λ same. grind (arith, nat_tests)) ∙ paged.has i d lt
     ] refl
 
 module _ (blocks : List Block) (index g : ℕ) (first block : Block) (tag : Bool) (byte_index : ℕ) (bytes : List ℕ) (code : ℕ)
@@ -162,27 +162,12 @@ module _ (blocks : List Block) (index g : ℕ) (first block : Block) (tag : Bool
 
   pub ArePaged-add : (old new : ℕ → Bool) → IsWith old new (g / 256) → ArePaged blocks old
       → ArePaged (set (blocks ++ first ∷ []) index block) new
-  ArePaged-add old new with paged = record { has = has; used = used }
+  ArePaged-add old new with paged = record {
+    has = rw numbers_of-add (All-push (λ number. new (number / 32) ≡ true) (numbers_of blocks) (g / 8)
+        (ArePaged-has blocks old new (g / 256) with paged) (let own : g / 8 / 32 ≡ g / 256 = omega arith in ap new own ∙ with.0));
+    used = used;
+  }
     where
-      has : (i : ℕ) → i < length (set (blocks ++ first ∷ []) index block)
-          → new (block_number_at (set (blocks ++ first ∷ []) index block) i / 32) ≡ true
-      has i lt =
-          let numbers = numbers_of-add in
-          let long : length (numbers_of blocks) ≡ length blocks = length-map blocks (λ (b : Block). b.number) in
-          elim (eqb i (length blocks))
-          as (λ b. eqb i (length blocks) ≡ b → new (block_number_at (set (blocks ++ first ∷ []) index block) i / 32) ≡ true) [
-            | true ↦ λ same.
-                let last : length (numbers_of blocks) ≡ i = long ∙ sym (eqb-true i (length blocks) same) in
-                let own : g / 8 / 32 ≡ g / 256 = omega arith in
-                ap (λ ns. new (get_or ns i 0 / 32)) numbers
-                ∙ ap (λ n. new (n / 32)) (get_or_push (numbers_of blocks) (g / 8) 0 i last) ∙ ap new own ∙ with.0
-            | false ↦ λ differs.
-                let before : i < length blocks = grind (arith, nat_tests, length-add) in
-                ap (λ ns. new (get_or ns i 0 / 32)) numbers
-                ∙ ap (λ n. new (n / 32)) (get_or_append_left (numbers_of blocks) ((g / 8) ∷ []) 0 i (omega (arith, long)))
-                ∙ ArePaged-has blocks old new (g / 256) with paged i before
-          ] refl
-
       used : (page : ℕ) → new page ≡ true
           → NonePut (contents_of (set (blocks ++ first ∷ []) index block)) (256 * page) (256 * page + 256) → ⊥
       used page is none =

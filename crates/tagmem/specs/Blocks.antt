@@ -1,6 +1,6 @@
 -- The blocks that a `PageStore` keeps, and the map that they are. All of it is this profile's own.
 use Rattle.std.specs.Prelude.{◌≡◌, ℕ, suc, ◌+◌, ◌*◌, ◌/◌, ◌<◌, ◌≤◌, ◌≢◌, Bool, true, List, [], ◌∷◌, ◌++◌, length, map}
-use Rattle.std.specs.{Prelude.{Option, Some, None, unwrap_or, slice_index, slice_index_or}, FinMap.from_entries, List.AllPairs}
+use Rattle.std.specs.{Prelude.{All, Option, Some, None, unwrap_or, slice_index, slice_index_or}, FinMap.from_entries, List.AllPairs}
 use Rattle.tagmem.specs.{declared.block.Block.Block, Granules.{Entry, Granules, blank, NonePut}}
 
 -- a slot, where it was put: its tag, and its bytes and its code beside that
@@ -76,5 +76,5 @@ AreDistinct numbers = AllPairs (λ number other. number ≢ other) numbers
 
 -- the page of each block is there, and in each page that is there a granule was put: page n has the blocks from 32 * n on
 pub record ArePaged (blocks : List Block) (there : ℕ → Bool) : Type 0 where
-  pub has : (index : ℕ) → index < length blocks → there (block_number_at blocks index / 32) ≡ true
+  pub has : All (λ number. there (number / 32) ≡ true) (numbers_of blocks)
   pub used : (page : ℕ) → there page ≡ true → NonePut (contents_of blocks) (256 * page) (256 * page + 256) → ⊥

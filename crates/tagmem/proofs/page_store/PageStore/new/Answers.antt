@@ -15,7 +15,7 @@ invariant_of-result c =
       found = rw (none, roots, links) (AreTrees-empty [] _ [] [] (λ place. refl) (λ place. refl));
       distinct = rw none (λ i j d lt in_range. absurd (omega arith));
       paged = rw none (record {
-        has = λ i lt. absurd (omega arith);
+        has = λ i d lt. absurd (omega arith);
         used = λ page there. absurd (false≢true (sym (c.new-3.ensures.there page) ∙ there));
       });
       stored = rw none (λ g entry is. absurd (none-some entry (sym (map.get-empty nat_cmp g) ∙ is)));
