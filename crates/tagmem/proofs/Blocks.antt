@@ -3,13 +3,20 @@ use Rattle.std.specs.{Cmp.{nat_cmp_total, unsigned_tied}, FinMap.{find, get-from
 use Rattle.std.specs.{Option.option_or, Ordering.eq_by_cmp}
 use Rattle.std.specs.FinMap as finite
 use Rattle.std.proofs.Common.{◌≡◌, ◌≢◌, ℕ, zero, suc, ◌+◌, ◌-◌, ◌*◌, ◌/◌, ◌%◌, ◌<◌, ◌≤◌, Bool, true, false, cond, eqb, leb, List, [], ◌∷◌}
-use Rattle.std.proofs.Common.{◌++◌, length, get_or, set, map, replicate, Option, Some, None, unwrap_or, sym, refl, ap, subst, ◌∙◌, arith, nat_cmp}
+use Rattle.std.proofs.Common.{◌++◌, length, get_or, set, replicate, Option, Some, None, unwrap_or, sym, refl, ap, subst, ◌∙◌, arith, nat_cmp}
 use Rattle.std.proofs.Common.{eqb-true, get_or-set_same, get_or-set_other, length-append}
 use Rattle.std.proofs.{Math.ListN.get_or-eq_default, Math.Seq.map-set_same, lemmas.{Bool.Decides.nat_tests, Grind.get_or_default_zero}}
 use Rattle.std.proofs.lemmas.List.{get_or-map, length-map, map-append, get_or_push, Quantifiers.all_pairs_push}
 use Rattle.tagmem.specs.{declared.block.Block.Block, Blocks.{slots_of, slot_with, slots_with, with_slot, entries_from, entries_of}}
 use Rattle.tagmem.specs.{Blocks.{contents_of, block_number_at, numbers_of, IsBlockAt, IsAbsent, AreDistinct}, Granules.{Entry, blank}}
 use Rattle.tagmem.proofs.Granules.{get-put}
+
+-- two numbers are equal, or they differ
+pub by_equal : (x y : ℕ) (P : Type 0) → (x ≡ y → P) → (x ≢ y → P) → P
+by_equal x y P same other = elim (eqb x y) as (λ b. eqb x y ≡ b → P) [
+  | true ↦ λ is. same (eqb-true x y is)
+  | false ↦ λ differs. other (λ is. grind (arith, nat_tests))
+] refl
 
 -- a list of one thing has it everywhere, where it is the default
 pub get_or-same : {X : Type 0} (d : X) (n i : ℕ) → get_or (replicate n d) i d ≡ d
@@ -77,24 +84,17 @@ numbers_of-set blocks new index at =
 -- a block more, at the index behind the others
 module _ (blocks : List Block) (block : Block) (number index : ℕ)
     (its_number : block.number ≡ number) (last : index ≡ length blocks) where
-  length-push : length (blocks ++ block ∷ []) ≡ length blocks + 1
-  length-push = length-append blocks (block ∷ [])
-
-  numbers : map number_of (blocks ++ block ∷ []) ≡ map number_of blocks ++ block.number ∷ []
-  numbers = map-append number_of blocks (block ∷ [])
-
   -- is the last of the numbers
   pub numbers_of-push : numbers_of blocks ++ number ∷ [] ≡ numbers_of (blocks ++ block ∷ [])
-  numbers_of-push = ap (λ n. numbers_of blocks ++ n ∷ []) (sym its_number) ∙ sym numbers
-
-  block_number_at-last : block_number_at (blocks ++ block ∷ []) index ≡ number
-  block_number_at-last =
-      let many : length (map number_of blocks) ≡ index = length-map blocks number_of ∙ sym last in
-      ap (λ ns. get_or ns index 0) numbers ∙ get_or_push _ block.number 0 index many ∙ its_number
+  numbers_of-push = ap (λ n. numbers_of blocks ++ n ∷ []) (sym its_number) ∙ sym (map-append number_of blocks (block ∷ []))
 
   -- is there
   pub IsBlockAt-push : IsBlockAt (blocks ++ block ∷ []) number index
-  IsBlockAt-push = record { in_range = omega (arith, length-push, last); has_number = block_number_at-last }
+  IsBlockAt-push = record {
+    in_range = omega (arith, length-append blocks (block ∷ []), last);
+    has_number = ap (λ ns. get_or ns index 0) (sym numbers_of-push)
+        ∙ get_or_push (numbers_of blocks) number 0 index (length-map blocks number_of ∙ sym last);
+  }
 
   -- and one more, where it is absent
   pub AreDistinct-push : IsAbsent blocks number → AreDistinct (numbers_of blocks) → AreDistinct (numbers_of (blocks ++ block ∷ []))
@@ -267,13 +267,8 @@ found-set (block ∷ blocks) new d zero g entry at none number are q =
     ∙ option_or-cond (eqb q g) entry (in_block block q) (found blocks q)
 found-set (block ∷ blocks) new d (suc index) g entry at none number are q =
     let later = found-set blocks new d index g entry (at_in_tail block blocks _ _ at) (none_in_tail block blocks _ _ none) number are q in
-    rw later (by_test (eqb q g) refl (in_block-other block g (none 0 (omega arith))))
-  where
-    by_test : (b : Bool) → eqb q g ≡ b → in_block block g ≡ None
-        → option_or (in_block block q) (cond b (Some entry) (found blocks q))
-        ≡ cond b (Some entry) (option_or (in_block block q) (found blocks q))
-    by_test false is other = refl
-    by_test true is other = rw (ap (in_block block) (eqb-true q g is) ∙ other) refl
+    let other : q ≡ g → in_block block q ≡ None = λ is. ap (in_block block) is ∙ in_block-other block g (none 0 (omega arith)) in
+    rw later (grind (arith, nat_tests, other))
 
 -- where no number stands twice
 module _ (blocks : List Block) (known : AreDistinct (numbers_of blocks)) where

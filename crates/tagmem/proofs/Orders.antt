@@ -1,9 +1,10 @@
 -- Where the ways of regions' numbers lead, and what becomes of them as a region is added.
-use Rattle.std.proofs.Common.{◌≡◌, ◌≢◌, ℕ, zero, suc, ◌+◌, ◌*◌, ◌/◌, ◌%◌, ◌^◌, ◌<◌, ◌≤◌, true, false, ◌&&◌, ◌||◌, cond, eqb, ltb}
+use Rattle.std.proofs.Common.{◌≡◌, ◌≢◌, ℕ, zero, suc, ◌+◌, ◌*◌, ◌/◌, ◌%◌, ◌^◌, ◌<◌, ◌≤◌, true, false, ◌||◌, cond, eqb, ltb}
 use Rattle.std.proofs.Common.{List, [], ◌∷◌, ◌++◌, length, get_or, set, Option, Some, None, ◌⊎◌, ⊎_elim, IfSome, refl, sym, ap, subst, ◌∙◌, arith}
 use Rattle.std.proofs.Common.{eqb-true, pow-add, length-append, length-set, get_or-set_same, get_or-set_other}
 use Rattle.std.proofs.{Math.Nat.div-div-eq-div-mul, lemmas.Bool.{ne_eqb, eq-eqb, ltb-true, ltb-false, false≢true, Decides.nat_tests}}
 use Rattle.std.proofs.lemmas.List.{get_or-map, get_or_push, get_or_append_left, map-set}
+use Rattle.tagmem.proofs.Blocks.{by_equal}
 use Rattle.tagmem.specs.Orders.{above, height_of, leads, leads_all, IsPlaced, HaveLevels, AreLinked, AreKept, IsEnding, IsLinkedTo}
 use Rattle.tagmem.specs.{declared.region.Region.Region, Orders.{IsOneFrom, IsUpTo, IsUnder, IsLeastUnder, IsLeastFrom}}
 use Rattle.tagmem.specs.Regions.{children_of, links_of, numbers_of}
@@ -33,16 +34,12 @@ IsLinkedTo-set roots regions index digit to old new lt is small children = recor
 
     others : (l d : ℕ) → (l ≡ suc index → d ≢ digit) → links_of roots (set regions index new) l d ≡ links_of roots regions l d
     others zero d differs = refl
-    others (suc i) d differs = elim (eqb i index)
-        as (λ b. eqb i index ≡ b → links_of roots (set regions index new) (suc i) d ≡ links_of roots regions (suc i) d) [
-          | true ↦ λ same. let is_index = eqb-true i index same in
-              ap (λ j. links_of roots (set regions index new) (suc j) d) is_index ∙ sym (here d)
-              ∙ get_or-set_other old.children digit d to 0 (differs (ap suc is_index))
-              ∙ child_is regions index old lt is roots d ∙ ap (λ j. links_of roots regions (suc j) d) (sym is_index)
-          | false ↦ λ apart. ap (λ (row : List ℕ). get_or row d 0) (ap (λ (rows : List (List ℕ)). get_or rows i [])
-              (map-set (λ (r : Region). r.children) regions index new)
-              ∙ get_or-set_other (children_of regions) index i new.children [] (λ same. grind (arith, nat_tests)))
-        ] refl
+    others (suc i) d differs = by_equal i index _
+        (λ same. ap (λ j. links_of roots (set regions index new) (suc j) d) same ∙ sym (here d)
+        ∙ get_or-set_other old.children digit d to 0 (differs (ap suc same))
+        ∙ child_is regions index old lt is roots d ∙ ap (λ j. links_of roots regions (suc j) d) (sym same))
+        (λ apart. ap (λ (row : List ℕ). get_or row d 0) (ap (λ (rows : List (List ℕ)). get_or rows i [])
+        (map-set (λ (r : Region). r.children) regions index new) ∙ get_or-set_other (children_of regions) index i new.children [] apart))
 
 -- a region more that has no links adds none
 pub links_of-push : (roots : List ℕ) (regions : List Region) (region : Region) → ((digit : ℕ) → get_or region.children digit 0 ≡ 0)
@@ -99,10 +96,9 @@ module _ (links : ℕ → ℕ → ℕ) (number : ℕ) where
 
   pub leads_from : (level digits index at : ℕ) → level ≡ suc digits
       → leads links number digits (links (suc index) (above digits number % 8)) at ≡ true → leads links number level (suc index) at ≡ true
-  leads_from level digits index at is led = elim (eqb index at) as (λ b. eqb index at ≡ b → leads links number level (suc index) at ≡ true) [
-    | true ↦ λ same. ap (λ i. leads links number level (suc i) at) (eqb-true index at same) ∙ leads_here level at
-    | false ↦ λ differs. leads_on level digits index at is (λ same. grind (arith, nat_tests)) ∙ led
-  ] refl
+  leads_from level digits index at is led = by_equal index at _
+      (λ same. ap (λ i. leads links number level (suc i) at) same ∙ leads_here level at)
+      (λ differs. leads_on level digits index at is differs ∙ led)
 
   pub leads_last : (level index at : ℕ) → level ≡ 0 → leads links number level (suc index) at ≡ true → index ≡ at
   leads_last level index at none led = eqb-true index at (sym (ap (λ l. leads links number l (suc index) at) none) ∙ led)
@@ -142,13 +138,11 @@ module _ (numbers : List ℕ) (links more : ℕ → ℕ → ℕ) (number end dig
 
   -- a link is an old one, or that to the region
   each_link : (link d : ℕ) (P : ℕ → Type 0) → P (links link d) → (link ≡ end → d ≡ digit → P (suc (length numbers))) → P (more link d)
-  each_link link d P old new = elim (eqb link end && eqb d digit) as (λ b. (eqb link end && eqb d digit) ≡ b → P (more link d)) [
-    | true ↦ λ both.
-        let link_is : link ≡ end = grind (arith, nat_tests) in
-        let d_is : d ≡ digit = grind (arith, nat_tests) in
-        subst P (sym (ap (λ l. more l d) link_is ∙ ap (more end) d_is ∙ joined.own)) (new link_is d_is)
-    | false ↦ λ differs. subst P (sym (joined.others link d (λ link_is d_is. grind (arith, nat_tests)))) old
-  ] refl
+  each_link link d P old new =
+      let other : (link ≡ end → d ≢ digit) → P (more link d) = λ differs. subst P (sym (joined.others link d differs)) old in
+      by_equal link end _ (λ link_is. by_equal d digit _
+      (λ d_is. subst P (sym (ap (λ l. more l d) link_is ∙ ap (more end) d_is ∙ joined.own)) (new link_is d_is)) (λ differs. other (λ _. differs)))
+      (λ differs. other (λ is. absurd (differs is)))
 
   kept : AreKept links more
   kept link d some = each_link link d (λ n. n ≡ links link d) refl (λ link_is d_is.
@@ -245,13 +239,11 @@ module _ (numbers : List ℕ) (links : ℕ → ℕ → ℕ) (from level : ℕ) w
 
 -- it is on a digit below one, or from that on
 pub by_digit : (link at d digit : ℕ) (P : Type 0) → ((suc at ≢ link → d < digit) → P) → (suc at ≢ link → digit ≤ d → P) → P
-by_digit link at d digit P below above = elim (eqb (suc at) link) as (λ b. eqb (suc at) link ≡ b → P) [
-  | true ↦ λ same. below (λ differs. absurd (differs (eqb-true _ _ same)))
-  | false ↦ λ differs. elim (ltb d digit) as (λ b. ltb d digit ≡ b → P) [
-    | true ↦ λ lt. below (λ _. ltb-true d digit lt)
-    | false ↦ λ ge. above (λ same. grind (arith, nat_tests)) (ltb-false d digit ge)
-  ] refl
-] refl
+by_digit link at d digit P below above = by_equal (suc at) link P (λ same. below (λ differs. absurd (differs same)))
+    (λ differs. elim (ltb d digit) as (λ b. ltb d digit ≡ b → P) [
+      | true ↦ λ lt. below (λ _. ltb-true d digit lt)
+      | false ↦ λ ge. above differs (ltb-false d digit ge)
+    ] refl)
 
 -- the least number from one on, by the least of each height
 pub least_of_all : (numbers : List ℕ) (links : ℕ → ℕ → ℕ) → AreLinked numbers links

@@ -1,13 +1,13 @@
 -- What is found in regions, and what becomes of it as they change and are added.
-use Rattle.std.specs.{Prelude.◌==◌, List.{Contains, list_any}}
-use Rattle.std.proofs.Common.{◌≡◌, ◌≢◌, ℕ, zero, suc, ◌+◌, ◌*◌, ◌/◌, ◌%◌, ◌^◌, ◌<◌, ◌≤◌, Bool, true, false, ◌||◌, ◌&&◌, eqb, List, [], ◌∷◌}
-use Rattle.std.proofs.Common.{◌++◌, length, get_or, set, Option, Some, None, sym, refl, ap, subst, ◌∙◌, arith, eqb-true, length-set, MatchOption}
+use Rattle.std.specs.{Prelude.◌==◌, List.{list_any}}
+use Rattle.std.proofs.Common.{◌≡◌, ◌≢◌, ℕ, zero, suc, ◌+◌, ◌*◌, ◌/◌, ◌%◌, ◌^◌, ◌<◌, ◌≤◌, Bool, true, false, ◌||◌, ◌&&◌, List, [], ◌∷◌}
+use Rattle.std.proofs.Common.{◌++◌, length, get_or, set, Option, Some, None, sym, refl, ap, subst, ◌∙◌, arith, length-set, MatchOption}
 use Rattle.std.proofs.Common.{get_or-set_same}
 use Rattle.std.proofs.lemmas.{Bool.{Decides.nat_tests, false≢true, eq-eqb, ne_eqb}, List.{get_or-map, get_or_default, length-map}}
 use Rattle.std.proofs.lemmas.{List.Folds.{list_any_at, list_any_none, list_any-append}, Nat.Bits.bit_at_above}
 use Rattle.tagmem.specs.{declared.region.Region.Region, Blocks.AreDistinct, Regions.{numbers_of, has_number, is_there}}
 use Rattle.tagmem.specs.{Orders.{IsLeastFrom, IsUpTo}, Pages.{has_page, HasPage, IsLeast, IsWith, AreCounted}}
-use Rattle.tagmem.proofs.Blocks.{one_number}
+use Rattle.tagmem.proofs.Blocks.{by_equal, one_number}
 
 abbrev number_of : Region → ℕ
 number_of region = region.number
@@ -84,15 +84,12 @@ module _ (regions : List Region) (at : ℕ) (region : Region) (number : ℕ) (is
     there_own page own = elim (has_page region.there (page % 64))
         as (λ b. has_page region.there (page % 64) ≡ b → is_there regions page ≡ b) [
           | true ↦ λ has. list_any_at (has_number page) regions at region in_range (ap (has_number page) (sym is) ∙ says ∙ has)
-          | false ↦ λ has. list_any_none (has_number page) regions (λ i d lt. elim (eqb i at)
-              as (λ b. eqb i at ≡ b → has_number page (get_or regions i d) ≡ false) [
-                | true ↦ λ same. ap (λ j. has_number page (get_or regions j d)) (eqb-true i at same)
-                    ∙ ap (has_number page) (get_or_default regions at d region in_range ∙ sym is) ∙ says ∙ has
-                | false ↦ λ differs. ap (λ b. b && has_page (get_or regions i d).there (page % 64)) (ne_eqb _ (page / 64) (λ same.
-                    let one = one_number (numbers_of regions) known i at (omega (arith, length-map regions number_of)) stands.0
-                    (get_or-map number_of regions i d 0 lt ∙ same ∙ sym own ∙ sym stands.1) in
-                    grind (arith, nat_tests)))
-              ] refl)
+          | false ↦ λ has. list_any_none (has_number page) regions (λ i d lt. by_equal i at _
+              (λ same. ap (λ j. has_number page (get_or regions j d)) same
+              ∙ ap (has_number page) (get_or_default regions at d region in_range ∙ sym is) ∙ says ∙ has)
+              (λ differs. ap (λ b. b && has_page (get_or regions i d).there (page % 64)) (ne_eqb _ (page / 64) (λ same.
+              differs (one_number (numbers_of regions) known i at (omega (arith, length-map regions number_of)) stands.0
+              (get_or-map number_of regions i d 0 lt ∙ same ∙ sym own ∙ sym stands.1))))))
         ] refl
       where
         says : has_number page region ≡ has_page region.there (page % 64)
@@ -125,10 +122,6 @@ IsWith_push regions page region number own others = (
 -- with one page more a list has one number more
 pub AreCounted-with : (old new : ℕ → Bool) (page count : ℕ) → IsWith old new page → AreCounted old count → AreCounted new (count + 1)
 AreCounted-with old new page count with counted none = counted (λ numbers many each.
-    none (page ∷ numbers) (omega (arith, many)) (λ number is. elim (eqb page number)
-    as (λ b. eqb page number ≡ b → Contains (page ∷ numbers) number) [
-      | true ↦ λ same. (0, omega arith, eqb-true page number same)
-      | false ↦ λ differs.
-          let there = each number (sym (with.1 number (λ same. grind (arith, nat_tests))) ∙ is) in
-          (suc there.0, let lt = there.1 in omega arith, there.2)
-    ] refl))
+    none (page ∷ numbers) (omega (arith, many)) (λ number is. by_equal number page _
+    (λ same. (0, omega arith, sym same))
+    (λ differs. let there = each number (sym (with.1 number differs) ∙ is) in (suc there.0, let lt = there.1 in omega arith, there.2))))

@@ -1,8 +1,8 @@
 -- Where ways lead, and how a block is put at the end of one.
-use Rattle.std.proofs.Common.{◌≡◌, ◌≢◌, ℕ, zero, suc, ◌+◌, ◌*◌, ◌/◌, ◌%◌, ◌<◌, ◌≤◌, true, false, eqb, List, get_or, set}
-use Rattle.std.proofs.Common.{length, refl, sym, ap, subst, ◌∙◌, arith, eqb-true, get_or-set_same, get_or-set_other}
-use Rattle.std.proofs.lemmas.Bool.Decides.{nat_tests}
+use Rattle.std.proofs.Common.{◌≡◌, ◌≢◌, ℕ, zero, suc, ◌+◌, ◌*◌, ◌/◌, ◌%◌, ◌<◌, ◌≤◌, List, get_or, set}
+use Rattle.std.proofs.Common.{length, refl, sym, ap, subst, ◌∙◌, arith, get_or-set_same, get_or-set_other}
 use Rattle.tagmem.specs.{declared.block.Block.Block, Blocks.{numbers_of, IsBlockAt}}
+use Rattle.tagmem.proofs.Blocks.{by_equal}
 use Rattle.tagmem.specs.Trees.{place_of, child_of, way, LeadsTo, AreKept, IsEnding, AreForward, AreTrees}
 
 -- from no block a way leads to none
@@ -48,11 +48,9 @@ module _ (links more : List ℕ) (kept : AreKept links more) where
 -- a list in which one link is set
 module _ (links : List ℕ) (place value : ℕ) (in_range : place < length links) where
   at_place : (p : ℕ) (P : ℕ → Type 0) → (p ≡ place → P value) → P (get_or links p 0) → P (get_or (set links place value) p 0)
-  at_place p P here there = elim (eqb p place) as (λ b. eqb p place ≡ b → P (get_or (set links place value) p 0)) [
-    | true ↦ λ same. let is = eqb-true p place same in
-        subst P (sym (ap (λ q. get_or (set links place value) q 0) is ∙ get_or-set_same links place value 0 in_range)) (here is)
-    | false ↦ λ differs. subst P (sym (get_or-set_other links place p value 0 (λ same. grind (arith, nat_tests)))) there
-  ] refl
+  at_place p P here there = by_equal p place _
+      (λ is. subst P (sym (ap (λ q. get_or (set links place value) q 0) is ∙ get_or-set_same links place value 0 in_range)) (here is))
+      (λ differs. subst P (sym (get_or-set_other links place p value 0 differs)) there)
 
   kept-set : get_or links place 0 ≡ 0 → AreKept links (set links place value)
   kept-set none p some = at_place p (λ n. n ≡ get_or links p 0) (λ is. absurd (some (ap (λ q. get_or links q 0) is ∙ none))) refl
@@ -66,18 +64,16 @@ module _ (numbers : List ℕ) (mask limit : ℕ) (roots links : List ℕ) (trees
   with_last more_roots more forward rooted kept_roots kept led = record {
     forward = forward;
     rooted = rooted;
-    leads = λ index lt. elim (eqb index limit) as (λ b. eqb index limit ≡ b
-        → LeadsTo more (get_or numbers index 0) (get_or more_roots (place_of mask (get_or numbers index 0)) 0) (suc index)) [
-          | true ↦ λ same. subst (λ i. LeadsTo more (get_or numbers i 0) (get_or more_roots (place_of mask (get_or numbers i 0)) 0) (suc i))
-              (sym (eqb-true index limit same)) (subst (λ n. LeadsTo more n (get_or more_roots (place_of mask n) 0) (suc limit)) number_is
-              (subst (λ p. LeadsTo more number (get_or more_roots p 0) (suc limit)) place_is led))
-          | false ↦ λ differs.
-              let old = trees.leads index (grind (arith, nat_tests)) in
-              let root = place_of mask (get_or numbers index 0) in
-              subst (λ r. LeadsTo more (get_or numbers index 0) r (suc index))
-              (sym (kept_roots root (λ none. leads_nowhere links _ _ index none old)))
-              (leads-kept links more kept (get_or numbers index 0) (get_or roots root 0) index old)
-        ] refl;
+    leads = λ index lt. by_equal index limit _
+        (λ same. subst (λ i. LeadsTo more (get_or numbers i 0) (get_or more_roots (place_of mask (get_or numbers i 0)) 0) (suc i)) (sym same)
+        (subst (λ n. LeadsTo more n (get_or more_roots (place_of mask n) 0) (suc limit)) number_is
+        (subst (λ p. LeadsTo more number (get_or more_roots p 0) (suc limit)) place_is led)))
+        (λ differs.
+        let old = trees.leads index (omega arith) in
+        let root = place_of mask (get_or numbers index 0) in
+        subst (λ r. LeadsTo more (get_or numbers index 0) r (suc index))
+        (sym (kept_roots root (λ none. leads_nowhere links _ _ index none old)))
+        (leads-kept links more kept (get_or numbers index 0) (get_or roots root 0) index old));
   }
 
   -- as a root

@@ -1,7 +1,7 @@
 -- A write inside a granule, whose block is there or is added.
 use Rattle.std.specs.FinMap.{from_entries}
 use Rattle.std.specs.FinMap as map
-use Rattle.std.proofs.Common.{◌≡◌, ◌≢◌, ℕ, ◌+◌, ◌*◌, ◌/◌, ◌%◌, ◌^◌, ◌<◌, ◌≤◌, Bool, true, false, cond, eqb, List, [], ◌∷◌, ◌++◌, length, get_or}
+use Rattle.std.proofs.Common.{◌≡◌, ℕ, ◌+◌, ◌*◌, ◌/◌, ◌%◌, ◌^◌, ◌<◌, ◌≤◌, Bool, true, false, cond, eqb, List, [], ◌∷◌, ◌++◌, length, get_or}
 use Rattle.std.proofs.Common.{set, All, Option, Some, None, unwrap_or, is_some, is_none, sym, refl, ap, subst, ◌∙◌, arith, eqb-true}
 use Rattle.std.proofs.{Common.{length-append}, Math.Seq.set-append_seam, lemmas.{Bool.Decides.nat_tests, List.Elements.All-push, Option.{none-some, same_Some}}}
 use Rattle.std.proofs.lemmas.List.{get_or-map, get_or_push}
@@ -9,8 +9,8 @@ use mir.Val.{bool_byte}
 use Rattle.tagmem.specs.{declared.block.Block.Block, Blocks.{slots_of, bytes_in_slot, contents_of, numbers_of}}
 use Rattle.tagmem.specs.{Blocks.{AreDistinct, ArePaged, IsAbsent, IsBlockAt}, Pages.IsWith}
 use Rattle.tagmem.specs.Granules.{Entry, Granules, blank, entry_at, bytes_at, overwritten, with_write, HasRoom, IsCodeFor, IsStored, AreStored, NonePut}
-use Rattle.tagmem.proofs.Blocks.{get_read as get_block, get_absent, contents_of-set, numbers_of-set, numbers_of-push, AreDistinct-push, IsBlockAt-push, entries_of-push}
-use Rattle.tagmem.proofs.Granules.{get-put, len-put, len-put_new, get-put_same, get-put_other, IsStored-overwritten, IsStored-entry_at}
+use Rattle.tagmem.proofs.Blocks.{by_equal, get_read as get_block, get_absent, contents_of-set, numbers_of-set, numbers_of-push, AreDistinct-push, IsBlockAt-push, entries_of-push}
+use Rattle.tagmem.proofs.Granules.{get-put, len-put, len-put_new, get-put_same, IsStored-overwritten, IsStored-entry_at}
 
 -- a put keeps each entry a granule's
 AreStored-put : (old : Granules) (g : ℕ) (entry : Entry) → IsStored g entry → AreStored old → AreStored (map.insert old g entry)
@@ -24,11 +24,7 @@ AreStored-put old g entry here there q e at =
 
 -- what was not put by then was not before
 none_before : (old : Granules) (g : ℕ) (entry : Entry) (q : ℕ) → map.get (map.insert old g entry) q ≡ None → map.get old q ≡ None
-none_before old g entry q none =
-    elim (eqb q g) as (λ b. cond b (Some entry) (map.get old q) ≡ None → map.get old q ≡ None) [
-      | true ↦ λ put. absurd (none-some entry (sym put))
-      | false ↦ λ was. was
-    ] (sym (get-put old g entry q) ∙ none)
+none_before old g entry q none = grind (arith, nat_tests, get-put old g entry q)
 
 -- where nothing stood there is one entry more, and room for it
 one_more : (o : Option Entry) (n : ℕ) → cond (is_some o) n (n + 1) ≡ n + bool_byte (is_none o)
@@ -118,10 +114,7 @@ pub ArePaged-has : (blocks : List Block) (old new : ℕ → Bool) (page : ℕ) �
     → All (λ number. new (number / 32) ≡ true) (numbers_of blocks)
 ArePaged-has blocks old new page with paged i d lt =
     let own = get_or (numbers_of blocks) i d / 32 in
-    elim (eqb own page) as (λ b. eqb own page ≡ b → new own ≡ true) [
-      | true ↦ λ same. ap new (eqb-true own page same) ∙ with.0
-      | false ↦ λ differs. with.1 own (λ same. grind (arith, nat_tests)) ∙ paged.has i d lt
-    ] refl
+    by_equal own page _ (λ same. ap new same ∙ with.0) (λ differs. with.1 own differs ∙ paged.has i d lt)
 
 module _ (blocks : List Block) (index g : ℕ) (first block : Block) (tag : Bool) (byte_index : ℕ) (bytes : List ℕ) (code : ℕ)
     (added : IsAdded blocks index g first block tag byte_index bytes code) where
@@ -173,15 +166,9 @@ module _ (blocks : List Block) (index g : ℕ) (first block : Block) (tag : Bool
       used page is none =
           let put : NonePut (with_write (contents_of blocks) g tag byte_index bytes code) (256 * page) (256 * page + 256) =
           subst (λ m. NonePut m (256 * page) (256 * page + 256)) contents_of-add none in
-          elim (eqb page (g / 256)) as (λ b. eqb page (g / 256) ≡ b → ⊥) [
-            | true ↦ λ same.
-                let here = eqb-true page (g / 256) same in
-                none-some _ (sym (put g (omega arith) (omega arith)) ∙ get-put_same (contents_of blocks) g _)
-            | false ↦ λ differs.
-                let apart : page ≢ g / 256 = λ same. grind (arith, nat_tests) in
-                paged.used page (sym (with.1 page apart) ∙ is) (λ q le lt.
-                sym (get-put_other (contents_of blocks) g _ q (λ same. apart (omega arith))) ∙ put q le lt)
-          ] refl
+          by_equal page (g / 256) _
+          (λ here. none-some _ (sym (put g (omega arith) (omega arith)) ∙ get-put_same (contents_of blocks) g _))
+          (λ apart. paged.used page (sym (with.1 page apart) ∙ is) (λ q le lt. none_before (contents_of blocks) g _ q (put q le lt)))
 
   pub AreStored-add : g < 2 ^ 60 → byte_index + length bytes ≤ 16 → All (λ byte. byte < 256) bytes → code < 2 ^ 64 → IsCodeFor tag code
       → AreStored (contents_of blocks) → AreStored (contents_of (set (blocks ++ first ∷ []) index block))
