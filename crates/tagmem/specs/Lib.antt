@@ -7,5 +7,4 @@ pub mod ListLaws
 pub mod Orders
 pub mod Pages
 pub mod Regions
-pub mod Rooms
 pub mod Stores

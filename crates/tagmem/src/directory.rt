@@ -28,7 +28,7 @@ pub(crate) struct Directory {
 }
 
 impl Directory {
-    ghost use Rattle.tagmem.specs.{Directories.{IsRegionIn, there_in}, Rooms.{blocks_of, blocks_with}};
+    ghost use Rattle.tagmem.specs.Directories.{IsRegionIn, there_in, blocks_of, blocks_with};
 
     // Of no page. It takes no memory.
     pub(crate) fn new(alloc: Global) -> Directory

@@ -4,8 +4,8 @@ ghost use Rattle.std.specs.Prelude.{OnErr, slice_index, suc, vec_capacity};
 ghost use Rattle.std.specs.FinMap as map;
 ghost use Rattle.tagmem.specs.Blocks.{contents_of, numbers_of, AreDistinct, ArePaged, IsBlockAt, IsAbsent};
 ghost use Rattle.tagmem.specs.{Granules.{with_write, with_cap, with_bytes, AreStored, HasRoom}};
-ghost use Rattle.tagmem.specs.{Granules.{IsCodeFor, NonePut, IsNextPut}, Rooms.{HasRoomFor, blocks_of, blocks_with}};
-ghost use Rattle.tagmem.specs.{Directories.there_in, Trees.{AreTrees, place_of}};
+ghost use Rattle.tagmem.specs.{Granules.{IsCodeFor, NonePut, IsNextPut}, Directories.{HasRoomFor, blocks_of, blocks_with, there_in}};
+ghost use Rattle.tagmem.specs.{Trees.{AreTrees, place_of}};
 
 use crate::block::Block;
 use crate::directory::Directory;

@@ -37,7 +37,7 @@ pub(crate) struct Trees {
 }
 
 impl Trees {
-    ghost use Rattle.tagmem.specs.Rooms.{HasRoomFor};
+    ghost use Rattle.tagmem.specs.Directories.{HasRoomFor};
 
     // Of no block. They take no memory.
     pub(crate) fn new(alloc: Global) -> Trees

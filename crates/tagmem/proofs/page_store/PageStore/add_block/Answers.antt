@@ -2,8 +2,7 @@ use Rattle.std.specs.FinMap as map
 use Rattle.std.proofs.Common.{◌≡◌, ◌<◌, ◌∷◌, [], ◌++◌, ◌/◌, ◌%◌, length, get_or, set, All, refl, sym, ap, subst, ◌∙◌}
 use Rattle.std.proofs.{Common.{arith}, lemmas.List.{length-map, get_or_push, get_or_append_left, Elements.All-from_get_or}}
 use Rattle.tagmem.specs.{declared.{block.Block.Block, directory.Directory.Directory}, Blocks.{contents_of, IsAbsent}}
-use Rattle.tagmem.specs.{Blocks.{numbers_of}, Directories.{IsRegionIn, there_in}, Granules.with_write, Trees.AreTrees}
-use Rattle.tagmem.specs.Rooms.{HasRoomFor, blocks_of, blocks_with}
+use Rattle.tagmem.specs.{Blocks.{numbers_of}, Directories.{HasRoomFor, IsRegionIn, blocks_of, blocks_with, there_in}, Granules.with_write, Trees.AreTrees}
 use Rattle.tagmem.proofs.Writes.{IsAdded, numbers_of-add, length-add, AreDistinct-add, ArePaged-add, ArePaged-has, contents_of-add}
 use Rattle.tagmem.proofs.{Writes.{AreStored-add, len-add}, Blocks.get_absent, Indexes.OnErr-from, NextPut.none_in_page}
 use Rattle.tagmem.proofs.{Rooms.is_room, Ways.AreTrees-alike, Writes.IsWritten}

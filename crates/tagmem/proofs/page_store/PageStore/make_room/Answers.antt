@@ -1,5 +1,5 @@
 use Rattle.std.proofs.{Common.{length, ap, ◌∙◌, ◌≤◌, arith, vec_capacity}, lemmas.{Result.on_ok_weaker}}
-use Rattle.tagmem.specs.Rooms.{blocks_of, blocks_with}
+use Rattle.tagmem.specs.Directories.{blocks_of, blocks_with}
 use Rattle.tagmem.specs.{Blocks.numbers_of}
 use Rattle.tagmem.proofs.page_store.PageStore.make_room.Goals.{After-make_room-2}
 use Rattle.tagmem.proofs.page_store.PageStore.make_room.Goals as goal
