@@ -278,15 +278,12 @@ module _ (blocks : List Block) (known : AreDistinct (numbers_of blocks)) where
       let long = length-map blocks number_of in
       one_number (numbers_of blocks) known i index (omega (arith, lt, long)) (omega (arith, at.in_range, long)) (is ∙ sym at.has_number)
 
-  -- what stands in a granule is what its block says
-  pub get_present : (q index : ℕ) (d : Block) → IsBlockAt blocks (q / 8) index
-      → finite.get (contents_of blocks) q ≡ get_or (slots_of (get_or blocks index d)) (q % 8) None
-  get_present q index d at = get-contents_of blocks q ∙ found_present blocks q index d at (λ i lt is. one_index _ index i at lt is)
-
-  -- read there
+  -- what stands in a granule is what its block says, read there
   pub get_read : (q index : ℕ) (block : Block) → IsBlockAt blocks (q / 8) index → block ≡ get_or blocks index block
       → finite.get (contents_of blocks) q ≡ get_or (slots_of block) (q % 8) None
-  get_read q index block at read = get_present q index block at ∙ ap (λ (b : Block). get_or (slots_of b) (q % 8) None) (sym read)
+  get_read q index block at read =
+      get-contents_of blocks q ∙ found_present blocks q index block at (λ i lt is. one_index _ index i at lt is)
+      ∙ ap (λ (b : Block). get_or (slots_of b) (q % 8) None) (sym read)
 
   -- a put in its block changes that granule alone
   pub contents_of-set : (new d : Block) (index g : ℕ) (entry : Entry) → IsBlockAt blocks (g / 8) index → new.number ≡ g / 8

@@ -103,15 +103,6 @@ module _ (numbers : List ℕ) (mask limit : ℕ) (roots links : List ℕ) (trees
       (ends.goes_on (set links (2 * parent + side) (limit + 1)) limit kept
       (get_or-set_same links (2 * parent + side) (limit + 1) 0 ends.in_range ∙ omega arith)))
 
--- no block has trees where all links are none
-pub AreTrees-empty : (numbers : List ℕ) (mask : ℕ) (roots links : List ℕ) → ((place : ℕ) → get_or roots place 0 ≡ 0)
-    → ((place : ℕ) → get_or links place 0 ≡ 0) → AreTrees numbers mask 0 roots links
-AreTrees-empty numbers mask roots links no_roots no_links = record {
-  forward = record { after = λ place some. absurd (some (no_links place)); within = λ place. let none = no_links place in omega arith };
-  rooted = λ place. let none = no_roots place in omega arith;
-  leads = λ index lt. absurd (omega arith);
-}
-
 -- other places that have no root do as well
 pub AreTrees-places : (numbers : List ℕ) (mask new_mask limit : ℕ) (roots new_roots links : List ℕ)
     → ((place : ℕ) → get_or roots place 0 ≡ 0) → ((place : ℕ) → get_or new_roots place 0 ≡ 0)

@@ -1,8 +1,8 @@
 -- A write inside a granule, whose block is there or is added.
 use Rattle.std.specs.FinMap.{from_entries}
 use Rattle.std.specs.FinMap as map
-use Rattle.std.proofs.Common.{◌≡◌, ℕ, ◌+◌, ◌*◌, ◌/◌, ◌%◌, ◌^◌, ◌<◌, ◌≤◌, Bool, true, false, cond, eqb, List, [], ◌∷◌, ◌++◌, length, get_or}
-use Rattle.std.proofs.Common.{set, All, Option, Some, None, unwrap_or, is_some, is_none, sym, refl, ap, subst, ◌∙◌, arith, eqb-true}
+use Rattle.std.proofs.Common.{◌≡◌, ℕ, ◌+◌, ◌*◌, ◌/◌, ◌%◌, ◌^◌, ◌<◌, ◌≤◌, Bool, true, cond, List, [], ◌∷◌, ◌++◌, length, get_or}
+use Rattle.std.proofs.Common.{set, All, Option, Some, None, unwrap_or, is_some, is_none, sym, refl, ap, subst, ◌∙◌, arith}
 use Rattle.std.proofs.{Common.{length-append}, Math.Seq.set-append_seam, lemmas.{Bool.Decides.nat_tests, List.Elements.All-push, Option.{none-some, same_Some}}}
 use Rattle.std.proofs.lemmas.List.{get_or-map, get_or_push}
 use mir.Val.{bool_byte}
@@ -10,17 +10,14 @@ use Rattle.tagmem.specs.{declared.block.Block.Block, Blocks.{slots_of, bytes_in_
 use Rattle.tagmem.specs.{Blocks.{AreDistinct, ArePaged, IsAbsent, IsBlockAt}, Pages.IsWith}
 use Rattle.tagmem.specs.Granules.{Entry, Granules, blank, entry_at, bytes_at, overwritten, with_write, HasRoom, IsCodeFor, IsStored, AreStored, NonePut}
 use Rattle.tagmem.proofs.Blocks.{by_equal, get_read as get_block, get_absent, contents_of-set, numbers_of-set, numbers_of-push, AreDistinct-push, IsBlockAt-push, entries_of-push}
-use Rattle.tagmem.proofs.Granules.{get-put, len-put, len-put_new, get-put_same, IsStored-overwritten, IsStored-entry_at}
+use Rattle.tagmem.proofs.Granules.{get-put, len-put, len-put_new, get-put_same, get-put_other, IsStored-overwritten, IsStored-entry_at}
 
 -- a put keeps each entry a granule's
 AreStored-put : (old : Granules) (g : ℕ) (entry : Entry) → IsStored g entry → AreStored old → AreStored (map.insert old g entry)
-AreStored-put old g entry here there q e at =
-    elim (eqb q g) as (λ b. eqb q g ≡ b → IsStored q e) [
-      | true ↦ λ same.
-          let is = same_Some entry e (sym (ap (λ b. cond b (Some entry) (map.get old q)) same) ∙ sym (get-put old g entry q) ∙ at) in
-          subst (λ n. IsStored n e) (sym (eqb-true q g same)) (subst (IsStored g) is here)
-      | false ↦ λ differs. there q e (sym (ap (λ b. cond b (Some entry) (map.get old q)) differs) ∙ sym (get-put old g entry q) ∙ at)
-    ] refl
+AreStored-put old g entry here there q e at = by_equal q g _
+    (λ is. subst (λ n. IsStored n e) (sym is) (subst (IsStored g) (same_Some entry e
+    (sym (get-put_same old g entry) ∙ ap (map.get (map.insert old g entry)) (sym is) ∙ at)) here))
+    (λ differs. there q e (sym (get-put_other old g entry q differs) ∙ at))
 
 -- what was not put by then was not before
 none_before : (old : Granules) (g : ℕ) (entry : Entry) (q : ℕ) → map.get (map.insert old g entry) q ≡ None → map.get old q ≡ None

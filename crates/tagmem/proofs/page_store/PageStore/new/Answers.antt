@@ -1,7 +1,6 @@
 use Rattle.std.specs.FinMap as map
-use Rattle.std.proofs.{Common.{[], refl, sym, ◌∙◌, arith, nat_cmp}, lemmas.{Bool.false≢true, Option.none-some}}
+use Rattle.std.proofs.{Common.{refl, sym, ◌∙◌, arith, nat_cmp}, lemmas.{Bool.false≢true, Option.none-some}}
 use Rattle.tagmem.specs.Granules.{Entry}
-use Rattle.tagmem.proofs.Ways.{AreTrees-empty}
 use Rattle.tagmem.proofs.page_store.PageStore.new.Goals as goal
 
 pub invariant_of-result : goal.invariant_of-result
@@ -12,7 +11,11 @@ invariant_of-result c =
     let links = c.new-2.ensures.links in
     record {
       as_many = rw (none, links) refl;
-      found = rw (none, roots, links) (AreTrees-empty [] _ [] [] (λ place. refl) (λ place. refl));
+      found = rw (none, roots, links) (record {
+        forward = record { after = λ place some. absurd (some refl); within = λ place. omega arith };
+        rooted = λ place. omega arith;
+        leads = λ index lt. absurd (omega arith);
+      });
       distinct = rw none (λ i j d lt in_range. absurd (omega arith));
       paged = rw none (record {
         has = λ i d lt. absurd (omega arith);
