@@ -1,5 +1,5 @@
-use Rattle.std.proofs.{Common.{length, ap, ◌∙◌, ◌≤◌, arith, vec_capacity}, lemmas.{Result.on_ok_weaker}}
-use Rattle.tagmem.specs.Directories.{blocks_of, blocks_with}
+use Rattle.std.proofs.{Common.{length, ap, ◌∙◌, arith}}
+use Rattle.tagmem.specs.Directories.{blocks_of}
 use Rattle.tagmem.specs.{Blocks.numbers_of}
 use Rattle.tagmem.proofs.page_store.PageStore.make_room.Goals.{After-make_room-2}
 use Rattle.tagmem.proofs.page_store.PageStore.make_room.Goals as goal
@@ -38,12 +38,3 @@ invariant_of-self-2 c =
       few = rw same s.few;
       fits = rw same s.fits;
     }
-
-pub returns-clause-room : goal.returns-clause-room
-returns-clause-room c =
-    let fits : blocks_with c.args.self.now.directory c.args.there ≤ vec_capacity c.make_room.new.list =
-    omega (arith, c.in-Some.ensures, c.in_ok-make_room.ensures.ok) in
-    on_ok_weaker c.make_room-2.result (λ _. fits) c.make_room-2.ensures.ok
-
-pub returns-then-there-clause-only_new : goal.returns-then-there-clause-only_new
-returns-then-there-clause-only_new c = tt
