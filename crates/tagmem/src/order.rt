@@ -3,7 +3,7 @@
 //! A region has links to eight others: a link is one more than an index in the list, and 0 for none. From a region a
 //! way goes on to the child that the next octal digit of a number names, the highest first. So a way has no more steps
 //! than a number has digits, and all that is led to on a digit is less than all on a higher one.
-ghost use Rattle.std.specs.Prelude.{◌≡◌, ◌*◌, ◌+◌, ◌^◌, ◌<◌, ◌≤◌, ◌⊎◌, ℕ, IfSome, List, true, length, suc};
+ghost use Rattle.std.specs.Prelude.{◌≡◌, ◌*◌, ◌+◌, ◌^◌, ◌<◌, ◌≤◌, ◌⊎◌, ℕ, IfSome, List, false, length, suc, true};
 ghost use Rattle.tagmem.specs.Orders.{AreLinked, IsLeastUnder, IsStanding, above, IsUpTo, height_of};
 ghost use Rattle.tagmem.specs.Regions.{links_of, numbers_of};
 
@@ -110,7 +110,8 @@ fn own(number: u64, from: u64) -> Option<u64>
 #[tactic(auto, using(crate::proofs::Orders::above_rises))]
 fn ends_before(least: Option<u64>, prefix: u64, level: usize) -> bool
     requires { level < 18 }
-    ensures { result ≡ true → (number : ℕ) → prefix ≤ above level number → IsUpTo number least }
+    ensures before { result ≡ true → (number : ℕ) → prefix ≤ above level number → IsUpTo number least }
+    ensures not_before { result ≡ false → IfSome least (λ number. prefix ≤ above level number) }
 {
     match least {
         Some(number) => number >> (3 * level) < prefix,

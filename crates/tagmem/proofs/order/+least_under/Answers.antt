@@ -123,5 +123,5 @@ returns-then-ends_before t c = λ roots. (
       (c.loop-digit.invariant.under roots at under)
       (λ differs le.
       let on = on_digit t (goal.at.returns-then-ends_before t c).In-loop-digit roots at differs under in
-      c.ends_before.ensures c.if-ends_before.true n (omega (arith, on.has, le))),
+      c.ends_before.ensures.before c.if-ends_before.true n (omega (arith, on.has, le))),
 )
