@@ -103,16 +103,6 @@ module _ (numbers : List ℕ) (mask limit : ℕ) (roots links : List ℕ) (trees
       (ends.goes_on (set links (2 * parent + side) (limit + 1)) limit kept
       (get_or-set_same links (2 * parent + side) (limit + 1) 0 ends.in_range ∙ omega arith)))
 
--- other places that have no root do as well
-pub AreTrees-places : (numbers : List ℕ) (mask new_mask limit : ℕ) (roots new_roots links : List ℕ)
-    → ((place : ℕ) → get_or roots place 0 ≡ 0) → ((place : ℕ) → get_or new_roots place 0 ≡ 0)
-    → AreTrees numbers mask limit roots links → AreTrees numbers new_mask limit new_roots links
-AreTrees-places numbers mask new_mask limit roots new_roots links none new_none trees = record {
-  forward = trees.forward;
-  rooted = λ place. let is = new_none place in omega arith;
-  leads = λ index lt. absurd (leads_nowhere links _ _ index (none _) (trees.leads index lt));
-}
-
 -- numbers behind the limit don't matter, nor links that are none
 pub AreTrees-alike : (old new : List ℕ) (mask limit : ℕ) (roots links more : List ℕ)
     → ((index : ℕ) → index < limit → get_or new index 0 ≡ get_or old index 0)
