@@ -190,7 +190,6 @@ impl PageStore {
     // Writes bytes inside a granule from a byte index on, over zeros where it was never put, and sets
     // its tag and its code.
     #[inline(always)]
-    #[tactic(auto, using(crate::proofs::Blocks::get_absent))]
     fn put(
         &mut self,
         granule: u64,
