@@ -1,8 +1,8 @@
 -- A word and its sixteen bytes in memory: each gives the other back.
-use Rattle.std.specs.Int.{w128, from_le_bytes, byte_at}
+use Rattle.std.specs.Int.{w128, to_le_bytes, from_le_bytes, bytes_low_first, byte_at}
 use Rattle.std.specs.Int.Bits.{xor_assoc, xor_self, xor_zero_r}
 use Rattle.std.proofs.Common.{◌≡◌, ◌+◌, ◌*◌, ◌/◌, ◌%◌, ◌^◌, ◌<◌, ◌∷◌, ◌∙◌, ℕ, zero, suc, List, [], length, get_or, drop}
-use Rattle.std.proofs.Common.{sym, ap, refl, arith, lit<, div-one, pow-add, bit_xor}
+use Rattle.std.proofs.Common.{sym, ap, refl, arith, lit<, pow-suc, div-one, pow-add, bit_xor}
 use Rattle.std.proofs.{Math.Nat.{div-div-eq-div-mul, pow-zero, pow-succ'}, lemmas.List.{at_drop_more, at_drop_all}}
 use Rattle.std.proofs.lemmas.Nat.{xor_lt}
 use Rattle.cap_word.specs.{Memory.{low_bytes, number_of, memory_byte, memory_of, stored_word}, Word.null_word}
@@ -19,6 +19,18 @@ length-low_bytes (suc k) n = ap suc (length-low_bytes k (n / 256))
 pub byte_at_is : (i n : ℕ) → byte_at i n ≡ n / 256 ^ i % 256
 byte_at_is zero n = ap (λ (x : ℕ). x % 256) (sym (ap (λ (x : ℕ). n / x) (pow-zero 256) ∙ div-one n))
 byte_at_is (suc i) n = refl
+
+-- the bytes that std's conversion gives
+low_first : (k i n : ℕ) → bytes_low_first i k n ≡ low_bytes k (n / 256 ^ i)
+unfolding low_bytes
+low_first zero i n = refl
+low_first (suc k) i n =
+    let next : n / 256 ^ i / 256 ≡ n / 256 ^ suc i = div-div-eq-div-mul n (256 ^ i) 256 ∙ ap (λ (x : ℕ). n / x) (sym (pow-suc 256 i)) in
+    ap (λ x. x ∷ bytes_low_first (suc i) k n) (byte_at_is i n)
+    ∙ ap (λ x. n / 256 ^ i % 256 ∷ x) (low_first k (suc i) n ∙ ap (low_bytes k) (sym next))
+
+pub to_le_bytes_is : (n : ℕ) → to_le_bytes w128 n ≡ low_bytes 16 n
+to_le_bytes_is n = low_first 16 0 n ∙ ap (low_bytes 16) (ap (λ (x : ℕ). n / x) (pow-zero 256) ∙ div-one n)
 
 pub get_or-low_bytes : (k n i : ℕ) → i < k → get_or (low_bytes k n) i 0 ≡ n / 2 ^ (8 * i) % 256
 unfolding low_bytes

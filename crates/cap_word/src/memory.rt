@@ -4,7 +4,6 @@ ghost use Rattle.std.specs.Prelude.{◌≡◌, ◌<◌, ℕ, slice_index};
 ghost use Rattle.cap_word.specs.Memory.{memory_byte, memory_of, stored_word};
 
 use crate::word::{Word, null};
-use std::simd::prelude::*;
 
 /// The sixteen bytes of a word in memory, lowest first: its layout XOR that of NULL, so that NULL is
 /// sixteen zero bytes.
@@ -14,15 +13,7 @@ pub fn to_memory(word: Word) -> [u8; 16]
     ensures by_index { (i : ℕ) → i < 16 → slice_index result i ≡ memory_byte word.0 i }
     ensures reads_back { stored_word result ≡ word.0 }
 {
-    let stored = word.0 ^ null().0;
-    // As two numbers of one vector. By the bytes of one number, a log of loads and stores was measured to take longer, though
-    // fewer instructions.
-    u64x2::from_array([
-        (stored & 0xffff_ffff_ffff_ffff) as u64,
-        (stored >> 64) as u64,
-    ])
-    .to_le_bytes()
-    .to_array()
+    (word.0 ^ null().0).to_le_bytes()
 }
 
 /// The word that sixteen bytes of memory hold: the inverse of [`to_memory`].

@@ -1,19 +1,11 @@
-use Rattle.std.specs.Int.Bits.{and_mask}
-use Rattle.std.proofs.lemmas.Nat.{xor_lt}
-use Rattle.std.proofs.Common.{◌≡◌, ◌+◌, ◌*◌, ◌/◌, get_or, ap, ◌∙◌, arith, bit_and, bit_xor}
+use Rattle.std.proofs.Common.{ℕ, get_or, ap, ◌∙◌, arith, bit_xor}
 use Rattle.cap_word.specs.Memory.{low_bytes, stored_word}
-use Rattle.cap_word.proofs.Bytes.{get_or-memory_of, stored_word-memory_of}
+use Rattle.cap_word.proofs.Bytes.{to_le_bytes_is, get_or-memory_of, stored_word-memory_of}
 use Rattle.cap_word.proofs.memory.to_memory.Goals as goal
 
-pub overflow_cast-result-2 : goal.overflow_cast-result-2
-overflow_cast-result-2 c = omega (arith, xor_lt 128 c.args.word.0 c.null.result.0 (omega arith) (omega arith))
-
 written : goal.returns-clause-bytes
-unfolding low_bytes
-written c =
-    let n = bit_xor c.args.word.0 c.null.result.0 in
-    let whole : bit_and n 18446744073709551615 + 18446744073709551616 * (n / 18446744073709551616 + 0) ≡ n = omega (arith, and_mask n 64) in
-    ap (low_bytes 16) (whole ∙ ap (bit_xor c.args.word.0) c.null.ensures.value)
+written c = c.to_le_bytes.ensures ∙ to_le_bytes_is (bit_xor c.args.word.0 c.null.result.0)
+    ∙ ap (λ (x : ℕ). low_bytes 16 (bit_xor c.args.word.0 x)) c.null.ensures.value
 
 pub returns-clause-bytes : goal.returns-clause-bytes
 returns-clause-bytes c = written c
