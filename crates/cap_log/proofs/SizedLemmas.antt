@@ -1,8 +1,8 @@
 -- Sizes and values behind them: what the readers' answers mean.
-use Rattle.std.proofs.Common.{Bool, ◌≡◌, ℕ, zero, suc, ◌+◌, ◌*◌, ◌-◌, ◌≤◌, List, ◌∷◌, ◌++◌, length, take, drop}
-use Rattle.std.proofs.Common.{not, eqb, inl, inr, sym, ap, subst, ◌∙◌, arith, decimal, append_assoc}
-use Rattle.std.proofs.{Common.{length-append, take_all}, lemmas.Bool.Decides.eqb_tells}
-use Rattle.std.proofs.lemmas.Fmt.{decimal_injective}
+use Rattle.std.specs.{Int.from_le_bytes}
+use Rattle.std.proofs.Common.{Bool, ◌≡◌, ℕ, zero, suc, ◌+◌, ◌*◌, ◌-◌, ◌%◌, ◌<◌, ◌≤◌, List, [], ◌∷◌, ◌++◌, length, take, drop}
+use Rattle.std.proofs.Common.{get_or, not, eqb, inl, inr, sym, ap, subst, ◌∙◌, arith, decimal, append_assoc, refl, w16, w32}
+use Rattle.std.proofs.{Common.{length-append, take_all}, lemmas.{Bool.Decides.eqb_tells, Fmt.{decimal_digit, decimal_injective}}}
 use Rattle.cap_word.specs.Digits.{hex_digits}
 use Rattle.cap_word.proofs.DigitLemmas.{length-hex_digits}
 use Rattle.cap_log.specs.Parts.{Begins, BeginsWithNone, accessed_spelling, value_mark}
@@ -27,6 +27,33 @@ accessed_cut is_load datum end bytes rest fits e =
       e ∙ append_assoc (decimal datum.size) (32 ∷ (value_mark is_load ++ digits)) (end ∷ rest)
           ∙ ap (λ (bs : List ℕ). decimal datum.size ++ 32 ∷ bs) (append_assoc (value_mark is_load) digits (end ∷ rest)),
     )
+
+-- a digit and a byte behind it, by the number of two bytes
+pub digit_by_two : (bytes : List ℕ) (word end digit : ℕ) → 2 ≤ length bytes → ((i : ℕ) → get_or bytes i 0 < 256)
+    → word ≡ from_le_bytes w16 (take 2 bytes) → end < 256 → digit ≡ (word + (65536 - (48 + end * 256))) % 65536 → digit < 10
+    → bytes ≡ decimal digit ++ end ∷ drop 2 bytes
+digit_by_two [] word end digit long small word_is ended digit_is few = absurd (omega arith)
+digit_by_two (a ∷ []) word end digit long small word_is ended digit_is few = absurd (omega arith)
+digit_by_two (a ∷ b ∷ rest) word end digit long small word_is ended digit_is few =
+    let first : a ≡ 48 + digit = omega (arith, small 0, small 1) in
+    let second : b ≡ end = omega (arith, small 0, small 1) in
+    rw (first, second, decimal_digit digit few) refl
+
+-- a digit and the mark of a load behind it, by the number of four bytes
+pub digit_by_four : (bytes : List ℕ) (word digit : ℕ) → 4 ≤ length bytes → ((i : ℕ) → get_or bytes i 0 < 256)
+    → word ≡ from_le_bytes w32 (take 4 bytes) → digit ≡ (word + (4294967296 - 540876848)) % 4294967296 → digit < 10
+    → bytes ≡ decimal digit ++ 32 ∷ 61 ∷ 32 ∷ drop 4 bytes
+digit_by_four [] word digit long small word_is digit_is few = absurd (omega arith)
+digit_by_four (a ∷ []) word digit long small word_is digit_is few = absurd (omega arith)
+digit_by_four (a ∷ b ∷ []) word digit long small word_is digit_is few = absurd (omega arith)
+digit_by_four (a ∷ b ∷ c ∷ []) word digit long small word_is digit_is few = absurd (omega arith)
+digit_by_four (a ∷ b ∷ c ∷ d ∷ rest) word digit long small word_is digit_is few =
+    let whole : a + 256 * (b + 256 * (c + 256 * d)) ≡ 540876848 + digit = omega (arith, small 0, small 1, small 2, small 3) in
+    let first : a ≡ 48 + digit = omega (arith, small 0) in
+    let second : b ≡ 32 = omega (arith, small 1) in
+    let third : c ≡ 61 = omega (arith, small 2) in
+    let fourth : d ≡ 32 = omega arith in
+    rw (first, second, third, fourth, decimal_digit digit few) refl
 
 -- what stands before the value of a load, and of a store
 pub load_mark : (n : ℕ) (digits : List ℕ) → (n ≡ 0 → ⊥) → value_mark (not (eqb n 0)) ++ digits ≡ 61 ∷ 32 ∷ digits

@@ -118,7 +118,7 @@ fn digits_within(bytes: &[u8], most: usize) -> (u64, usize)
 // What moves so many digits at the front of four bytes to their end.
 const SHIFTS: [u32; 5] = [0, 1 << 24, 1 << 16, 1 << 8, 1];
 
-// The same of four bytes, taken as one number: without a branch on how many are digits, which is seldom guessed right.
+// The same of four bytes, taken as one number: without a branch on how many are digits, which often can't be predicted.
 #[inline(always)]
 fn four_digits(front: &[u8; 4]) -> (u64, usize)
     ensures front { IsFrontNumber 4 front.now result.0 result.1 }

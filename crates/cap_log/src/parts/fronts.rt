@@ -25,11 +25,3 @@ pub fn are_four(bytes: &[u8; 4], text: &[u8; 4]) -> bool
 {
     u32::from_le_bytes(*bytes) == u32::from_le_bytes(*text)
 }
-
-/// Whether two bytes are these, compared as one number.
-#[inline(always)]
-pub fn are_two(bytes: &[u8; 2], text: &[u8; 2]) -> bool
-    ensures same { (result ≡ true) ↔ (bytes.now ≡ text.now) }
-{
-    u16::from_le_bytes(*bytes) == u16::from_le_bytes(*text)
-}

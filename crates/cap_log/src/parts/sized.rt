@@ -9,7 +9,7 @@ ghost use Rattle.cap_streams.specs.Written.{Writes};
 
 use crate::buffers::{put, put_few};
 use crate::parts::Part;
-use crate::parts::fronts::{are_four, are_two, strip_word};
+use crate::parts::fronts::strip_word;
 use cap_word::{number_text, take_bytes};
 use std::marker::Model;
 
@@ -38,13 +38,14 @@ impl Size {
     pub fn new(bytes: u64) -> Option<Size>
         ensures size { MatchOption result (¬ IsDataSize bytes) (λ size. IsDataSize bytes × (size ≡ bytes)) }
     {
-        match bytes {
-            1 => Some(Size { bytes: 1 }),
-            2 => Some(Size { bytes: 2 }),
-            4 => Some(Size { bytes: 4 }),
-            8 => Some(Size { bytes: 8 }),
-            _ => None,
+        // Eight bytes are the most usual. No branch tells the other sizes apart: which it is can seldom be predicted.
+        if bytes == 8 {
+            return Some(Size { bytes: 8 });
         }
+        if bytes == 0 || bytes == 3 || bytes > 4 {
+            return None;
+        }
+        Some(Size { bytes: bytes as u8 })
     }
 
     /// How many bytes.
@@ -175,45 +176,24 @@ fn put_value(buffer: &mut [u8], at: usize, size: Size, value: u64) -> usize
     }
 }
 
-// Takes a size, 1, 2, 4 or 8, a space, and `= ` where it is a load's. Eight bytes are the most usual.
+// Takes a size, a space, and `= ` where it is a load's, as one number.
 #[inline(always)]
 fn take_size<const IS_LOAD: bool>(bytes: &[u8]) -> Option<(u8, &[u8])>
     ensures some { IfSome result (λ p. Begins IsDataSize decimal 32 bytes.now p.0 (value_mark IS_LOAD ++ p.1.now)) }
     ensures none { IfNone result ((n : ℕ) (rest : List ℕ)
         → Begins IsDataSize decimal 32 bytes.now n (value_mark IS_LOAD ++ rest) → ⊥) }
 {
-    if let Some(rest) = strip_size::<IS_LOAD>(bytes, 8) {
-        return Some((8, rest));
-    }
-    if let Some(rest) = strip_size::<IS_LOAD>(bytes, 4) {
-        return Some((4, rest));
-    }
-    if let Some(rest) = strip_size::<IS_LOAD>(bytes, 2) {
-        return Some((2, rest));
-    }
-    let rest = strip_size::<IS_LOAD>(bytes, 1)?;
-    Some((1, rest))
-}
-
-// What follows this size and its mark, compared as one number.
-#[inline(always)]
-fn strip_size<const IS_LOAD: bool>(bytes: &[u8], size: u8) -> Option<&[u8]>
-    requires { size < 10 }
-    ensures some { IfSome result (λ rest. bytes.now ≡ decimal size ++ 32 ∷ (value_mark IS_LOAD ++ rest.now)) }
-    ensures none { IfNone result ((rest : List ℕ) → bytes.now ≡ decimal size ++ 32 ∷ (value_mark IS_LOAD ++ rest) → ⊥) }
-{
     if IS_LOAD {
         let (front, rest) = bytes.split_first_chunk::<4>()?;
-        if are_four(front, &[b'0' + size, b' ', b'=', b' ']) {
-            return Some(rest);
-        }
+        let digit = u32::from_le_bytes(*front).wrapping_sub(u32::from_le_bytes(*b"0 = "));
+        let size = Size::new(u64::from(digit))?;
+        Some((size.bytes(), rest))
     } else {
         let (front, rest) = bytes.split_first_chunk::<2>()?;
-        if are_two(front, &[b'0' + size, b' ']) {
-            return Some(rest);
-        }
+        let digit = u16::from_le_bytes(*front).wrapping_sub(u16::from_le_bytes(*b"0 "));
+        let size = Size::new(u64::from(digit))?;
+        Some((size.bytes(), rest))
     }
-    None
 }
 
 // Takes a value of so many bytes, two digits for each, and the byte that ends it.

@@ -1,18 +1,8 @@
 use Rattle.std.specs.{Int.from_le_bytes}
-use Rattle.std.proofs.Common.{decimal, ◌≡◌, ℕ, ◌+◌, ◌-◌, ◌*◌, ◌%◌, ◌<◌, ◌≤◌, List, [], ◌∷◌, ◌++◌, length, take, drop, get_or, ap, refl, ◌∙◌, arith, rules, w16}
+use Rattle.std.proofs.Common.{decimal, ◌≡◌, ℕ, ◌+◌, ◌-◌, ◌*◌, ◌%◌, ◌<◌, List, ◌∷◌, ◌++◌, length, take, get_or, ap, ◌∙◌, arith, rules, w16}
 use Rattle.std.proofs.lemmas.{Fmt.decimal_digit}
+use Rattle.cap_log.proofs.SizedLemmas.{digit_by_two}
 use Rattle.cap_log.proofs.parts.offsets.take_digit.Goals as goal
-
--- a digit and the end behind it, by the number of two bytes
-one_digit : (bytes : List ℕ) (word end digit : ℕ) → 2 ≤ length bytes → ((i : ℕ) → get_or bytes i 0 < 256)
-    → word ≡ from_le_bytes w16 (take 2 bytes) → end < 256 → digit ≡ (word + (65536 - (48 + end * 256))) % 65536 → digit < 10
-    → bytes ≡ decimal digit ++ end ∷ drop 2 bytes
-one_digit [] word end digit long small word_is ended digit_is few = absurd (omega arith)
-one_digit (a ∷ []) word end digit long small word_is ended digit_is few = absurd (omega arith)
-one_digit (a ∷ b ∷ rest) word end digit long small word_is ended digit_is few =
-    let first : a ≡ 48 + digit = omega (arith, small 0, small 1) in
-    let second : b ≡ end = omega (arith, small 0, small 1) in
-    rw (first, second, decimal_digit digit few) refl
 
 -- such a digit at the front
 begins_so : (bytes rest : List ℕ) (n end : ℕ) → n < 10 → bytes ≡ decimal n ++ end ∷ rest → bytes ≡ (48 + n) ∷ end ∷ rest
@@ -26,7 +16,7 @@ pub returns-then-digit-lt10-clause-some : goal.returns-then-digit-lt10-clause-so
 returns-then-digit-lt10-clause-some c =
     let cut = c.in_ok-front.ensures.cases in (
       c.if-digit-lt10.true,
-      rw cut.1 (one_digit c.args.bytes.now c.from_le_bytes-word.result c.args.end _ (omega arith) (λ i. search rules)
+      rw cut.1 (digit_by_two c.args.bytes.now c.from_le_bytes-word.result c.args.end _ (omega arith) (λ i. search rules)
           (c.from_le_bytes-word.ensures ∙ ap (λ (l : List ℕ). from_le_bytes w16 l) cut.0) (omega arith)
           (ap (λ (least : ℕ). (c.from_le_bytes-word.result + (65536 - least)) % 65536) c.from_le_bytes.ensures) c.if-digit-lt10.true),
     )
