@@ -2,20 +2,20 @@
 
 #![tactic(auto, unfolding(cap_log::specs::Lines::spelling))]
 
-ghost use Rattle.std.specs.Prelude.{◌≡◌, ◌∷◌, ◌++◌, IfSome, Ok};
+ghost use Rattle.std.specs.Prelude.{◌≡◌, ◌∷◌, ◌++◌, IfSome};
 ghost use Rattle.cap_log.specs.{Heads.{head_spelling, numbered_step, plain_step}, Lines.{IsInRange, spelling}, Parts.{Begins, result_spelling}};
+ghost use Rattle.cap_log.specs.declared.kinds.Step.TheVariants as steps;
 ghost use Rattle.cap_log.specs.declared.lines.Line.TheVariants as lines;
-ghost use Rattle.cap_machine.specs.{Changes.result_in, Helds.{EndsBy, state_of}, States.{State, untagged_null}};
-ghost use Rattle.cap_machine.specs.Steps.{Recorded.Written, Row, row_of};
+ghost use Rattle.cap_machine.specs.{Changes.Gives, States.{State, untagged_null}, Steps.{Recorded.Written, Row, row_of}};
 
-use cap_log::kinds::{Numbered, Plain};
-use cap_log::{Part, Register, Target, strip_result};
-use cap_machine::{Machine, Operation};
+use cap_log::kinds::{LoadCap, Numbered, Plain};
+use cap_log::{Offset, Part, Register, Target, strip_result};
+use cap_machine::{Derivation, Machine};
 use cap_word::{Cap, Word};
 use tagmem::TaggedStore;
 
 /// A kind of step whose line ends with a result that is quickly derived.
-pub(crate) trait Derived: Operation {
+pub(crate) trait Derived: Derivation {
     /// What stands before the result.
     type Before: Part + Copy;
 
@@ -51,28 +51,49 @@ impl<const WHAT: u8> Derived for Numbered<WHAT> {
     }
 }
 
-/// Takes the operands after a head and its space with the line feed, as `take` does, where they record what the machine
-/// derives: the step, that capability and what follows. `None` says nothing.
+impl Derived for LoadCap {
+    type Before = (Target, (Register, Offset));
+
+    ghost row = { λ before state. row_of state (steps.LoadCap (record {
+      target = before.0;
+      authority = before.1.0;
+      offset = before.1.1;
+      result = untagged_null;
+    })) };
+
+    #[inline(always)]
+    fn recording((target, (authority, offset)): Self::Before, recorded: Cap) -> Self {
+        LoadCap {
+            target,
+            authority,
+            offset,
+            result: recorded,
+        }
+    }
+}
+
+/// Takes the operands after a head and its space with the line feed, as `take` does, where they record what the step
+/// gives: the step, that capability with its origin's code, and what follows. `None` says nothing.
 #[inline(always)]
 pub(crate) fn glance<'a, M: TaggedStore, D: Derived>(
-    machine: &Machine<M>,
+    machine: &mut Machine<M>,
     operands: &'a [u8],
-) -> Option<(D, Cap, &'a [u8])>
+) -> Option<(D, (Cap, u64), &'a [u8])>
     ensures some { IfSome result (λ p. Begins IsInRange spelling 10 (head_spelling D.Operands.HEAD ++ 32 ∷ operands.now)
         (lines.Step (D.Operands.step p.0)) p.2.now) }
-    ensures derived { IfSome result (λ p. let row = row_of (state_of machine.now) (D.Operands.step p.0) in
-        EndsBy machine.now.rules row.checks (result_in row.writes) (Ok p.1)) }
+    ensures gives { IfSome result (λ p. Gives machine.old (D.Operands.step p.0) p.1.0 p.1.1) }
+    ensures same { machine.new ≡ machine.old }
 {
     let (before, others) = D::Before::take(operands, b' ')?;
     let nothing = Cap {
         tag: false,
         word: Word(0),
     };
-    let Ok(derived) = D::recording(before, nothing).outcome(machine.rules(), machine) else {
+    let Ok((given, code)) = D::recording(before, nothing).derive(machine) else {
         return None;
     };
-    let rest = strip_result(others, derived)?;
-    let step = D::recording(before, derived);
+    let rest = strip_result(others, given)?;
+    let step = D::recording(before, given);
     step.in_range();
-    Some((step, derived, rest))
+    Some((step, (given, code), rest))
 }

@@ -8,9 +8,9 @@ ghost use Rattle.cap_judge.specs.declared.judges.Due.TheVariants.{Body};
 ghost use Rattle.cap_judge.specs.Readings.{EndsBytes, IsFullAt, MakesSteps, TakesAll, TakesOne, at};
 
 use crate::recorded::{Derived, glance};
-use cap_log::kinds::{AndPerm, ClearTag, Move, SetAddr};
+use cap_log::kinds::{AndPerm, ClearTag, LoadCap, Move, SetAddr};
 use cap_log::{Head, Part};
-use cap_machine::{ByKind, Instruction, Machine, StepEnd, by_head, perform_ended};
+use cap_machine::{ByKind, Instruction, Machine, StepEnd, by_head};
 use cap_streams::LINE_LIMIT;
 use tagmem::TaggedStore;
 
@@ -125,6 +125,7 @@ fn take_step<'a, M: TaggedStore, const RARE: bool>(
             Head::ClearTag => return take_derived::<M, ClearTag>(machine, operands),
             Head::SetAddr => return take_derived::<M, SetAddr>(machine, operands),
             Head::AndPerm => return take_derived::<M, AndPerm>(machine, operands),
+            Head::LoadCap => return take_derived::<M, LoadCap>(machine, operands),
             _ => return by_head::<Machine<M>, AtFront<RARE>>(machine, head, operands),
         }
     }
@@ -145,10 +146,10 @@ fn take_derived<'a, M: TaggedStore, D: Derived>(
     if operands.len() < MOST_BYTES - MOST_HEAD_BYTES {
         return Ok(None);
     }
-    let Some((step, derived, rest)) = glance::<M, D>(machine, operands) else {
+    let Some((step, (given, code), rest)) = glance::<M, D>(machine, operands) else {
         return Ok(None);
     };
-    match perform_ended(step, Ok(derived), machine) {
+    match step.conclude(given, code, machine) {
         Ok(()) => Ok(Some(rest)),
         Err(end) => Err(end),
     }

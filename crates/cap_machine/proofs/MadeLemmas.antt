@@ -15,9 +15,10 @@ use Rattle.cap_log.specs.{declared.lines.Place.{Place, TheVariants.{Register, Gr
 use Rattle.tagmem.specs.Granules.{Entry, AreStored, bytes_at, overwritten}
 use Rattle.tagmem.proofs.Granules.{length-bytes_at, bytes_at_fit}
 use Rattle.cap_machine.specs.declared.{ends.StepEnd.{StepEnd, TheVariants.{Refused, NoMemory}}, rules.Rules.Rules}
+use Rattle.cap_machine.specs.{declared.instructions.OperationParts.OperationParts, Helds.EndsBy}
 use Rattle.cap_machine.specs.declared.rules.Rules.TheVariants.{One, TwoStrict, TwoClear}
 use Rattle.cap_machine.specs.Accounts.{Account, step_checks, with_step, named_by, row_in, naming, is_new}
-use Rattle.cap_machine.specs.{Accounts.{passes_granule_limit, most_steps}, Changes.{AnswersPut, Derives, EndsPut}}
+use Rattle.cap_machine.specs.{Accounts.{passes_granule_limit, most_steps}, Changes.{AnswersPut, Derives, EndsPut, IsOperation}}
 use Rattle.cap_machine.specs.Changes.{IsParentsCode, WritesRegister, code_for, is_same_cap, last_checks, rules_for}
 use Rattle.cap_machine.specs.Changes.{number_at, result_in, with_register, with_cap_put, with_value_put}
 use Rattle.cap_machine.specs.Helds.{Held, AnswersStep, Makes, EndsStep, state_of, code_in, account_of, checks_by}
@@ -179,7 +180,7 @@ module _ (old : Held) (step : Step) (target : ℕ) (recorded derived : Cap) (wri
 
   -- it is made
   pub concluded_made : (code stored : ℕ) → length old.registers ≡ 32 → length old.codes ≡ 32 → target ≤ 31
-      → IsParentsCode old step (Ok derived) code → stored ≡ code_for derived.tag code → not (is_same_cap recorded derived) ≡ false
+      → IsParentsCode old step derived code → stored ≡ code_for derived.tag code → not (is_same_cap recorded derived) ≡ false
       → old.steps < most_steps
       → Makes old step (record old {
         registers = set old.registers target recorded;
@@ -191,14 +192,29 @@ module _ (old : Held) (step : Step) (target : ℕ) (recorded derived : Cap) (wri
       (unnamed old (is_same_cap recorded derived) ∙ like_so like false (lt-leb most_steps old.steps few))
       (ap (λ (a : Account). record a { steps = a.steps + 1 }) (account-register old target derived (code_for derived.tag code) _
       sized coded_so low (origin-written old step (Register target) derived code (ap (λ (r : Row). r.writes) row_is)
-      (λ held. origin_by_code (code_in old) (row_of (state_of old) step).parent code (parents derived refl held))))) refl)
+      (λ held. origin_by_code (code_in old) (row_of (state_of old) step).parent code (parents held))))) refl)
 
--- its operation or access refuses it
-pub concluded_faulted : (old : Held) (step : Step) (target : ℕ) (recorded : Cap) (fault : OpFault)
-    → WritesRegister (state_of old) step target recorded → Derives old step (Err fault)
-    → EndsStep old step (Refused (refusal_of fault)) old
-concluded_faulted old step target recorded fault writes derives =
-    refused_first old step _ fault (written_row old step target recorded writes) derives
+-- an operation
+module _ (old : Held) (step : Step) (parts : OperationParts) (row : IsOperation (row_of (state_of old) step) parts) where
+  operation_writes : WritesRegister (state_of old) step parts.target parts.recorded
+  operation_writes = (ap (λ (r : Row). r.writes) row, ap (λ (r : Row). r.records) row)
+
+  -- it refuses the step
+  pub operation_faulted : (fault : OpFault) → let here = row_of (state_of old) step in
+      EndsBy old.rules here.checks (result_in here.writes) (Err fault) → EndsStep old step (Refused (refusal_of fault)) old
+  operation_faulted fault ends =
+      let here = row_of (state_of old) step in
+      refused_first old step _ fault (written_row old step parts.target parts.recorded operation_writes)
+      (subst (λ (access : Option Access). EndsBy (rules_for old.rules access) here.checks (result_in here.writes) (Err fault))
+      (sym (ap (λ (r : Row). r.access) row)) ends)
+
+  -- a result is tagged only if its source is
+  pub operation_keeps : (given : Cap) → IsStepInRange step → Derives old step (Ok given) → given.tag ≡ true
+      → (state_of old parts.source).tag ≡ true
+  operation_keeps given range derives held =
+      let within = subst (λ (parent : Option Place). WritesWithin (state_of old) parent (Some (Register parts.target, given)))
+      (ap (λ (r : Row). r.parent) row) (concluded_within old step parts.target parts.recorded given operation_writes derives range) in
+      within.from_tagged held
 
 -- a step that puts an entry into a granule
 module _ (old new : Held) (step : Step) (granule : ℕ) (checks : List (Bool × Refusal)) (value : Cap) (parent : Option Place)

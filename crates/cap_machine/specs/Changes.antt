@@ -60,16 +60,25 @@ abbrev pub rules_for : Rules → Option Access → Rules
 rules_for rules None = rules
 rules_for rules (Some access) = TwoStrict
 
--- the operation, or the access, gave this
+-- the operation, or the access, ends so
 abbrev pub Derives : Held → Step → Result Cap OpFault → Type 0
 Derives held step outcome =
     let row = row_of (state_of held) step in EndsBy (rules_for held.rules row.access) row.checks (result_in row.writes) outcome
 
--- where it gave a tagged result, this is the code of the origin of the place that the result comes from
-abbrev pub IsParentsCode : Held → Step → Result Cap OpFault → ℕ → Type 0
-IsParentsCode held step outcome code =
-    (derived : Cap) → outcome ≡ Ok derived → IsTrue derived.tag
-    → option_map (λ place. code_in held (key_of place)) (row_of (state_of held) step).parent ≡ Some code
+-- if a result is tagged, this is the code of the origin of the place that it comes from
+abbrev pub IsParentsCode : Held → Step → Cap → ℕ → Type 0
+IsParentsCode held step given code =
+    IsTrue given.tag → option_map (λ place. code_in held (key_of place)) (row_of (state_of held) step).parent ≡ Some code
+
+-- this is the code of a result
+abbrev pub IsCodeOf : Held → Step → Cap → ℕ → Type 0
+IsCodeOf held step given code = (parents : ℕ) × IsParentsCode held step given parents × (code ≡ code_for given.tag parents)
+
+-- the operation, or the access, gives this, and if it comes from memory, this is its code
+abbrev pub Gives : Held → Step → Cap → ℕ → Type 0
+Gives held step given code =
+    Derives held step (Ok given)
+    × ((granule : ℕ) → (row_of (state_of held) step).parent ≡ Some (Granule granule) → IsCodeOf held step given code)
 
 -- a row is that of this access through a register
 abbrev pub IsAccess : Row → ℕ → Kind → ℤ → ℕ → State → Type 0

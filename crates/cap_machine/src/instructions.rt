@@ -1,11 +1,12 @@
 //! The kinds of steps: what each does to a machine and shows of it, and what is done by the kind of a step. No other
 //! file of this crate's code names them.
 
-ghost use Rattle.std.specs.Prelude.{◌≡◌, List, ℕ, ◌∷◌, ◌++◌, IfSome, Some};
+ghost use Rattle.std.specs.Prelude.{◌≡◌, List, ℕ, ◌∷◌, ◌++◌, IfErr, IfOk, IfSome, IsTrue, Ok, Some};
 ghost use Rattle.cap_ops.specs.{Checks.Ends, Operations.clear_result};
 ghost use Rattle.cap_log.specs.{declared.kinds.Step.Step, Heads.head_spelling, Lines.{IsPlace, IsStepInRange}};
 ghost use Rattle.cap_log.specs.declared.lines.Place.TheVariants as PlaceIn;
-ghost use Rattle.cap_machine.specs.{Changes.{IsOperation, result_in}, Helds.{AnswersStep, EndsBy, state_of}};
+ghost use Rattle.cap_machine.specs.{Changes.{Derives, Gives, IsCodeOf, IsOperation, code_for, result_in}};
+ghost use Rattle.cap_machine.specs.{Helds.{AnswersStep, EndsBy, EndsStep, state_of}, Places.IsCoded};
 ghost use Rattle.cap_machine.specs.{Shown.{IsShown, needs_to_store, shown_of}, States.State};
 ghost use Rattle.cap_machine.specs.Steps.{granule_through, request_of, row_of, written_by};
 
@@ -62,6 +63,27 @@ pub trait Instruction: Operands {
         ensures in_range { IfSome result IsPlace };
 }
 
+/// A kind of step that gives a register a capability, which its line records.
+pub trait Derivation: Operands {
+    /// What it gives, whatever its line records, and if this comes from memory, the code of its granule's origin; or how
+    /// the step ends if a check of its operation or access fails. What the machine holds stays as it was.
+    fn derive<M: TaggedStore>(&self, machine: &mut Machine<M>) -> Result<(Cap, u64), StepEnd>
+        ensures gives { IfOk result (λ p. Gives machine.old (Self.step self.now) p.0 p.1) }
+        ensures end { IfErr result (λ end. EndsStep machine.old (Self.step self.now) end machine.old) }
+        ensures same { machine.new ≡ machine.old };
+
+    /// Makes the step, which gives this, as [`Instruction::perform`] does.
+    fn conclude<M: TaggedStore>(
+        self,
+        given: Cap,
+        code: u64,
+        machine: &mut Machine<M>,
+    ) -> Result<(), StepEnd>
+        requires gives { Gives machine.old (Self.step self) given code }
+        ensures outcome { AnswersStep machine.old (Self.step self) result machine.new }
+        ensures range { IsStepInRange (Self.step self) };
+}
+
 /// A kind of step that is an operation from a register to a register.
 pub trait Operation: Operands {
     /// Whether few lines of a log are of this kind.
@@ -84,6 +106,19 @@ pub trait Operation: Operands {
     fn clear<M: TaggedStore>(self, machine: &Machine<M>) -> Cap
         ensures clears { let row = row_of (state_of machine.now) (Self.step self) in
             result ≡ clear_result row.checks (result_in row.writes) };
+
+    /// The code of what it gives: its source's, or 0 if this has no tag.
+    #[inline(always)]
+    fn code<M: TaggedStore>(&self, given: Cap, machine: &Machine<M>) -> u64
+        requires derives { Derives machine.now (Self.step self.now) (Ok given) }
+        ensures code { IsCodeOf machine.now (Self.step self.now) given result }
+    {
+        if given.tag {
+            machine.codes[self.parts().source.number() as usize]
+        } else {
+            0
+        }
+    }
 
     /// How it ends by some rules: its result, or its first failed check.
     #[inline(always)]
@@ -130,6 +165,28 @@ impl OperationParts {
     }
 }
 
+impl<O: Operation> Derivation for O {
+    #[inline(always)]
+    fn derive<M: TaggedStore>(&self, machine: &mut Machine<M>) -> Result<(Cap, u64), StepEnd> {
+        self.parts();
+        let given = self.outcome(machine.rules, machine)?;
+        Ok((given, 0))
+    }
+
+    // The code is found here, so that none has to be kept while the line's result is compared.
+    #[inline(always)]
+    fn conclude<M: TaggedStore>(
+        self,
+        given: Cap,
+        _code: u64,
+        machine: &mut Machine<M>,
+    ) -> Result<(), StepEnd> {
+        let parts = self.parts();
+        let code = self.code(given, machine);
+        machine.conclude(&self, parts.target, given, parts.recorded, code)
+    }
+}
+
 impl<O: Operation> Instruction for O {
     const IS_RARE: bool = <O as Operation>::IS_RARE;
 
@@ -137,8 +194,9 @@ impl<O: Operation> Instruction for O {
 
     #[inline(always)]
     fn perform<M: TaggedStore>(self, machine: &mut Machine<M>) -> Result<(), StepEnd> {
-        let outcome = self.outcome(machine.rules, machine);
-        perform_ended(self, outcome, machine)
+        self.in_range();
+        let (given, code) = self.derive(machine)?;
+        self.conclude(given, code, machine)
     }
 
     fn shown<M: TaggedStore>(self, machine: &Machine<M>) -> Shown {
@@ -162,24 +220,6 @@ impl<O: Operation> Instruction for O {
     }
 }
 
-/// Makes a step of an operation that ends so by the machine's rules, as [`Instruction::perform`] does.
-#[inline(always)]
-pub fn perform_ended<O: Operation, M: TaggedStore>(
-    operation: O,
-    outcome: Result<Cap, OpFault>,
-    machine: &mut Machine<M>,
-) -> Result<(), StepEnd>
-    requires ends { let row = row_of (state_of machine.old) (O.step operation) in
-        EndsBy machine.old.rules row.checks (result_in row.writes) outcome }
-    ensures outcome { AnswersStep machine.old (O.step operation) result machine.new }
-    ensures range { IsStepInRange (O.step operation) }
-{
-    operation.in_range();
-    let parts = operation.parts();
-    let code = machine.codes[parts.source.number() as usize];
-    machine.conclude(&operation, parts.target, outcome, parts.recorded, code)
-}
-
 impl<const IS_CLEARING: bool> Operation for Plain<IS_CLEARING> {
     #[inline(always)]
     fn parts(self) -> OperationParts {
@@ -198,6 +238,17 @@ impl<const IS_CLEARING: bool> Operation for Plain<IS_CLEARING> {
             clear_tag(source)
         } else {
             source
+        }
+    }
+
+    // Without a branch on the tag, which can't be predicted in many logs.
+    #[inline(always)]
+    fn code<M: TaggedStore>(&self, _given: Cap, machine: &Machine<M>) -> u64 {
+        machine.kept();
+        if IS_CLEARING {
+            0
+        } else {
+            machine.codes[self.source.number() as usize]
         }
     }
 }
@@ -277,13 +328,44 @@ impl<const IS_UNSEALING: bool> Operation for Authorized<IS_UNSEALING> {
     }
 }
 
+// The code of a result, by what it comes from and the code of this. The tag is mostly the same, but can't be predicted
+// itself in many logs.
+#[inline(always)]
+fn code_of(given: Cap, parent: Cap, code: u64) -> u64
+    requires keeps { IsTrue given.tag → IsTrue parent.tag }
+    requires coded { IsCoded parent.tag code }
+    ensures code { result ≡ code_for given.tag code }
+{
+    if given.tag == parent.tag { code } else { 0 }
+}
+
+impl Derivation for LoadCap {
+    #[inline(always)]
+    fn derive<M: TaggedStore>(&self, machine: &mut Machine<M>) -> Result<(Cap, u64), StepEnd> {
+        let address = machine.reach(self, self.authority, Kind::LoadCap, self.offset, 16)?;
+        machine.kept();
+        let (held, code) = machine.granule_with_code(address / 16);
+        let given = loaded(machine.register(self.authority.number()), held);
+        Ok((given, code_of(given, held, code)))
+    }
+
+    #[inline(always)]
+    fn conclude<M: TaggedStore>(
+        self,
+        given: Cap,
+        code: u64,
+        machine: &mut Machine<M>,
+    ) -> Result<(), StepEnd> {
+        machine.conclude(&self, self.target, given, self.result, code)
+    }
+}
+
 impl Instruction for LoadCap {
     #[inline(always)]
     fn perform<M: TaggedStore>(self, machine: &mut Machine<M>) -> Result<(), StepEnd> {
-        let address = machine.reach(&self, self.authority, Kind::LoadCap, self.offset, 16)?;
-        let (granule, code) = machine.granule_with_code(address / 16);
-        let derived = loaded(machine.register(self.authority.number()), granule);
-        machine.conclude(&self, self.target, Ok(derived), self.result, code)
+        self.in_range();
+        let (given, code) = self.derive(machine)?;
+        self.conclude(given, code, machine)
     }
 
     fn shown<M: TaggedStore>(self, machine: &Machine<M>) -> Shown {

@@ -20,7 +20,7 @@ mod shown;
 
 pub use crate::ends::StepEnd;
 pub use crate::instructions::{
-    ByKind, Instruction, Operation, OperationParts, by_head, perform_ended,
+    ByKind, Derivation, Instruction, Operation, OperationParts, by_head,
 };
 pub use crate::laws::{
     accesses_lie_inside, authority_never_grows, bounds_are_cleared_exactly, origins_are_roots,

@@ -2,7 +2,7 @@
 //! declared and steps are made, and its accesses to memory.
 
 ghost use Rattle.std.specs.Prelude.{◌≡◌, ◌↔◌, ◌<◌, ◌≤◌, ◌+◌, ◌-◌, ◌/◌, ◌%◌, ◌^◌, not, is_some, MatchResult, OnOk, OnErr};
-ghost use Rattle.std.specs.Prelude.{IfSome, IfOk, IsTrue, None, Err, true, false};
+ghost use Rattle.std.specs.Prelude.{IfSome, IfOk, IsTrue, None, Ok, Err, true, false};
 ghost use Rattle.std.specs.FinMap as map;
 ghost use Rattle.cap_word.specs.Memory.{low_bytes, memory_of};
 ghost use Rattle.cap_bounds.specs.Bounds.{IsSound};
@@ -11,7 +11,7 @@ ghost use Rattle.cap_log.specs.Lines.{IsPlace, IsStepInRange, IsTarget};
 ghost use Rattle.tagmem.specs.Granules.{AreStored, HasRoom, IsCodeFor, IsNextPut, bytes_at, with_bytes};
 ghost use Rattle.tagmem.specs.Granules.{with_cap};
 ghost use Rattle.cap_machine.specs.Accounts.{granule_of, is_new, limits_of, no_account, passes_granule_limit, root_checks};
-ghost use Rattle.cap_machine.specs.Changes.{AnswersPut, Derives, IsAccess, IsParentsCode, Placed, WritesRegister};
+ghost use Rattle.cap_machine.specs.Changes.{AnswersPut, Derives, IsAccess, IsCodeOf, Placed, WritesRegister};
 ghost use Rattle.cap_machine.specs.Changes.{address_in, is_past_limits, number_at, with_cap_put, with_value_put};
 ghost use Rattle.cap_machine.specs.{Escapes.{ClearsBeyond, Escapes}, Helds.{AnswersStep, EndsRoot, EndsStep, IsFull, IsKept}};
 ghost use Rattle.cap_machine.specs.Helds.{TakesRoot, account_of, code_in, state_of};
@@ -26,7 +26,7 @@ use crate::rules::Rules;
 use crate::shown::{Reached, Shown};
 use cap_bounds::sound;
 use cap_log::{Datum, Offset, Operands, Place, Register, Size, Step, Target};
-use cap_ops::{Access, Kind, OpFault, RecentAuthority, Refusal, may_access_soundly};
+use cap_ops::{Access, Kind, RecentAuthority, Refusal, may_access_soundly};
 use cap_word::{Cap, Word, from_memory, null, to_memory};
 use std::marker::Model;
 use tagmem::{NoMemory, TaggedStore};
@@ -460,25 +460,25 @@ impl<M: TaggedStore> Machine<M> {
         }
     }
 
-    // Ends a step that writes a register, from what its operation or access gave: refuses it, or writes what
-    // the log records, with its parent's code where it is tagged, and counts the step.
+    // Ends a step that gives a register a capability with this code: if its line records that capability, writes it and
+    // counts the step.
     #[inline(always)]
     pub(crate) fn conclude<O: Operands>(
         &mut self,
         step: &O,
         target: Target,
-        outcome: Result<Cap, OpFault>,
+        given: Cap,
         recorded: Cap,
         code: u64,
     ) -> Result<(), StepEnd>
         requires writes { WritesRegister (state_of self.old) (O.step step.now) target recorded }
-        requires derives { Derives self.old (O.step step.now) outcome }
-        requires code { IsParentsCode self.old (O.step step.now) outcome code }
-        ensures { AnswersStep self.old (O.step step.now) result self.new }
+        requires derives { Derives self.old (O.step step.now) (Ok given) }
+        requires code { IsCodeOf self.old (O.step step.now) given code }
+        ensures outcome { AnswersStep self.old (O.step step.now) result self.new }
+        ensures range { IsStepInRange (O.step step.now) }
     {
         step.in_range();
-        let derived = outcome?;
-        if recorded != derived {
+        if recorded != given {
             return Err(StepEnd::Refused(Refusal::WrongResult));
         }
         if self.steps >= MOST_STEPS {
@@ -486,7 +486,7 @@ impl<M: TaggedStore> Machine<M> {
         }
         let target = target.number() as usize;
         overwrite(&mut self.registers[target], recorded);
-        self.codes[target] = if derived.tag { code } else { 0 };
+        self.codes[target] = code;
         self.steps += 1;
         Ok(())
     }
