@@ -13,12 +13,13 @@ ghost use Rattle.cap_halves.specs.PassedRuns.{IsStepFrom, derive_passed, drop_pa
 ghost use Rattle.cap_halves.specs.PassedRuns.{invoke_passed, object_passed};
 ghost use Rattle.capcheck_c.specs.RunLinesWritten.{AnswersRunLine, AnswersRunStep};
 
-use cap_halves::halves::word_of;
+use cap_halves::halves::{from_c, word_of};
 use cap_halves::run_steps::{
-    derive_from, drop_from, exchange_from, fill_from, free_from, invoke_from, object_from,
+    derive_from, drop_from, fill_from, free_from, invoke_from, object_from,
 };
 use cap_halves::values::{Capability, Halves, PassedPlace};
-use cap_run_log::{RunLine, RunPlace, RunStep, write_run_line};
+use cap_log::{Register, Target};
+use cap_run_log::{RunLine, RunPlace, RunStep, write_exchange, write_run_line};
 
 /// Writes the version line of a run log into the buffer.
 #[unsafe(no_mangle)]
@@ -71,8 +72,23 @@ pub extern "C" fn capcheck_line_exchange(
 ) -> usize
     ensures line { AnswersRunStep (Some (exchange_passed target source special recorded special_recorded)) buffer.old buffer.new result }
 {
-    let step = exchange_from(target, source, special, recorded, special_recorded);
-    put_run_step(step, buffer)
+    let Some(target) = Target::new(target) else {
+        return 0;
+    };
+    let Some(source) = Register::new(source) else {
+        return 0;
+    };
+    if special > 31 {
+        return 0;
+    }
+    write_exchange(
+        target.number(),
+        source.number(),
+        special as u8,
+        from_c(recorded),
+        from_c(special_recorded),
+        buffer,
+    )
 }
 
 /// Writes the line of a step `invoke` into the buffer: the registers of the code and of the datum, 0 to 31, and the words
@@ -127,6 +143,7 @@ pub extern "C" fn capcheck_line_free(buffer: &mut [u8; 96], register: u64, objec
 }
 
 // Writes the line of the step that C's numbers make. If they make none, it answers 0, and the buffer is as it was.
+#[inline(always)]
 fn put_run_step(step: Option<RunStep>, buffer: &mut [u8; 96]) -> usize
     requires range { IfSome step IsRunStepInRange }
     ensures line { (passed : Option StepIn) → IsStepFrom passed step → AnswersRunStep passed buffer.old buffer.new result }
