@@ -5,6 +5,7 @@ use Rattle.std.proofs.Common.{◌≡◌, ◌+◌, ◌*◌, ◌/◌, ◌%◌, ◌
 use Rattle.std.proofs.Common.{sym, ap, refl, arith, lit<, pow-suc, div-one, pow-add, bit_xor}
 use Rattle.std.proofs.{Math.Nat.{div-div-eq-div-mul, pow-zero, pow-succ'}, lemmas.List.{at_drop_more, at_drop_all}}
 use Rattle.std.proofs.lemmas.Nat.{xor_lt}
+use lib.Lanes.{digits_l}
 use Rattle.cap_word.specs.{Memory.{low_bytes, number_of, memory_byte, memory_of, stored_word}, Word.null_word}
 
 xor_twice : (a b : ℕ) → bit_xor (bit_xor a b) b ≡ a
@@ -95,6 +96,12 @@ from_le_bytes_is bytes h =
       step 15 (omega arith),
       number_of_end bytes h,
     )
+
+-- the lanes that std's conversion of a vector gives
+pub lanes_are : (k n : ℕ) → digits_l 256 k n ≡ low_bytes k n
+unfolding low_bytes
+lanes_are zero n = refl
+lanes_are (suc k) n = ap (λ rest. n % 256 ∷ rest) (lanes_are k (n / 256))
 
 -- a word's bytes hold the word
 pub stored_word-memory_of : (w : ℕ) → w < 2 ^ 128 → stored_word (memory_of w) ≡ w

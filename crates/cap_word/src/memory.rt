@@ -4,6 +4,7 @@ ghost use Rattle.std.specs.Prelude.{◌≡◌, ◌<◌, ℕ, slice_index};
 ghost use Rattle.cap_word.specs.Memory.{memory_byte, memory_of, stored_word};
 
 use crate::word::{Word, null};
+use std::simd::prelude::*;
 
 /// The sixteen bytes of a word in memory, lowest first: its layout XOR that of NULL, so that NULL is
 /// sixteen zero bytes.
@@ -13,7 +14,10 @@ pub fn to_memory(word: Word) -> [u8; 16]
     ensures by_index { (i : ℕ) → i < 16 → slice_index result i ≡ memory_byte word.0 i }
     ensures reads_back { stored_word result ≡ word.0 }
 {
-    (word.0 ^ null().0).to_le_bytes()
+    let stored = Word(word.0 ^ null().0);
+    u64x2::from_array([stored.address(), (stored.0 >> 64) as u64])
+        .to_le_bytes()
+        .to_array()
 }
 
 /// The word that sixteen bytes of memory hold: the inverse of [`to_memory`].
