@@ -1,7 +1,7 @@
 -- What an edit of a list of entries does to the map that it is.
 use Rattle.std.specs.{Cmp.nat_cmp_total, FinMap.{nat_cmp-IsAntisymmetric, same_map}}
 use Rattle.std.specs.FinMap as map
-use Rattle.std.proofs.Common.{◌≡◌, ℕ, zero, suc, cond, eqb, List, [], ◌∷◌, get_or, set, Some, sym, refl, ap, ◌∙◌, arith}
+use Rattle.std.proofs.Common.{◌≡◌, ℕ, zero, suc, cond, eqb, List, [], ◌∷◌, get_or, set, Some, refl, arith}
 use Rattle.std.proofs.{Common.insert, lemmas.Bool.Decides.nat_tests}
 use Rattle.tagmem.specs.{declared.list_store.Listed.Listed, ListLaws.{found, get-contents_of, NoneBefore}}
 use Rattle.tagmem.specs.{ListLaws.none_before_tail, Listed.{entry_of, contents_of, IsEntryAt}}
@@ -10,9 +10,7 @@ use Rattle.tagmem.proofs.Granules.{get-put}
 -- lists that differ at one granule are maps that differ there
 pub contents_of-put : (old new : List Listed) (x : Listed) → ((q : ℕ) → found new q
     ≡ cond (eqb q x.granule) (Some (entry_of x)) (found old q)) → contents_of new ≡ map.insert (contents_of old) x.granule (entry_of x)
-contents_of-put old new x h = same_map nat_cmp_total nat_cmp-IsAntisymmetric _ _ (λ q.
-    get-contents_of new q ∙ h q ∙ ap (cond (eqb q x.granule) (Some (entry_of x))) (sym (get-contents_of old q))
-    ∙ sym (get-put (contents_of old) x.granule (entry_of x) q))
+contents_of-put old new x h = same_map nat_cmp_total nat_cmp-IsAntisymmetric _ _ (λ q. grind (arith, get-contents_of, h q, get-put (contents_of old)))
 
 at_tail : (x : Listed) (l : List Listed) (k i : ℕ) → IsEntryAt (x ∷ l) k (suc i) → IsEntryAt l k i
 at_tail x l k i at = record { in_range = omega (arith, at.in_range); has_granule = at.has_granule }

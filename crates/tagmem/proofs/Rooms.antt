@@ -17,8 +17,7 @@ numbers_in (page ∷ pages) = range_with_len (32 * page) 32 ++ numbers_in pages
 length-numbers_in : (pages : List ℕ) → length (numbers_in pages) ≡ 32 * length pages
 length-numbers_in [] = refl
 length-numbers_in (page ∷ pages) =
-    let both = length-append (range_with_len (32 * page) 32) (numbers_in pages) in
-    omega (arith, both, length-range_with_len (32 * page) 32, length-numbers_in pages)
+    omega (arith, length-append (range_with_len (32 * page) 32) (numbers_in pages), length-range_with_len (32 * page) 32, length-numbers_in pages)
 
 in_page : (pages : List ℕ) (number : ℕ) → Contains pages (number / 32) → Contains (numbers_in pages) number
 in_page [] number (k, lt, is) = absurd (omega arith)

@@ -9,7 +9,7 @@ there_in directory = is_there directory.regions.items
 
 -- where the region with a number stands, or else its way ends
 abbrev pub IsRegionIn : Directory → ℕ → Result ℕ (ℕ × ℕ) → Type 0
-IsRegionIn directory = IsStanding (numbers_of directory.regions.items) (links_of directory.roots directory.regions.items)
+IsRegionIn directory = IsStanding (numbers_of directory.regions.items) (links_of directory.roots.items directory.regions.items)
 
 -- trees have room for so many blocks in all
 pub record HasRoomFor (trees : Trees) (many : ℕ) : Type 0 where

@@ -1,11 +1,11 @@
 -- Why the map that a list of entries is keeps the laws of a store.
-use Rattle.std.specs.Prelude.{◌≡◌, ℕ, suc, ◌+◌, ◌^◌, ◌<◌, ◌≢◌, true, false, cond, eqb, List, [], ◌∷◌, map, length}
-use Rattle.std.specs.{Prelude.{get_or, Option, Some, None, is_some, refl}, Cmp.{nat_cmp_total, unsigned_tied}}
+use Rattle.std.specs.Prelude.{◌≡◌, ℕ, suc, ◌^◌, ◌<◌, ◌≢◌, cond, eqb, List, [], ◌∷◌, map, length}
+use Rattle.std.specs.{Prelude.{get_or, Option, Some, None, refl}, Cmp.{nat_cmp_total, unsigned_tied}}
 use Rattle.std.specs.{FinMap.{find, get-from_entries}, Ordering.nat_cmp}
 use Rattle.std.specs.FinMap as map
-use Rattle.std.proofs.{Common.{sym, ap, subst, ◌∙◌, arith}, lemmas.Bool.{eqb-true, Decides.nat_tests}}
+use Rattle.std.proofs.{Common.{sym, ◌∙◌, arith}, lemmas.Bool.{Decides.nat_tests}}
 use Rattle.std.proofs.lemmas.{List.{length-map, Elements.{All-head, All-tail}}, Map.Keys.below_from_sorted}
-use Rattle.std.proofs.lemmas.{Map.Keys.sorted_from_strictly_increasing, Option.{none-some, same_Some}}
+use Rattle.std.proofs.lemmas.{Map.Keys.sorted_from_strictly_increasing, Option.{none-some}}
 use Rattle.tagmem.specs.{declared.list_store.Listed.Listed, Granules.{Entry, IsStored, AreStored}}
 use Rattle.tagmem.specs.Listed.{entry_of, keyed, contents_of, granules_of, AreApart, IsRising, AllStored}
 
@@ -20,8 +20,7 @@ found (x ∷ l) q = cond (eqb q x.granule) (Some (entry_of x)) (found l q)
 
 find-keyed : (l : List Listed) (q : ℕ) → find nat_cmp q (map keyed l) ≡ found l q
 find-keyed [] q = refl
-find-keyed (x ∷ l) q = ap (λ b. cond b (Some (entry_of x)) (find nat_cmp q (map keyed l))) (unsigned_tied q x.granule)
-    ∙ ap (cond (eqb q x.granule) (Some (entry_of x))) (find-keyed l q)
+find-keyed (x ∷ l) q = grind (arith, unsigned_tied q x.granule, find-keyed l q)
 
 -- the map has it
 pub get-contents_of : (l : List Listed) (q : ℕ) → map.get (contents_of l) q ≡ found l q
@@ -43,13 +42,9 @@ found_absent (x ∷ l) k none = grind (arith, nat_tests, none 0 (omega arith), f
 pub found_stored : (l : List Listed) → AllStored l → (q : ℕ) (entry : Entry) → found l q ≡ Some entry → IsStored q entry
 found_stored [] all q entry is = absurd (none-some entry is)
 found_stored (x ∷ l) all q entry is =
-    elim (eqb q x.granule) as (λ b. eqb q x.granule ≡ b → cond b (Some (entry_of x)) (found l q) ≡ Some entry → IsStored q entry) [
-      | true ↦ λ same here.
-          subst (λ granule. IsStored granule entry) (sym (eqb-true q x.granule same))
-          (subst (IsStored x.granule) (same_Some (entry_of x) entry here)
-          (All-head (λ listed. IsStored listed.granule (entry_of listed)) x l all))
-      | false ↦ λ differs later. found_stored l (All-tail (λ listed. IsStored listed.granule (entry_of listed)) x l all) q entry later
-    ] refl is
+    let here = All-head (λ listed. IsStored listed.granule (entry_of listed)) x l all in
+    let later = found_stored l (All-tail (λ listed. IsStored listed.granule (entry_of listed)) x l all) q entry in
+    grind (arith, nat_tests, here, later)
 
 -- so the map's entries are granules'
 pub AreStored-contents_of : (l : List Listed) → AllStored l → AreStored (contents_of l)
@@ -73,11 +68,8 @@ len-apart [] apart = map.len-empty nat_cmp Entry
 len-apart (x ∷ l) apart =
     let absent : found l x.granule ≡ None =
     found_absent l x.granule (λ j lt same. apart 0 (suc j) (omega arith) (omega arith) (sym same)) in
-    let tail : map.len (contents_of l) ≡ length l = len-apart l (λ i j lt in_range. apart (suc i) (suc j) (omega arith) (omega arith)) in
-    let added : map.len (contents_of (x ∷ l)) ≡ map.len (contents_of l) + 1 =
-    map.len-insert nat_cmp_total (contents_of l) x.granule (entry_of x)
-    ∙ ap (λ o. cond (is_some o) (map.len (contents_of l)) (map.len (contents_of l) + 1)) (get-contents_of l x.granule ∙ absent) in
-    omega arith
+    let tail = len-apart l (λ i j lt in_range. apart (suc i) (suc j) (omega arith) (omega arith)) in
+    grind (arith, tail, map.len-insert nat_cmp_total (contents_of l) x.granule (entry_of x), get-contents_of l x.granule)
 
 -- and so does one whose granules rise
 pub len-contents_of : (l : List Listed) → IsRising l → map.len (contents_of l) ≡ length l

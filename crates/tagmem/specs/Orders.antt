@@ -6,14 +6,22 @@ use Rattle.std.specs.Prelude.{⊤, List, [], length, Option, None, Some, Result,
 abbrev pub above : ℕ → ℕ → ℕ
 above digits number = number / 2 ^ (3 * digits)
 
--- how many digits the way of a number has
-abbrev pub height_of : ℕ → ℕ
-height_of number = cond (ltb number 262144) 6 (cond (ltb number 1073741824) 10 17)
+-- the slot of a number's root: its highest bits, ten of 10, 19, 28 or 40 or nine of 51, after the slots of shorter numbers
+abbrev pub slot_of : ℕ → ℕ
+slot_of number =
+    cond (ltb number 1024) number
+    (cond (ltb number 524288) (1024 + number / 512)
+    (cond (ltb number 268435456) (2048 + number / 262144)
+    (cond (ltb number 1099511627776) (3072 + number / 1073741824) (4096 + number / 4398046511104))))
 
--- a link is one more than the index of a region, and 0 for none. From 0 go the roots, each on its height, and from
--- another link those of its region, each on its digit
+-- how many digits are left after those bits
+abbrev pub digits_in : ℕ → ℕ
+digits_in slot = cond (ltb slot 1024) 0 (cond (ltb slot 2048) 3 (cond (ltb slot 3072) 6 (cond (ltb slot 4096) 10 14)))
+
+-- a link is one more than the index of a region, and 0 for none. From 0 go the roots, each on its slot, and from another
+-- link those of its region, each on its digit
 abbrev pub linked : List ℕ → List (List ℕ) → ℕ → ℕ → ℕ
-linked roots children zero height = slice_index roots height
+linked roots children zero slot = slice_index roots slot
 linked roots children (suc index) digit = slice_index (slice_index_or children index []) digit
 
 -- the way of a number's last digits from a link comes to the region at an index
@@ -24,12 +32,12 @@ leads links number (suc digits) (suc index) at = eqb index at || leads links num
 
 -- the whole way does
 abbrev pub leads_all : (ℕ → ℕ → ℕ) → ℕ → ℕ → Bool
-leads_all links number at = leads links number (height_of number) (links 0 (height_of number)) at
+leads_all links number at = leads links number (digits_in (slot_of number)) (links 0 (slot_of number)) at
 
--- what is linked from a link on a digit has so many digits left, and this above them: a root has its height and nothing,
--- and a child one digit less than its parent, and the digit after what that has
+-- what is linked from a link on a digit has so many digits left, and this above them: a root what its slot says, and a
+-- child one digit less than its parent, and the digit after what that has
 abbrev pub IsPlaced : List ℕ → (ℕ → ℕ) → ℕ → ℕ → ℕ → ℕ → Type 0
-IsPlaced numbers level_of zero height level prefix = (level ≡ height) × (prefix ≡ 0)
+IsPlaced numbers level_of zero slot level prefix = (level ≡ digits_in slot) × (prefix ≡ slot % 1024)
 IsPlaced numbers level_of (suc index) digit level prefix =
     (level_of index ≡ suc level) × (prefix ≡ 8 * above (suc level) (slice_index numbers index) + digit)
 
@@ -53,7 +61,7 @@ AreKept links more = (link digit : ℕ) → links link digit ≢ 0 → more link
 pub record IsEnding (numbers : List ℕ) (links : ℕ → ℕ → ℕ) (number link digit : ℕ) : Type 0 where
   pub absent : (at : ℕ) → at < length numbers → slice_index numbers at ≢ number
   pub in_range : link ≤ length numbers
-  pub height : digit < 18
+  pub slot : link ≡ 0 → digit < 4608
   pub octal : 0 < link → digit < 8
   pub none : links link digit ≡ 0
   pub goes_on : (more : ℕ → ℕ → ℕ) (at : ℕ) → AreKept links more → more link digit ≡ suc at → leads_all more number at ≡ true

@@ -1,11 +1,12 @@
 //! Which pages are there, in the order of their numbers.
-ghost use Rattle.std.specs.Prelude.{◌≡◌, ◌≢◌, ◌/◌, ◌*◌, ◌+◌, ◌^◌, ◌<◌, ◌≤◌, ℕ, true, false, Some, Err, IfSome, length};
+ghost use Rattle.std.specs.Prelude.{◌≡◌, ◌≢◌, ◌/◌, ◌*◌, ◌+◌, ◌^◌, ◌<◌, ◌≤◌, ℕ, true, false, Some, Err, IfSome, length, slice_index, vec_capacity};
 ghost use Rattle.std.specs.Prelude.{MatchOption, OnOk, OnErr, slice_index};
-ghost use Rattle.tagmem.specs.{Blocks.AreDistinct, Orders.{AreLinked, IsLeastFrom, IsLeastUnder, IsLinkedTo}};
+ghost use Rattle.tagmem.specs.{Blocks.AreDistinct, Orders.{AreLinked, IsLinkedTo}};
 ghost use Rattle.tagmem.specs.{Pages.{AreCounted, IsLeast, IsWith}, Regions.{is_there, links_of, numbers_of}};
 
-use crate::order::{find, least_under, lesser};
+use crate::order::{SLOTS, find, least_from};
 use crate::region::Region;
+use crate::room::make_room;
 use crate::store::NoMemory;
 use std::alloc::Global;
 
@@ -16,14 +17,14 @@ const FEWEST: usize = 4096;
 #[derive(Drop)]
 pub(crate) struct Directory {
     regions: Vec<Region>,
-    // The links to the first region of each height.
-    roots: [u32; 18],
-    // Where a region may stand, at the place that its number's low bits name. The places are none or a power of two.
-    hints: Vec<usize>,
+    // The links to the first region of each slot.
+    roots: Vec<u32>,
+    // Where the region stands to which a page was added last.
+    last: usize,
     // How many pages are there.
     count: usize,
     ghost distinct: { AreDistinct (numbers_of regions.items) },
-    ghost linked: { AreLinked (numbers_of regions.items) (links_of roots regions.items) },
+    ghost linked: { AreLinked (numbers_of regions.items) (links_of roots.items regions.items) },
     ghost counted: { AreCounted (is_there regions.items) count },
 }
 
@@ -37,8 +38,8 @@ impl Directory {
     {
         Directory {
             regions: Vec::new(alloc),
-            roots: [0; 18],
-            hints: Vec::new(alloc),
+            roots: Vec::new(alloc),
+            last: 0,
             count: 0,
         }
     }
@@ -52,31 +53,11 @@ impl Directory {
     {
         match self.first_in(page / 64, (page % 64) as u8) {
             Some(next) => Some(next),
-            None => match self.next_region(page / 64 + 1) {
+            None => match least_from(&self.regions, &self.roots, page / 64 + 1) {
                 Some(region) => self.first_in(region, 0),
                 None => None,
             },
         }
-    }
-
-    // The least region from a number on.
-    fn next_region(&self, from: u64) -> Option<u64>
-        ensures { IsLeastFrom (numbers_of self.now.regions.items) from result }
-    {
-        lesser(
-            lesser(self.least_at(from, 6), self.least_at(from, 10)),
-            self.least_at(from, 17),
-        )
-    }
-
-    // The least region from a number on to which the root of a height leads.
-    #[inline(always)]
-    fn least_at(&self, from: u64, height: usize) -> Option<u64>
-        requires { height < 18 }
-        ensures { IsLeastUnder (numbers_of self.now.regions.items) (links_of self.now.roots self.now.regions.items) from height
-            (slice_index self.now.roots height) 0 result }
-    {
-        least_under(&self.regions, from, height, self.roots[height], 0)
     }
 
     // The first page of a region, from a place on, that is there.
@@ -106,16 +87,14 @@ impl Directory {
         self.count.checked_add(usize::from(!there))?.checked_mul(32)
     }
 
-    // Where a region stands in the list, or where its way ends. It is mostly where its hint says.
+    // Where a region stands in the list, or where its way ends.
     #[inline(always)]
     pub(crate) fn region_at(&self, region: u64) -> Result<usize, (usize, usize)>
         requires { region < 2 ^ 51 }
         ensures { IsRegionIn self.now region result }
     {
-        let place = region as usize & self.hints.len().wrapping_sub(1);
-        let at = *self.hints.get(place).unwrap_or(&0);
-        match self.regions.get(at) {
-            Some(hinted) if hinted.number == region => Ok(at),
+        match self.regions.get(self.last) {
+            Some(last) if last.number == region => Ok(self.last),
             _ => find(&self.regions, &self.roots, region),
         }
     }
@@ -152,8 +131,7 @@ impl Directory {
         if there {
             return Ok(());
         }
-        let at = region.unwrap_or(self.regions.len());
-        set_hint(&mut self.hints, page / 64, at)?;
+        self.last = region.unwrap_or(self.regions.len());
         match region {
             Ok(at) => {
                 self.regions[at].add((page % 64) as u8);
@@ -178,6 +156,7 @@ impl Directory {
         let Ok(link) = u32::try_from(at + 1) else {
             return Err(NoMemory);
         };
+        make_room(&mut self.roots, SLOTS)?;
         let Ok(()) = self.regions.reserve((at + 1).max(FEWEST) - at) else {
             return Err(NoMemory);
         };
@@ -190,31 +169,31 @@ impl Directory {
 }
 
 // Links the end of a way.
-fn join(regions: &mut Vec<Region>, roots: &mut [u32; 18], end: (usize, usize), link: u32)
+fn join(regions: &mut Vec<Region>, roots: &mut Vec<u32>, end: (usize, usize), link: u32)
     requires in_range { end.0 ≤ length regions.old.items }
-    requires height { end.1 < 18 }
+    requires slot { end.0 ≡ 0 → end.1 < 4608 }
+    requires room { 4608 ≤ vec_capacity roots.old }
     requires digit { 0 < end.0 → end.1 < 8 }
     ensures numbers { numbers_of regions.new.items ≡ numbers_of regions.old.items }
     ensures there { (page : ℕ) → is_there regions.new.items page ≡ is_there regions.old.items page }
-    ensures linked { IsLinkedTo (links_of roots.old regions.old.items) (links_of roots.new regions.new.items) end.0 end.1 link }
+    ensures linked { IsLinkedTo (links_of roots.old.items regions.old.items) (links_of roots.new.items regions.new.items) end.0 end.1 link }
 {
     if end.0 == 0 {
-        roots[end.1] = link;
+        set_root(roots, end.1, link);
         return;
     }
     regions[end.0 - 1].lead(end.1, link);
 }
 
-// Sets the hint of a region. Where it stands at half of the places or beyond, there are four times as many first, from
-// 64 to 65,536. The other hints keep their places, and may be wrong then.
-fn set_hint(hints: &mut Vec<usize>, region: u64, at: usize) -> Result<(), NoMemory> {
-    let places = hints.len();
-    if places / 2 <= at && places < 65536 {
-        hints.resize((4 * places).max(64), 0).map_err(|_| NoMemory)?;
+// Sets the link in a slot, in a table that is made first, if it isn't yet.
+fn set_root(roots: &mut Vec<u32>, slot: usize, link: u32)
+    requires slot { slot < 4608 }
+    requires room { 4608 ≤ vec_capacity roots.old }
+    ensures own { slice_index roots.new.items slot ≡ link }
+    ensures others { (other : ℕ) → other ≢ slot → slice_index roots.new.items other ≡ slice_index roots.old.items other }
+{
+    if roots.len() <= slot {
+        let _made = roots.resize(SLOTS, 0);
     }
-    let place = region as usize & hints.len().wrapping_sub(1);
-    if let Some(hint) = hints.get_mut(place) {
-        *hint = at;
-    }
-    Ok(())
+    roots[slot] = link;
 }

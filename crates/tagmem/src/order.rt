@@ -1,45 +1,77 @@
 //! Where regions stand in a list, by their numbers, and which of them is next.
 //!
-//! A region has links to eight others: a link is one more than an index in the list, and 0 for none. From a region a
-//! way goes on to the child that the next octal digit of a number names, the highest first. So a way has no more steps
-//! than a number has digits, and all that is led to on a digit is less than all on a higher one.
-ghost use Rattle.std.specs.Prelude.{◌≡◌, ◌*◌, ◌+◌, ◌^◌, ◌<◌, ◌≤◌, ◌⊎◌, ℕ, IfSome, List, false, length, suc, true};
-ghost use Rattle.tagmem.specs.Orders.{AreLinked, IsLeastUnder, IsStanding, above, IsUpTo, height_of};
+//! The highest bits of a number name a slot in a table of roots. A region has links to eight others: a link is one more
+//! than an index in the list, and 0 for none. From a region a way goes on to the child that the next octal digit of a
+//! number names, the highest first. So a way has no more steps than a number has digits after those bits, and all that
+//! is led to from a slot, or on a digit, is less than all from a higher one.
+ghost use Rattle.std.specs.Prelude.{◌≡◌, ◌*◌, ◌+◌, ◌^◌, ◌<◌, ◌≤◌, ◌⊎◌, ℕ, IfSome, List, false, length, slice_index, suc, true};
+ghost use Rattle.tagmem.specs.Orders.{AreLinked, IsLeastFrom, IsLeastUnder, IsStanding, above, IsUpTo, digits_in, slot_of};
 ghost use Rattle.tagmem.specs.Regions.{links_of, numbers_of};
 
 use crate::region::Region;
 
-// How many digits a way has: few for short numbers, so that it doesn't begin with many zeros.
+// How many slots there are: 1,024 for the numbers of each of four lengths, and 512 for longer ones.
+pub(crate) const SLOTS: usize = 4608;
+
+// The slot of a number: its highest ten bits of 10, 19, 28 or 40, or nine of 51.
 #[inline(always)]
-pub(crate) fn height(number: u64) -> usize
-    ensures value { result ≡ height_of number }
+fn slot(number: u64) -> usize
+    requires { number < 2 ^ 51 }
+    ensures value { result ≡ slot_of number }
+    ensures small { result < 4608 }
+{
+    if number < 1 << 10 {
+        number as usize
+    } else if number < 1 << 19 {
+        1024 + (number >> 9) as usize
+    } else if number < 1 << 28 {
+        2048 + (number >> 18) as usize
+    } else if number < 1 << 40 {
+        3072 + (number >> 30) as usize
+    } else {
+        4096 + (number >> 42) as usize
+    }
+}
+
+// How many digits a way from a slot has.
+#[inline(always)]
+fn digits(slot: usize) -> usize
+    ensures value { result ≡ digits_in slot }
     ensures small { result < 18 }
 {
-    if number < 1 << 18 {
-        6
-    } else if number < 1 << 30 {
-        10
-    } else {
-        17
+    match slot / 1024 {
+        0 => 0,
+        1 => 3,
+        2 => 6,
+        3 => 10,
+        _ => 14,
+    }
+}
+
+// The link in a slot. A table that isn't made yet has none.
+#[inline(always)]
+fn link_in(roots: &[u32], slot: usize) -> u32
+    ensures { result ≡ slice_index roots.now slot }
+{
+    match roots.get(slot) {
+        Some(link) => *link,
+        None => 0,
     }
 }
 
 // Where the region with a number stands, or else the link to the last region on its way and the digit on which that
-// leads to none. Where the way has no root, the link is 0, and its height stands for the digit.
-pub(crate) fn find(
-    regions: &[Region],
-    roots: &[u32; 18],
-    number: u64,
-) -> Result<usize, (usize, usize)>
+// leads to none. Where the slot has no root, the link is 0, and the slot stands for the digit.
+pub(crate) fn find(regions: &[Region], roots: &[u32], number: u64) -> Result<usize, (usize, usize)>
     requires small { number < 2 ^ 51 }
     requires linked { AreLinked (numbers_of regions.now) (links_of roots.now regions.now) }
     ensures { IsStanding (numbers_of regions.now) (links_of roots.now regions.now) number result }
 {
-    let mut level = height(number);
-    let root = roots[level];
+    let first = slot(number);
+    let root = link_in(roots, first);
     if root == 0 {
-        return Err((0, level));
+        return Err((0, first));
     }
+    let mut level = digits(first);
     let mut index = root as usize - 1;
     loop {
         let region = &regions[index];
@@ -53,6 +85,36 @@ pub(crate) fn find(
             return Err((index + 1, digit));
         }
         index = child as usize - 1;
+    }
+}
+
+// The least number of a region from one on.
+pub(crate) fn least_from(regions: &[Region], roots: &[u32], from: u64) -> Option<u64>
+    requires small { from < 2 ^ 51 }
+    requires linked { AreLinked (numbers_of regions.now) (links_of roots.now regions.now) }
+    ensures { IsLeastFrom (numbers_of regions.now) from result }
+{
+    let mut least = None;
+    for next in slot(from)..SLOTS {
+        if is_before(least, next) {
+            return least;
+        }
+        let link = link_in(roots, next);
+        let under = least_under(regions, from, digits(next), link, next as u64 % 1024);
+        least = lesser(least, under);
+    }
+    least
+}
+
+// Whether a number is there that is less than all from a slot on.
+#[tactic(auto, using(crate::proofs::Orders::slot_rises))]
+fn is_before(least: Option<u64>, next: usize) -> bool
+    requires { IfSome least (λ number. number < 2 ^ 51) }
+    ensures before { result ≡ true → (number : ℕ) → next ≤ slot_of number → IsUpTo number least }
+{
+    match least {
+        Some(number) => slot(number) < next,
+        None => false,
     }
 }
 

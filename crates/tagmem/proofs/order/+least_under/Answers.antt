@@ -1,8 +1,8 @@
-use Rattle.std.proofs.Common.{◌≡◌, ◌≢◌, ℕ, suc, [], ◌+◌, ◌-◌, ◌*◌, ◌%◌, ◌^◌, ◌<◌, ◌≤◌, List, get_or, length, sym, ap, subst, ◌∙◌, arith}
+use Rattle.std.proofs.Common.{◌≡◌, ◌≢◌, ℕ, suc, [], ◌+◌, ◌-◌, ◌*◌, ◌%◌, ◌^◌, ◌<◌, ◌≤◌, List, get_or, length, ⊎_elim, arith}
 use Rattle.std.proofs.lemmas.List.{length-map}
 use Rattle.tagmem.specs.{declared.region.Region.Region, Orders.{IsOneFrom, IsUnder, IsUpTo, above}, Regions.{links_of, numbers_of}}
 use Rattle.tagmem.proofs.Orders.{above_rises, by_digit, child_is, IsUnder-last, IsUnder-on, number_is}
-use Rattle.tagmem.proofs.Orders.{one_of, one_own}
+use Rattle.tagmem.proofs.Orders.{one_own}
 use Rattle.tagmem.proofs.Regions.{numbers_small}
 use Rattle.tagmem.proofs.order.+least_under.Goals.{After-own-least, In-loop-digit}
 use Rattle.tagmem.proofs.order.+least_under.Goals as goal
@@ -12,31 +12,28 @@ module _ (t : ℕ) (c : After-own-least t) where
   numbers = numbers_of c.args.regions.now
 
   linked : c.args.link ≡ suc (c.args.link - 1)
-  linked = let some = c.if-link-eq0.false in omega arith
+  linked = omega (arith, c.if-link-eq0.false)
 
   in_range : c.args.link - 1 < length c.args.regions.now
-  in_range = let some = c.if-link-eq0.false in omega (arith, c.requires.in_range)
+  in_range = omega (arith, c.if-link-eq0.false, c.requires.in_range)
 
   numbered : c.index-regions-link.result.number ≡ get_or numbers (c.args.link - 1) 0
   numbered = number_is c.args.regions.now (c.args.link - 1) c.index-regions-link.result in_range c.index-regions-link.is
 
   named : (roots : List ℕ) (digit : ℕ) → get_or c.index-regions-link.result.children digit 0 ≡ links_of roots c.args.regions.now c.args.link digit
-  named roots digit = child_is c.args.regions.now (c.args.link - 1) c.index-regions-link.result in_range c.index-regions-link.is roots digit
-      ∙ ap (λ l. links_of roots c.args.regions.now l digit) (sym linked)
+  named roots digit =
+      grind (arith, linked, child_is c.args.regions.now (c.args.link - 1) c.index-regions-link.result in_range c.index-regions-link.is roots digit)
 
   one : IsOneFrom numbers c.args.from c.own-least.result
   one = one_own numbers c.args.from (c.args.link - 1) c.index-regions-link.result.number
       (omega (arith, in_range, length-map c.args.regions.now (λ (r : Region). r.number))) numbered c.own-least.result c.own-least.ensures.same
 
   own : (at : ℕ) → c.args.from ≤ get_or numbers at 0 → suc at ≡ c.args.link → IsUpTo (get_or numbers at 0) c.own-least.result
-  own at low is =
-      let same : c.index-regions-link.result.number ≡ get_or numbers at 0 =
-      numbered ∙ ap (λ i. get_or numbers i 0) {x = c.args.link - 1} {y = at} (omega (arith, is)) in
-      subst (λ n. IsUpTo n c.own-least.result) same (c.own-least.ensures.up (omega (arith, same, low)))
+  own at low is = grind (arith, numbered, c.own-least.ensures.up)
 
 -- digits are left, and what is on one of them is under its link
 counted : (t : ℕ) (c : In-loop-digit t) → c.args.level ≡ suc (c.args.level - 1)
-counted t c = let some = c.if-level-eq0.false in omega arith
+counted t c = omega (arith, c.if-level-eq0.false)
 
 on_digit : (t : ℕ) (c : In-loop-digit t) (roots : List ℕ) (at : ℕ) → suc at ≢ c.args.link
     → IsUnder (numbers_of c.args.regions.now) (links_of roots c.args.regions.now) c.args.from c.args.level c.args.link c.args.prefix at
@@ -76,9 +73,8 @@ loop-digit-preserved-then-child-from t c =
 
 pub least_under-next-requires : goal.least_under-next-requires
 least_under-next-requires t c =
-    let after = (goal.at.least_under-next-requires t c).After-own-least in
-    let some = c.if-level-eq0.false in (
-      omega (arith, c.decreases),
+    let after = (goal.at.least_under-next-requires t c).After-own-least in (
+      omega (arith, c.decreases, c.if-level-eq0.false),
       (
         rw (named t after [] c.loop-digit.digit, linked t after) (c.requires.within [] (c.args.link - 1) c.loop-digit.digit),
         (c.requires.within, omega (arith, c.requires.low)),
@@ -92,26 +88,20 @@ loop-digit-preserved t c =
     let numbers = numbers_of c.args.regions.now in
     let is = c.lesser-least.ensures in
     record {
-      one = one_of (IsOneFrom numbers c.args.from) c.lesser-least.result c.loop-digit.least c.least_under-next.result is.one
-          c.loop-digit.invariant.one (c.least_under-next.ensures []).0;
+      one = ⊎_elim (λ same. rw same c.loop-digit.invariant.one) (λ same. rw same (c.least_under-next.ensures []).0) is.one;
       under = λ roots at under lower.
           let n = get_or numbers at 0 in
-          let links = links_of roots c.args.regions.now in
           by_digit c.args.link at (above (c.args.level - 1) n % 8) c.loop-digit.digit (IsUpTo n c.lesser-least.result)
           (λ below. is.first n (c.loop-digit.invariant.under roots at under below))
           (λ differs le. is.second n ((c.least_under-next.ensures roots).1 at
           (let same : above (c.args.level - 1) n % 8 ≡ c.loop-digit.digit = omega (arith, le, lower differs) in
-          subst (λ l. IsUnder numbers links c.args.from (c.args.level - 1) l (c.args.prefix * 8 % 2 ^ 64 + c.loop-digit.digit) at)
-          (sym (named t after roots c.loop-digit.digit))
-          (subst (λ d. IsUnder numbers links c.args.from (c.args.level - 1) (links c.args.link d) (c.args.prefix * 8 % 2 ^ 64 + d) at) same
-          (on_digit t in_loop roots at differs under)))));
+          rw (named t after roots c.loop-digit.digit) (rw same at (on_digit t in_loop roots at differs under)))));
     }
 
 pub returns-after-loop-digit : goal.returns-after-loop-digit
 returns-after-loop-digit t c = λ roots. (
   c.loop-digit.invariant.one,
-  λ at under.
-      c.loop-digit.invariant.under roots at under (λ _. let done = c.loop-digit-test.false in omega arith),
+  λ at under. c.loop-digit.invariant.under roots at under (λ _. omega (arith, c.loop-digit-test.false)),
 )
 
 pub returns-then-ends_before : goal.returns-then-ends_before

@@ -17,10 +17,9 @@ loop-number-preserved c =
     let links = c.args.links.now in
     let place = 2 * c.loop-number.parent + c.loop-number.bits % 2 in
     let child = get_or links place 0 in
-    let within = c.requires.forward.within place in
-    let counted : child ≡ suc (child - 1) = let some = c.if-child-eq0.false in omega arith in
+    let counted : child ≡ suc (child - 1) = omega (arith, c.if-child-eq0.false) in
     record {
-      in_range = omega (arith, within, counted);
+      in_range = omega (arith, c.requires.forward.within place, counted);
       within = λ limit le all. omega (arith, all place, counted);
       goes_on = λ more to kept led. c.loop-number.invariant.goes_on more to kept (leads_from more c.loop-number.bits c.loop-number.parent to
           (suc (child - 1)) (kept place c.if-child-eq0.false ∙ counted) led);

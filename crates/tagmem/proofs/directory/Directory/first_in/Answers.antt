@@ -1,24 +1,13 @@
-use Rattle.std.proofs.Common.{◌≡◌, ◌*◌, ◌+◌, ◌/◌, Some, sym, subst, ◌∙◌, arith}
-use Rattle.tagmem.specs.{Directories.there_in, Pages.IsLeast}
-use Rattle.tagmem.proofs.Regions.{least_in, none_in, none_there, number_is}
+use Rattle.std.proofs.Common.{◌≡◌, ◌/◌, ◌∙◌, arith}
+use Rattle.tagmem.proofs.Regions.{least_in, none_in, none_there}
 use Rattle.tagmem.proofs.directory.Directory.first_in.Goals as goal
 
 pub returns-in-Some-clause-first : goal.returns-in-Some-clause-first
 returns-in-Some-clause-first c =
     let s = c.args.self.now in
-    subst (λ n. IsLeast (there_in s) (64 * c.args.region + c.args.place) (Some (64 * c.args.region + n))) (sym c.from.ensures)
+    rw c.from.ensures
     (least_in s.regions.items c.in-Ok.at c.index.result.now c.args.region c.index.ensures c.in-Ok.ensures s.distinct
     c.args.place c.in-Some.first c.in-Some.ensures.small c.in-Some.ensures.first)
-
-pub returns-in-Some-clause-small : goal.returns-in-Some-clause-small
-returns-in-Some-clause-small c =
-    omega (
-      arith,
-      c.from.ensures,
-      c.in-Some.ensures.small,
-      c.index.result.now.in_memory,
-      number_is c.args.self.now.regions.items c.in-Ok.at c.index.result.now c.args.region c.index.ensures c.in-Ok.ensures,
-    )
 
 pub returns-in-None-clause-first : goal.returns-in-None-clause-first
 returns-in-None-clause-first c =

@@ -1,7 +1,7 @@
-use Rattle.std.proofs.Common.{◌≡◌, ◌^◌, ◌<◌, length, cond, is_ok, true, sym, ap, ◌∙◌, arith, insert}
+use Rattle.std.proofs.Common.{◌^◌, ◌<◌, length, arith, insert}
 use Rattle.std.proofs.lemmas.List.Edits.{length-insert}
-use Rattle.tagmem.specs.Listed.{contents_of, IsRising, AllStored}
-use Rattle.tagmem.proofs.Indexes.{contents_of-insert, IsRising-insert, AllStored-insert, tried, OnOk-from_is_ok}
+use Rattle.tagmem.specs.Listed.{IsRising, AllStored}
+use Rattle.tagmem.proofs.Indexes.{contents_of-insert, IsRising-insert, AllStored-insert, tried}
 use Rattle.tagmem.proofs.list_store.ListStore.insert.Goals as goal
 
 -- the list with one entry more keeps the facts, and so does the list as it was
@@ -19,9 +19,6 @@ invariant_of-self c =
     }
 
 pub returns-clause-ok : goal.returns-clause-ok
-returns-clause-ok c = OnOk-from_is_ok c.map_err.result _ (λ ok.
-    let old = c.args.self.now.entries.items in
-    let new = insert old c.args.index c.args.listed in
-    let grew : is_ok c.insert.result ≡ true = sym c.map_err.ensures.variant ∙ ok in
-    ap contents_of (c.insert.ensures.items ∙ ap (λ b. cond b new old) grew)
-    ∙ contents_of-insert old c.args.listed c.args.index c.requires.absent)
+returns-clause-ok c =
+    let grown = contents_of-insert c.args.self.now.entries.items c.args.listed c.args.index c.requires.absent in
+    grind (arith, c.map_err.ensures.variant, c.insert.ensures.items, grown)

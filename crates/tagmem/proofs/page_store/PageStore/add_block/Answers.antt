@@ -1,11 +1,11 @@
 use Rattle.std.specs.FinMap as map
-use Rattle.std.proofs.Common.{◌≡◌, ◌<◌, ◌∷◌, [], ◌++◌, ◌/◌, ◌%◌, length, get_or, set, All, refl, sym, ap, subst, ◌∙◌}
+use Rattle.std.proofs.Common.{◌≡◌, ◌<◌, ◌∷◌, [], ◌++◌, ◌/◌, length, set, All, refl, sym, ap, subst, ◌∙◌}
 use Rattle.std.proofs.{Common.{arith}, lemmas.List.{length-map, get_or_push, get_or_append_left, Elements.All-from_get_or}}
-use Rattle.tagmem.specs.{declared.{block.Block.Block, directory.Directory.Directory}, Blocks.{contents_of, IsAbsent}}
-use Rattle.tagmem.specs.{Blocks.{numbers_of}, Directories.{HasRoomFor, IsRegionIn, blocks_of, blocks_with, there_in}, Granules.with_write, Trees.AreTrees}
+use Rattle.tagmem.specs.{declared.{block.Block.Block}, Blocks.{contents_of}}
+use Rattle.tagmem.specs.{Blocks.{numbers_of}, Directories.{blocks_of, blocks_with, there_in}, Granules.with_write, Trees.AreTrees}
 use Rattle.tagmem.proofs.Writes.{IsAdded, numbers_of-add, length-add, AreDistinct-add, ArePaged-add, ArePaged-has, contents_of-add}
 use Rattle.tagmem.proofs.{Writes.{AreStored-add, len-add}, Blocks.get_absent, Indexes.OnErr-from, NextPut.none_in_page}
-use Rattle.tagmem.proofs.{Rooms.is_room, Ways.AreTrees-alike, Writes.IsWritten}
+use Rattle.tagmem.proofs.{Rooms.is_room, Ways.AreTrees-alike}
 use Rattle.tagmem.proofs.page_store.PageStore.add_block.Goals.{In-Ok, After-put}
 use Rattle.tagmem.proofs.page_store.PageStore.add_block.Goals as goal
 
@@ -21,44 +21,17 @@ returns-in_default-clause-in_page c =
     let s = c.args.self.now in
     none_in_page s.blocks.items (there_in s.directory) s.paged (c.args.granule / 256) (sym c.has-there.ensures ∙ c.in_default.ensures.only_new)
 
--- and the blocks are what they were
-pub invariant_of-self-in_default : goal.invariant_of-self-in_default
-invariant_of-self-in_default c =
-    let m = c.make_room.new.self in
-    record {
-      as_many = m.as_many;
-      found = m.found;
-      distinct = m.distinct;
-      paged = rw c.in_default.ensures.err m.paged;
-      stored = m.stored;
-      counted = m.counted;
-      roomy = omega (arith, c.in_default.ensures.refused, m.roomy);
-      linkable = subst (HasRoomFor m.trees) (sym c.in_default.ensures.refused) m.linkable;
-      few = m.few;
-      fits = m.fits;
-    }
-
-pub insert-requires : goal.insert-requires
-insert-requires c =
-    let same = sym c.make_room.ensures.directory in
-    record {
-      small = omega (arith, c.requires.in_memory);
-      region = subst (λ (d : Directory). IsRegionIn d (c.args.granule / 256 / 64) c.region_at-region.result) same c.region_at-region.ensures;
-      there = c.has-there.ensures ∙ ap (λ d. there_in d (c.args.granule / 256)) same;
-      fits = omega (arith, c.make_room.new.self.roomy, c.make_room.new.self.blocks.small);
-    }
+pub insert-requires-clause-region : goal.insert-requires-clause-region
+insert-requires-clause-region c = rw c.make_room.ensures.directory c.region_at-region.ensures
 
 -- there is room for one more in the pages that are there then
 one_more : (c : In-Ok) → length c.make_room.new.self.blocks.items < blocks_of c.insert.new.self
 one_more c =
     let m = c.make_room.new.self in
-    let new = there_in c.insert.new.self in
     let with = c.in-Ok.ensures.ok in
-    let own : c.args.granule / 8 / 32 ≡ c.args.granule / 256 = omega arith in
-    is_room m.blocks.items new c.insert.new.self.count c.insert.new.self.counted m.distinct
-    (ArePaged-has m.blocks.items (there_in m.directory) new (c.args.granule / 256) with m.paged)
-    (c.args.granule / 8) (ap new own ∙ with.0)
-    (subst (λ blocks. IsAbsent blocks (c.args.granule / 8)) (sym c.make_room.ensures.blocks) c.requires.absent)
+    is_room m.blocks.items (there_in c.insert.new.self) c.insert.new.self.count c.insert.new.self.counted m.distinct
+    (ArePaged-has m.blocks.items (there_in m.directory) (there_in c.insert.new.self) (c.args.granule / 256) with m.paged)
+    (c.args.granule / 8) (grind (arith, with.0)) (rw c.make_room.ensures.blocks c.requires.absent)
 
 more : (c : In-Ok) → blocks_of c.insert.new.self ≡ blocks_with c.args.self.now.directory c.has-there.result
 more c = c.in-Ok.ensures.blocks ∙ ap (λ d. blocks_with d c.has-there.result) c.make_room.ensures.directory
@@ -78,23 +51,19 @@ overflow_add-self c =
 added : (c : After-put) → IsAdded c.make_room.new.self.blocks.items
     c.len-index.result c.args.granule c.new.result c.put.new.self c.args.tag c.args.byte_index c.args.bytes.now c.args.code
 added c =
-    let s = c.args.self.now in
     let m = c.make_room.new.self in
-    let first = c.index_mut.result.now in
-    let same = c.make_room.ensures.blocks in
-    let last : c.len-index.result ≡ length m.blocks.items = omega (arith, s.blocks.ok.0, c.len-index.ensures, ap length same) in
-    let read : first ≡ c.new.result =
-    c.index_mut.ensures.value ∙ ap (λ items. get_or items c.len-index.result first) c.push_reserved.ensures.items
-    ∙ get_or_push m.blocks.items c.new.result first c.len-index.result (sym last) in
+    let last : c.len-index.result ≡ length m.blocks.items =
+    omega (arith, c.args.self.now.blocks.ok.0, c.len-index.ensures, ap length c.make_room.ensures.blocks) in
+    let pushed = get_or_push m.blocks.items c.new.result c.index_mut.result.now c.len-index.result in
+    let read : c.index_mut.result.now ≡ c.new.result =
+    grind (arith, last, c.index_mut.ensures.value, c.push_reserved.ensures.items, pushed) in
     record {
       known = m.distinct;
-      absent = subst (λ blocks. IsAbsent blocks (c.args.granule / 8)) (sym same) c.requires.absent;
+      absent = rw c.make_room.ensures.blocks c.requires.absent;
       number = c.new.ensures.number;
       none = c.new.ensures.slots;
       last = last;
-      written =
-          subst (λ block. IsWritten block c.put.new.self (c.args.granule % 8) c.args.tag c.args.byte_index c.args.bytes.now c.args.code) read
-          (record { number = c.put.ensures.number; slots = c.put.ensures.slots });
+      written = rw (← read) (record { number = c.put.ensures.number; slots = c.put.ensures.slots });
     }
 
 pub push-requires : goal.push-requires
@@ -119,9 +88,8 @@ push-requires c =
           let limit_is : length m.blocks.items ≡ limit = omega (arith, long, ap length seen, is_limit) in
           rw seen (subst (λ n. AreTrees (numbers_of new) m.trees.mask n m.trees.roots.items m.trees.links.items) limit_is
           (AreTrees-alike (numbers_of m.blocks.items) (numbers_of new) m.trees.mask (length m.blocks.items) m.trees.roots.items
-          m.trees.links.items m.trees.links.items (λ i lt. ap (λ ns. get_or ns i 0) (numbers_of-add _ _ _ _ _ _ _ _ _ is)
-          ∙ get_or_append_left (numbers_of m.blocks.items) ((c.args.granule / 8) ∷ []) 0 i
-          (let many = length-map m.blocks.items (λ (b : Block). b.number) in omega arith)) (λ place. refl) m.found));
+          m.trees.links.items m.trees.links.items (λ i lt. rw (numbers_of-add _ _ _ _ _ _ _ _ _ is) (get_or_append_left (numbers_of m.blocks.items)
+          ((c.args.granule / 8) ∷ []) 0 i (omega (arith, length-map m.blocks.items (λ (b : Block). b.number))))) (λ place. refl) m.found));
     }
 
 pub returns-clause-ok : goal.returns-clause-ok
@@ -152,8 +120,7 @@ invariant_of-self-4 c =
           m.stored);
       counted = rw pushed (omega (arith, len, m.counted));
       roomy = omega (arith, more after, c.push_reserved.ensures.capacity, c.in_ok-make_room.ensures.room);
-      linkable = c.push.ensures.kept (blocks_of c.insert.new.self) (subst (HasRoomFor m.trees) (sym (more after))
-          c.in_ok-make_room.ensures.linkable);
+      linkable = c.push.ensures.kept (blocks_of c.insert.new.self) (rw (more after) c.in_ok-make_room.ensures.linkable);
       few = rw pushed (omega (arith, len, length-add _ _ _ _ _ _ _ _ _ is, m.few));
       fits = rw pushed (omega (arith, len, same, room));
     }

@@ -10,16 +10,13 @@ rest c q le lt = grind (arith, c.in-None.ensures q, c.in-None-first_between.ensu
 
 pub returns-in-Some-next : goal.returns-in-Some-next
 returns-in-Some-next c = record {
-  least =
-      let s = c.args.self.now in
-      next_put_later s.blocks.items (there_in s.directory) s.paged c.args.granule (rest (goal.at.returns-in-Some-next c).In-None-first_between)
-      c.in-Some-next.page c.in-Some-next.ensures.least c.first_between-in-Some-next.result c.first_between-in-Some-next.ensures;
+  least = next_put_later c.args.self.now.blocks.items (there_in c.args.self.now.directory) c.args.self.now.paged c.args.granule
+      (rest (goal.at.returns-in-Some-next c).In-None-first_between) c.in-Some-next.page c.in-Some-next.ensures.least
+      c.first_between-in-Some-next.result c.first_between-in-Some-next.ensures;
 }
 
 pub returns-in-None-next : goal.returns-in-None-next
 returns-in-None-next c = record {
-  least =
-      let s = c.args.self.now in
-      next_put_last s.blocks.items (there_in s.directory) s.paged c.args.granule (rest (goal.at.returns-in-None-next c).In-None-first_between)
-      c.in-None-next.ensures.least;
+  least = next_put_last c.args.self.now.blocks.items (there_in c.args.self.now.directory) c.args.self.now.paged c.args.granule
+      (rest (goal.at.returns-in-None-next c).In-None-first_between) c.in-None-next.ensures.least;
 }

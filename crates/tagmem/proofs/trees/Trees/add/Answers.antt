@@ -1,4 +1,4 @@
-use Rattle.std.proofs.Common.{◌≡◌, suc, ◌-◌, ◌<◌, ◌≤◌, get_or, length, sym, ◌∙◌, arith}
+use Rattle.std.proofs.Common.{◌≡◌, suc, ◌-◌, ◌<◌, get_or, length, ◌∙◌, arith}
 use Rattle.std.proofs.lemmas.{Grind.get_or_default_zero, List.get_or-map, Nat.and_le_r}
 use Rattle.tagmem.specs.{declared.block.Block.Block, Blocks.numbers_of}
 use Rattle.tagmem.proofs.Ways.{AreTrees-root, AreTrees-child}
@@ -8,15 +8,13 @@ use Rattle.tagmem.proofs.trees.Trees.add.Goals as goal
 -- the number of the block, and the root of its place
 module _ (c : After-index-root) where
   number_is : (get_or c.args.blocks.now c.args.index c.index-blocks-index.result).number ≡ get_or (numbers_of c.args.blocks.now) c.args.index 0
-  number_is = sym (get_or-map (λ (b : Block). b.number) c.args.blocks.now c.args.index c.index-blocks-index.result 0 c.requires.in_range)
+  number_is = grind (arith, get_or-map (λ (b : Block). b.number) c.args.blocks.now c.args.index c.index-blocks-index.result 0)
 
   in_range : c.place-place.result < length c.args.self.now.roots.items
-  in_range =
-      let below : c.place-place.result ≤ c.args.self.now.mask = rw c.place-place.ensures (and_le_r _ c.args.self.now.mask) in
-      omega (arith, below, c.args.self.now.masked c.requires.places)
+  in_range = grind (arith, and_le_r, c.args.self.now.masked)
 
   root_is : get_or c.args.self.now.roots.items c.place-place.result 0 ≡ c.index-root.result.now
-  root_is = sym (get_or_default_zero c.args.self.now.roots.items c.place-place.result c.index-root.result.now in_range) ∙ sym c.index-root.ensures
+  root_is = grind (arith, in_range, get_or_default_zero c.args.self.now.roots.items c.place-place.result c.index-root.result.now)
 
 pub returns-then-root-eq0-clause-trees : goal.returns-then-root-eq0-clause-trees
 returns-then-root-eq0-clause-trees c =

@@ -1,6 +1,6 @@
-use Rattle.std.proofs.Common.{◌≡◌, ◌≢◌, ℕ, suc, ◌-◌, ◌+◌, ◌*◌, ◌/◌, ◌%◌, get_or, sym, ap, subst, ◌∙◌, arith}
+use Rattle.std.proofs.Common.{◌≡◌, ◌≢◌, ℕ, suc, ◌-◌, ◌+◌, ◌*◌, ◌/◌, ◌%◌, arith}
 use Rattle.std.proofs.lemmas.{Grind.get_or_default_zero, List.get_or-map}
-use Rattle.tagmem.specs.{declared.block.Block.Block, Blocks.{IsBlockAt, block_number_at}, Trees.{LeadsTo, child_of}}
+use Rattle.tagmem.specs.{declared.block.Block.Block, Blocks.{IsBlockAt}, Trees.{LeadsTo, child_of}}
 use Rattle.tagmem.proofs.Ways.{leads_nowhere, leads_on}
 use Rattle.tagmem.proofs.trees.Trees.find.Goals.{After-index-child}
 use Rattle.tagmem.proofs.trees.Trees.find.Goals as goal
@@ -13,12 +13,9 @@ from_child c i at =
     let links = s.links.items in
     let index = c.loop-index.index in
     let block = c.index-blocks-index.result in
-    let number_is : (get_or c.args.blocks.now index block).number ≡ block_number_at c.args.blocks.now index =
-    sym (get_or-map (λ (b : Block). b.number) c.args.blocks.now index block 0 c.loop-index.invariant.in_range) in
-    let differs : index ≢ i = λ same. c.if-blocks-index.false (number_is ∙ ap (block_number_at c.args.blocks.now) same ∙ at.has_number) in
+    let differs : index ≢ i = λ same. grind (arith, at.has_number, get_or-map (λ (b : Block). b.number) c.args.blocks.now index block 0) in
     let child : c.index-child.result.now ≡ child_of links (suc index) (c.loop-index.bits % 2) =
-    c.index-child.ensures ∙ get_or_default_zero links (2 * index + c.loop-index.bits % 2) c.index-child.result.now
-    (omega (arith, c.loop-index.invariant.in_range, c.requires.as_many)) in
+    grind (arith, get_or_default_zero links (2 * index + c.loop-index.bits % 2) c.index-child.result.now) in
     rw child (leads_on links c.loop-index.bits index i differs (c.loop-index.invariant.sought i at))
 
 pub returns-then-child-eq0 : goal.returns-then-child-eq0
@@ -30,12 +27,9 @@ pub loop-index-preserved : goal.loop-index-preserved
 loop-index-preserved c =
     let s = c.args.self.now in
     let child = c.index-child.result.now in
-    let counted : child ≡ suc (child - 1) = let some = c.if-child-eq0.false in omega arith in
+    let counted : child ≡ suc (child - 1) = omega (arith, c.if-child-eq0.false) in
     let place = 2 * c.loop-index.index + c.loop-index.bits % 2 in
-    let read : child ≡ get_or s.links.items place 0 = c.index-child.ensures ∙ get_or_default_zero s.links.items place child
-    (omega (arith, c.loop-index.invariant.in_range, c.requires.as_many)) in
     record {
-      in_range = omega (arith, read, c.requires.trees.forward.within place, counted);
-      sought = λ i at. subst (λ l. LeadsTo s.links.items (c.loop-index.bits / 2) l (suc i)) counted
-          (from_child (goal.at.loop-index-preserved c).After-index-child i at);
+      in_range = grind (arith, get_or_default_zero s.links.items place child, c.requires.trees.forward.within place);
+      sought = λ i at. rw (← counted) (from_child (goal.at.loop-index-preserved c).After-index-child i at);
     }

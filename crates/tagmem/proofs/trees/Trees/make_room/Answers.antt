@@ -10,6 +10,6 @@ returns-then-is_empty-clause-trees c = λ numbers many trees.
     λ place. get_or-eq_default s.roots.items 0 (omega (arith, empty, c.make_room-2.ensures.len, s.roots.ok.0)) in
     rw (c.clear.ensures.links, c.make_room.ensures.items) (record {
       forward = trees.forward;
-      rooted = λ place. let is = c.clear.ensures.none place in omega arith;
+      rooted = λ place. omega (arith, c.clear.ensures.none place);
       leads = λ index lt. absurd (leads_nowhere s.links.items _ _ index (none _) (trees.leads index lt));
     })
