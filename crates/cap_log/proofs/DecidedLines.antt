@@ -1,8 +1,10 @@
 -- Whether bytes spell a line is decided, and which front they have.
-use Rattle.std.proofs.Common.{◌≡◌, ◌≢◌, ℕ, zero, suc, ◌+◌, ◌<◌, ◌⊎◌, List, [], ◌∷◌, ◌++◌, length, take, drop, get_or}
-use Rattle.std.proofs.Common.{sym, ap, ◌∙◌, inl, inr, refl, subst, bytes_eq, eqb, if◌then◌else◌, arith, ne_eqb}
-use Rattle.std.proofs.{Math.Seq.take-length, lemmas.Bool.Decides.{leb_tells, eqb_tells}}
-use Rattle.std.proofs.lemmas.{List.Elements.{All-head, All-tail}, Slice.Eq.bytes_eq-Decides}
+use Rattle.std.proofs.Common.{◌≡◌, ◌≢◌, ℕ, ◌+◌, ◌<◌, ◌≤◌, ◌⊎◌, List, [], ◌∷◌, ◌++◌, length, take, drop, get_or}
+use Rattle.std.specs.List.{prefix_len}
+use Rattle.std.proofs.Common.{sym, ap, ◌∙◌, inl, inr, refl, subst, bytes_eq, Bool, not, eqb, if◌then◌else◌, arith, ne_eqb}
+use Rattle.std.proofs.{Math.Seq.take-length, lemmas.Bool.{cases_lt, eqb-false, eqb-true, not-false, not-true}}
+use Rattle.std.proofs.lemmas.List.{Elements.{All-head, All-tail}, Sums.{prefix_len-le-length, prefix_len_passes, prefix_len_stops}}
+use Rattle.std.proofs.lemmas.{Slice.Eq.bytes_eq-Decides}
 use Rattle.cap_log.specs.{declared.{kinds.Head.Head, lines.Line.Line}, Heads.head_spelling, Lines.{Spells, spelling}}
 use Rattle.cap_log.specs.{Parts.HasNoSpace, SpacelessLaws.head-spaceless}
 use Rattle.cap_streams.specs.Front.{HasNoFeed, IsLine, IsTooLong, IsCut}
@@ -44,48 +46,28 @@ line_decided bytes =
 
 -- Fronts
 
--- the first line feed among so many bytes, or none
-abbrev NoFeed : List ℕ → ℕ → Type 0
-NoFeed bytes most = (k : ℕ) → k < most → get_or bytes k 0 ≡ 10 → ⊥
+-- a byte that is no line feed
+abbrev other : ℕ → Bool
+other b = not (eqb b 10)
 
-no_more : (bytes : List ℕ) (most : ℕ) → NoFeed bytes most → (get_or bytes most 0 ≡ 10 → ⊥) → NoFeed bytes (suc most)
-no_more bytes most none not k few here =
-    elim (eqb_tells k most) [
-      | inl is ↦ not (subst (λ (n : ℕ). get_or bytes n 0 ≡ 10) is.1 here)
-      | inr other ↦ let unlike = other.1 in none k (omega (arith, unlike)) here
-    ]
-
-first_feed : (bytes : List ℕ) (most : ℕ) → ((n : ℕ) × (n < most) × (get_or bytes n 0 ≡ 10) × NoFeed bytes n) ⊎ NoFeed bytes most
-first_feed bytes zero = inr (λ k few here. omega arith)
-first_feed bytes (suc most) =
-    elim (first_feed bytes most) [
-      | inl found ↦ let few = found.1 in inl (found.0, omega arith, found.2, found.3)
-      | inr none ↦
-          elim (eqb_tells (get_or bytes most 0) 10) [
-            | inl here ↦ inl (most, omega arith, here.1, none)
-            | inr not ↦ inr (no_more bytes most none not.1)
-          ]
-    ]
+-- before the first line feed is none
+no_feed : (bytes : List ℕ) (k : ℕ) → k < prefix_len other bytes → get_or bytes k 0 ≡ 10 → ⊥
+no_feed bytes k few = eqb-false _ 10 (not-true _ (prefix_len_passes other bytes k 0 few))
 
 -- bytes begin with a line, or are too long for one, or cut
 pub front_decided : (bytes : List ℕ)
     → IsTooLong bytes ⊎ (IsCut bytes ⊎ ((line : List ℕ) × (rest : List ℕ) × IsLine bytes line rest))
 front_decided bytes =
-    elim (leb_tells 96 (length bytes)) [
-      | inl long ↦
-          let many = long.1 in elim (first_feed bytes 96) [
-            | inl at ↦ let few =
-                at.1 in inr (inr (take at.0 bytes, drop (at.0 + 1) bytes, IsLine-at bytes at.0 (omega arith) (omega arith) at.2 at.3))
-            | inr none ↦ inl (many, HasNoFeed-take bytes 96 many none)
-          ]
-      | inr short ↦
-          let fewer = short.1 in elim (first_feed bytes (length bytes)) [
-            | inl at ↦ let few =
-                at.1 in inr (inr (take at.0 bytes, drop (at.0 + 1) bytes, IsLine-at bytes at.0 (omega arith) (omega arith) at.2 at.3))
-            | inr none ↦ inr (inl (
-              omega arith,
-              subst HasNoFeed (take-length bytes)
-                  (HasNoFeed-take bytes (length bytes) (omega arith) none),
-            ))
-          ]
+    let n = prefix_len other bytes in
+    let most = prefix_len-le-length other bytes in
+    let none = λ (m : ℕ) (inside : m ≤ length bytes) (before : m ≤ n).
+    HasNoFeed-take bytes m inside (λ k few. no_feed bytes k (omega arith)) in
+    elim (cases_lt 95 n) [
+      | inl many ↦ inl (omega arith, none 96 (omega arith) (omega arith))
+      | inr few ↦ elim (cases_lt n (length bytes)) [
+        | inl inside ↦
+            let feed = eqb-true _ _ (not-false _ (prefix_len_stops other bytes 0 inside)) in
+            inr (inr (take n bytes, drop (n + 1) bytes, IsLine-at bytes n inside few feed (no_feed bytes)))
+        | inr all ↦ inr (inl (omega arith, subst HasNoFeed (take-length bytes) (none (length bytes) (omega arith) all)))
+      ]
     ]

@@ -1,9 +1,9 @@
 -- The parts of a line, one by one: each value in range has one short spelling, without a line feed.
 use Rattle.std.specs.{Cmp.Lexicographic.pointwise, Fmt.signed_decimal}
-use Rattle.std.proofs.Common.{◌≡◌, ◌≢◌, ℕ, suc, ◌+◌, ◌*◌, ◌%◌, ◌<◌, ◌≤◌, ◌^◌, ℤ, pos, negsuc, Bool, true, false, eqb}
-use Rattle.std.proofs.Common.{List, [], ◌∷◌, ◌++◌, length, get_or, take, drop, sym, ap, subst, ◌∙◌, refl, inl, inr}
+use Rattle.std.proofs.Common.{◌≡◌, ◌≢◌, ℕ, ◌+◌, ◌*◌, ◌%◌, ◌<◌, ◌≤◌, ◌^◌, ℤ, Bool, true, false, eqb}
+use Rattle.std.proofs.Common.{List, [], ◌∷◌, ◌++◌, length, get_or, take, drop, sym, ap, subst, ◌∙◌, refl}
 use Rattle.std.proofs.{Common.{arith, decimal, codes, lit≤, length-append, take_at}, lemmas.Bool.{false≢true}}
-use Rattle.std.proofs.lemmas.Fmt.{decimal_injective, length-decimal-le, signed_decimal_injective}
+use Rattle.std.proofs.lemmas.Fmt.{decimal_injective, length-decimal-le, length_signed_le, signed_decimal_injective}
 use Rattle.std.proofs.lemmas.List.Elements.{All-append, All-cons}
 use Rattle.cap_word.specs.{declared.word.Cap.Cap, Digits.hex_digits}
 use Rattle.cap_word.proofs.{DigitLemmas.{length-hex_digits, pow_256}, ReadingLemmas.hex_digits-same}
@@ -38,13 +38,19 @@ target-operand = record {
   short = λ n fits. register-operand.short n fits.1;
 }
 
--- numbers of 64 bits
-pub number-operand : IsOperand IsNumber (hex_digits 16) 16
-number-operand = record {
-  one = λ m n small small' e. hex_digits-same 16 m n small small' e;
-  plain = λ n small. Lacks-hex 10 16 n refl;
-  short = λ n small. omega (arith, length-hex_digits 16 n);
+-- numbers of so many hexadecimal digits
+hex-operand : (k : ℕ) → IsOperand (λ n. n < 16 ^ k) (hex_digits k) k
+hex-operand k = record {
+  one = λ m n small small' e. hex_digits-same k m n small small' e;
+  plain = λ n small. Lacks-hex 10 k n refl;
+  short = λ n small. omega (arith, length-hex_digits k n);
 }
+
+pub number-operand : IsOperand IsNumber (hex_digits 16) 16
+number-operand = hex-operand 16
+
+pub word-operand : IsOperand IsWord (hex_digits 32) 32
+word-operand = hex-operand 32
 
 -- places
 place-one : (a b : Place) → IsPlace a → IsPlace b → place_spelling a ≡ place_spelling b → a ≡ b
@@ -52,28 +58,16 @@ place-one (Register m) (Register n) fits fits' e = ap Register (target-operand.o
 place-one (Register m) (Granule n) fits fits' e = let h : ◌≡◌ {A = ℕ} 99 64 = ap (λ (bs : List ℕ). get_or bs 0 0) e in absurd (omega arith)
 place-one (Granule m) (Register n) fits fits' e = let h : ◌≡◌ {A = ℕ} 64 99 = ap (λ (bs : List ℕ). get_or bs 0 0) e in absurd (omega arith)
 place-one (Granule m) (Granule n) fits fits' e =
-    let address = number-operand.one (16 * m) (16 * n) (omega arith) (omega arith) (ap (λ (bs : List ℕ). drop 1 bs) e) in
-    let same : m ≡ n = omega arith in
-    ap Granule same
+    let address = number-operand.one (16 * m) (16 * n) (omega arith) (omega arith) (ap (drop 1) e) in
+    ap Granule (omega arith)
 
-place-plain : (a : Place) → IsPlace a → Lacks 10 (place_spelling a)
-place-plain (Register n) fits = target-operand.plain n fits
-place-plain (Granule n) fits = All-cons (λ b. b ≢ 10) 64 (hex_digits 16 (16 * n)) (omega arith) (Lacks-hex 10 16 (16 * n) refl)
-
-place-short : (a : Place) → IsPlace a → length (place_spelling a) ≤ 17
-place-short (Register n) fits = let short = target-operand.short n fits in omega arith
-place-short (Granule n) fits = omega (arith, length-hex_digits 16 (16 * n))
+place-plain : (a : Place) → IsPlace a → Lacks 10 (place_spelling a) × (length (place_spelling a) ≤ 17)
+place-plain (Register n) fits = (target-operand.plain n fits, omega (arith, target-operand.short n fits))
+place-plain (Granule n) fits =
+    (All-cons (λ b. b ≢ 10) 64 (hex_digits 16 (16 * n)) (omega arith) (Lacks-hex 10 16 (16 * n) refl), omega (arith, length-hex_digits 16 (16 * n)))
 
 pub place-operand : IsOperand IsPlace place_spelling 17
-place-operand = record { one = place-one; plain = place-plain; short = place-short }
-
--- words
-pub word-operand : IsOperand IsWord (hex_digits 32) 32
-word-operand = record {
-  one = λ m n small small' e. hex_digits-same 32 m n small small' e;
-  plain = λ n small. Lacks-hex 10 32 n refl;
-  short = λ n small. omega (arith, length-hex_digits 32 n);
-}
+place-operand = record { one = place-one; plain = λ a fits. (place-plain a fits).0; short = λ a fits. (place-plain a fits).1 }
 
 -- results
 result_parts : (s t : Bool) (x y : List ℕ) → tag_spelling s ++ 32 ∷ x ≡ tag_spelling t ++ 32 ∷ y → (s ≡ t) × (x ≡ y)
@@ -115,11 +109,7 @@ result-operand = record {
 
 -- offsets
 offset-short : (z : ℤ) → IsOffset z → length (signed_decimal z) ≤ 5
-offset-short (pos n) fits =
-    let small = offset-mag (pos n) fits in let short = length-decimal-le 4 n (omega arith) (omega arith) (omega arith) in omega arith
-offset-short (negsuc n) fits =
-    let small = offset-mag (negsuc n) fits in
-    let short = length-decimal-le 4 (suc n) (omega arith) (omega arith) (omega arith) in omega arith
+offset-short z fits = let small = offset-mag z fits in length_signed_le 4 z (omega arith) (omega arith)
 
 pub offset-operand : IsOperand IsOffset signed_decimal 5
 offset-operand = record {
@@ -130,10 +120,7 @@ offset-operand = record {
 
 -- sizes
 pub size-small : (n : ℕ) → IsDataSize n → (1 ≤ n) × (n ≤ 8)
-size-small n (inl e) = (omega arith, omega arith)
-size-small n (inr (inl e)) = (omega arith, omega arith)
-size-small n (inr (inr (inl e))) = (omega arith, omega arith)
-size-small n (inr (inr (inr e))) = (omega arith, omega arith)
+size-small n fits = (omega arith, omega arith)
 
 pub size-spaceless : (n : ℕ) → IsDataSize n → HasNoSpace (decimal n)
 size-spaceless n fits = let small = size-small n fits in Lacks-decimal 32 n (omega arith) (omega arith)
@@ -153,13 +140,9 @@ sized_parts s t m n fits fits' value value' size digits =
     (same, same_value value' digits)
 
 -- what stands before a value
-mark-plain : (is_load : Bool) → Lacks 10 (value_mark is_load)
-mark-plain true = Lacks-by_test 10 (codes "= ") refl
-mark-plain false = Lacks-by_test 10 [] refl
-
-mark-short : (is_load : Bool) → length (value_mark is_load) ≤ 2
-mark-short true = lit≤ tt
-mark-short false = lit≤ tt
+mark-plain : (is_load : Bool) → Lacks 10 (value_mark is_load) × (length (value_mark is_load) ≤ 2)
+mark-plain true = (Lacks-by_test 10 (codes "= ") refl, lit≤ tt)
+mark-plain false = (Lacks-by_test 10 [] refl, lit≤ tt)
 
 pub behind_mark : (is_load : Bool) (x y : List ℕ) → value_mark is_load ++ x ≡ value_mark is_load ++ y → x ≡ y
 behind_mark true x y e = ap (λ (bs : List ℕ). drop 2 bs) e
@@ -178,7 +161,7 @@ accessed-operand is_load = record {
       let digits = hex_digits (2 * a.size) a.value in
       All-append (λ b. b ≢ 10) (decimal a.size) (32 ∷ (value_mark is_load ++ digits)) (Lacks-decimal 10 a.size (omega arith) (omega arith))
       (All-cons (λ b. b ≢ 10) 32 (value_mark is_load ++ digits) (omega arith)
-      (All-append (λ b. b ≢ 10) (value_mark is_load) digits (mark-plain is_load) (Lacks-hex 10 (2 * a.size) a.value refl)));
+      (All-append (λ b. b ≢ 10) (value_mark is_load) digits (mark-plain is_load).0 (Lacks-hex 10 (2 * a.size) a.value refl)));
   short = λ a fits.
       let small = size-small a.size fits.0 in
       let size = length-decimal-le 1 a.size (omega arith) (omega arith) (omega arith) in
@@ -187,7 +170,7 @@ accessed-operand is_load = record {
         arith,
         length-append (decimal a.size) (32 ∷ (value_mark is_load ++ digits)),
         length-append (value_mark is_load) digits,
-        mark-short is_load,
+        (mark-plain is_load).1,
         length-hex_digits (2 * a.size) a.value,
       );
 }

@@ -1,7 +1,7 @@
 -- What is decided, and what a search decides: whether some thing of a range has a fact that is decided of each.
 use Rattle.std.proofs.Common.{◌≡◌, ℕ, zero, suc, ◌^◌, ◌<◌, ◌≤◌, ℤ, pos, negsuc, Bool, true, false, ◌⊎◌, inl, inr, refl}
-use Rattle.std.proofs.{Common.{subst, Decides, leb, arith, leb-true, le-leb}, lemmas.Bool.{false≢true}}
-use Rattle.std.proofs.lemmas.{Bool.Decides.eqb_tells, Int.ints}
+use Rattle.std.proofs.Common.{subst, Decides, eqb, leb, arith, leb-true, le-leb, eqb-true, eq-eqb}
+use Rattle.std.proofs.lemmas.{Bool.{cases_eq, false≢true}, Int.ints}
 use Rattle.cap_word.specs.declared.word.{Cap.Cap, Word.Word}
 use Rattle.cap_log.specs.declared.lines.{Mode.{Mode, TheVariants.{Strict, Clear}}, Place.Place}
 use Rattle.cap_log.specs.declared.{lines.Place.TheVariants.{Register, Granule}, parts.headers.Version.Version}
@@ -21,10 +21,7 @@ pub fits : (a b : ℕ) → Decided (a ≤ b)
 fits a b = by_test (leb a b) (leb-true a b, le-leb a b)
 
 pub same : (a b : ℕ) → Decided (a ≡ b)
-same a b = elim (eqb_tells a b) [
-  | inl is ↦ inl is.1
-  | inr not ↦ inr not.1
-]
+same a b = by_test (eqb a b) (eqb-true a b, eq-eqb a b)
 
 pub alike : {P Q : Type 0} → (P → Q) → (Q → P) → Decided P → Decided Q
 alike to from (inl p) = inl (to p)
@@ -35,39 +32,28 @@ both (inl p) (inl q) = inl (p, q)
 both (inr none) q = inr (λ h. none h.0)
 both (inl p) (inr none) = inr (λ h. none h.1)
 
-neither : {P Q : Type 0} → (P → ⊥) → (Q → ⊥) → P ⊎ Q → ⊥
-neither none nor (inl p) = none p
-neither none nor (inr q) = nor q
-
 pub either : {P Q : Type 0} → Decided P → Decided Q → Decided (P ⊎ Q)
 either (inl p) q = inl (inl p)
 either (inr none) (inl q) = inl (inr q)
-either (inr none) (inr nor) = inr (neither none nor)
+either (inr none) (inr nor) = inr (λ h. elim h [ inl p ↦ none p | inr q ↦ nor q ])
 
 -- Searches: of each fact that is decided of each thing, it is decided whether a thing in the range has it
 
 abbrev pub Searched : (A : Type 0) → (A → Type 0) → Type 1
 Searched A IsIn = (P : A → Type 0) → ((a : A) → Decided (P a)) → Decided ((a : A) × IsIn a × P a)
 
--- none below a bound has it, and the bound hasn't
-none_up_to : (P : ℕ → Type 0) (most : ℕ) → ((n : ℕ) × (n < most) × P n → ⊥) → (P most → ⊥) → (n : ℕ) → n < suc most → P n → ⊥
-none_up_to P most none not n few here =
-    elim (eqb_tells n most) [
-      | inl is ↦ not (subst P is.1 here)
-      | inr other ↦ let unlike = other.1 in none (n, omega (arith, unlike), here)
-    ]
+-- one below the next bound that has it is below this bound, or is the bound
+up_to : (P : ℕ → Type 0) (most : ℕ) → (n : ℕ) × (n < suc most) × P n → ((n : ℕ) × (n < most) × P n) ⊎ P most
+up_to P most h = elim (cases_eq h.0 most) [
+  | inl is ↦ inr (subst P is h.2)
+  | inr other ↦ let few = h.1 in inl (h.0, omega arith, h.2)
+]
 
 pub below : (most : ℕ) (P : ℕ → Type 0) → ((n : ℕ) → Decided (P n)) → Decided ((n : ℕ) × (n < most) × P n)
 below zero P decided = inr (λ h. let few = h.1 in omega arith)
 below (suc most) P decided =
-    elim (below most P decided) [
-      | inl found ↦ let few = found.1 in inl (found.0, omega arith, found.2)
-      | inr none ↦
-          elim (decided most) [
-            | inl here ↦ inl (most, omega arith, here)
-            | inr not ↦ inr (λ h. none_up_to P most none not h.0 h.1 h.2)
-          ]
-    ]
+    alike (λ found. elim found [ inl h ↦ (let few = h.1 in (h.0, omega arith, h.2)) | inr p ↦ (most, omega arith, p) ])
+    (up_to P most) (either (below most P decided) (decided most))
 
 -- a range within another
 pub narrowed : {A : Type 0} {Wide Narrow : A → Type 0} → Searched A Wide → ((a : A) → Narrow a → Wide a) → ((a : A) → Decided (Narrow a))
@@ -118,14 +104,8 @@ offsets P decided =
     alike (an_offset P) (λ h. by_sign P h.0 h.1 h.2)
     (either (below 2048 _ (λ n. decided (pos n))) (below 2048 _ (λ n. decided (negsuc n))))
 
-a_size : (size : ℕ) → IsDataSize size → size < 9
-a_size size (inl is) = omega arith
-a_size size (inr (inl is)) = omega arith
-a_size size (inr (inr (inl is))) = omega arith
-a_size size (inr (inr (inr is))) = omega arith
-
 sizes : Searched ℕ IsDataSize
-sizes = narrowed (below 9) a_size (λ size. either (same size 1) (either (same size 2) (either (same size 4) (same size 8))))
+sizes = narrowed (below 9) (λ size is. omega arith) (λ size. either (same size 1) (either (same size 2) (either (same size 4) (same size 8))))
 
 abbrev APlace : (Place → Type 0) → Type 0
 APlace P = ((n : ℕ) × IsTarget n × P (Register n)) ⊎ ((n : ℕ) × (n < 2 ^ 60) × P (Granule n))
@@ -158,14 +138,10 @@ pub accesses : (n : ℕ) → Searched (Accessed n) (λ a. IsDatum a.0)
 accesses n P decided =
     alike (λ h. (record { 0 = h.0 }, h.1, h.2)) (λ h. (h.0.0, h.1, h.2)) (data_numbers _ (λ d. decided (record { 0 = d })))
 
-a_version : (v : ℕ) → IsVersion v → v < 3
-a_version v (inl is) = omega arith
-a_version v (inr is) = omega arith
-
 pub versions : Searched Version (λ a. IsVersion a.0)
 versions P decided =
     alike (λ h. (record { 0 = h.0 }, h.1, h.2)) (λ h. (h.0.0, h.1, h.2))
-    (narrowed (below 3) a_version (λ v. either (same v 1) (same v 2)) _ (λ n. decided (record { 0 = n })))
+    (narrowed (below 3) (λ v is. omega arith) (λ v. either (same v 1) (same v 2)) _ (λ n. decided (record { 0 = n })))
 
 a_mode : (P : Mode → Type 0) → P Strict ⊎ P Clear → (mode : Mode) × IsMode mode × P mode
 a_mode P (inl p) = (Strict, tt, p)

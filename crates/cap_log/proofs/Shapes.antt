@@ -1,6 +1,6 @@
 -- Lines by their heads: what stands behind each head, and the line that head and operands make.
 use Rattle.std.specs.Fmt.{signed_decimal}
-use Rattle.std.proofs.Common.{append_assoc, ◌≡◌, ℕ, zero, suc, ℤ, ◌+◌, ◌≤◌, ◌^◌, List, ◌∷◌, ◌++◌, length, sym, ap, subst, ◌∙◌, refl}
+use Rattle.std.proofs.Common.{append_assoc, ◌≡◌, ℕ, zero, suc, ℤ, ◌+◌, ◌≤◌, ◌^◌, List, [], ◌∷◌, ◌++◌, length, sym, ap, subst, ◌∙◌, refl}
 use Rattle.std.proofs.Common.{arith, Bool, true, false, inl, inr, decimal, codes, lit≤, if◌then◌else◌, bytes_eq}
 use Rattle.std.proofs.lemmas.Fmt.{decimal_digit, decimal_injective, length-decimal-le}
 use Rattle.cap_word.specs.{declared.word.{Cap.Cap, Word.Word}, Digits.hex_digits}
@@ -90,15 +90,11 @@ no_version end bytes first second version rest (inl one, e) =
 no_version end bytes first second version rest (inr two, e) =
     second rest (e ∙ ap (λ (ds : List ℕ). ds ++ end ∷ rest) (ap decimal two ∙ two_digit))
 
-version-small : (n : ℕ) → IsVersion n → (1 ≤ n) × (n ≤ 2)
-version-small n (inl one) = (omega arith, omega arith)
-version-small n (inr two) = (omega arith, omega arith)
-
 pub version-operand : IsOperand IsVersion decimal 1
 version-operand = record {
-  one = λ a b fits fits' e. decimal_injective a b (omega (arith, version-small a fits)) (omega (arith, version-small b fits')) e;
-  plain = λ n fits. let small = version-small n fits in Lacks-decimal 10 n (omega arith) (omega arith);
-  short = λ n fits. let small = version-small n fits in length-decimal-le 1 n (omega arith) (omega arith) (omega arith);
+  one = λ a b fits fits' e. decimal_injective a b (omega arith) (omega arith) e;
+  plain = λ n fits. Lacks-decimal 10 n (omega arith) (omega arith);
+  short = λ n fits. length-decimal-le 1 n (omega arith) (omega arith) (omega arith);
 }
 
 one_mode : (a b : Mode) → mode_spelling a ≡ mode_spelling b → a ≡ b
@@ -107,16 +103,12 @@ one_mode Mode.Strict Mode.Clear e = cc
 one_mode Mode.Clear Mode.Strict e = cc
 one_mode Mode.Clear Mode.Clear e = refl
 
-plain_mode : (a : Mode) → HasNoFeed (mode_spelling a)
-plain_mode Mode.Strict = Lacks-by_test 10 (codes "strict") refl
-plain_mode Mode.Clear = Lacks-by_test 10 (codes "clear") refl
-
-short_mode : (a : Mode) → length (mode_spelling a) ≤ 6
-short_mode Mode.Strict = lit≤ tt
-short_mode Mode.Clear = lit≤ tt
+plain_mode : (a : Mode) → HasNoFeed (mode_spelling a) × (length (mode_spelling a) ≤ 6)
+plain_mode Mode.Strict = (Lacks-by_test 10 (codes "strict") refl, lit≤ tt)
+plain_mode Mode.Clear = (Lacks-by_test 10 (codes "clear") refl, lit≤ tt)
 
 pub mode-operand : IsOperand IsMode mode_spelling 6
-mode-operand = record { one = λ a b fits fits' e. one_mode a b e; plain = λ a fits. plain_mode a; short = λ a fits. short_mode a }
+mode-operand = record { one = λ a b fits fits' e. one_mode a b e; plain = λ a fits. (plain_mode a).0; short = λ a fits. (plain_mode a).1 }
 
 abbrev a_version : Shape
 a_version = part (λ (a : Version). IsVersion a.0) (λ a. decimal a.0) 1
@@ -254,28 +246,18 @@ fits-of l range = (is_made (head_of l) (operands_of l)).fits (subst IsInRange (s
 pub spelling-of : (l : Line) → spelling l ≡ head_spelling (head_of l) ++ 32 ∷ text (head_of l) (operands_of l)
 spelling-of l = sym (ap spelling (made-of l)) ∙ (is_made (head_of l) (operands_of l)).spelling_is
 
+-- the first of some heads that a word names
+first_named : List ℕ → List Head → Head
+first_named word [] = Head.End
+first_named word (h ∷ heads) = if bytes_eq word (head_spelling h) then h else first_named word heads
+
 -- the head that a word names
 pub named : List ℕ → Head
-named word =
-    if bytes_eq word (codes "capcheck") then Head.Version else (
-    if bytes_eq word (codes "mode") then Head.Mode else (
-    if bytes_eq word (codes "root") then Head.Root else (
-    if bytes_eq word (codes "move") then Head.Move else (
-    if bytes_eq word (codes "cleartag") then Head.ClearTag else (
-    if bytes_eq word (codes "seal") then Head.Seal else (
-    if bytes_eq word (codes "unseal") then Head.Unseal else (
-    if bytes_eq word (codes "setbounds") then Head.SetBounds else (
-    if bytes_eq word (codes "setboundsexact") then Head.SetBoundsExact else (
-    if bytes_eq word (codes "setaddr") then Head.SetAddr else (
-    if bytes_eq word (codes "andperm") then Head.AndPerm else (
-    if bytes_eq word (codes "lc") then Head.LoadCap else (
-    if bytes_eq word (codes "sc") then Head.StoreCap else (
-    if bytes_eq word (codes "load") then Head.Load else (
-    if bytes_eq word (codes "store") then Head.Store else (
-    Head.End)))))))))))))))
+named word = first_named word (Head.Version ∷ Head.Mode ∷ Head.Root ∷ Head.Move ∷ Head.ClearTag ∷ Head.Seal ∷ Head.Unseal ∷ Head.SetBounds
+    ∷ Head.SetBoundsExact ∷ Head.SetAddr ∷ Head.AndPerm ∷ Head.LoadCap ∷ Head.StoreCap ∷ Head.Load ∷ Head.Store ∷ [])
 
 pub named-spelling : (h : Head) → named (head_spelling h) ≡ h
-unfolding named
+unfolding named first_named
 named-spelling Head.Version = refl
 named-spelling h = refl
 

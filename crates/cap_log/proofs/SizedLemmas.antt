@@ -1,21 +1,13 @@
 -- Sizes and values behind them: what the readers' answers mean.
 use Rattle.std.specs.{Int.from_le_bytes}
 use Rattle.std.proofs.Common.{Bool, ◌≡◌, ℕ, zero, suc, ◌+◌, ◌*◌, ◌-◌, ◌%◌, ◌<◌, ◌≤◌, List, [], ◌∷◌, ◌++◌, length, take, drop}
-use Rattle.std.proofs.Common.{get_or, not, eqb, inl, inr, sym, ap, subst, ◌∙◌, arith, decimal, append_assoc, refl, w16, w32}
-use Rattle.std.proofs.{Common.{length-append, take_all}, lemmas.{Bool.Decides.eqb_tells, Fmt.{decimal_digit, decimal_injective}}}
+use Rattle.std.proofs.Common.{get_or, sym, ap, subst, ◌∙◌, arith, rules, decimal, append_assoc, refl, Fits, w8, w16, w32}
+use Rattle.std.proofs.{Common.{length-take-le, take_all}, lemmas.{Fmt.{decimal_digit, decimal_injective}, Nat.{le_bytes_2, le_bytes_4}}}
 use Rattle.cap_word.specs.Digits.{hex_digits}
 use Rattle.cap_word.proofs.DigitLemmas.{length-hex_digits}
 use Rattle.cap_log.specs.Parts.{Begins, BeginsWithNone, accessed_spelling, value_mark}
 use Rattle.cap_log.specs.Ranges.{Datum, IsDataSize, IsDataValue, IsDatum}
-use Rattle.cap_streams.specs.Written.{Writes}
-use Rattle.cap_log.proofs.{Cuts.same_cut, PartLemmas.{size-small, size-spaceless}, WriteLemmas.length-Writes}
-
--- the sizes at the front of the same bytes are one, and what stands behind them too
-pub same_size : (m n : ℕ) (bytes x y : List ℕ) → Begins IsDataSize decimal 32 bytes m x
-    → Begins IsDataSize decimal 32 bytes n y → (m ≡ n) × (x ≡ y)
-same_size m n bytes x y h k =
-    let parts = same_cut 32 (decimal m) (decimal n) x y (size-spaceless m h.0) (size-spaceless n k.0) (sym h.1 ∙ k.1) in
-    (decimal_injective m n (omega (arith, size-small m h.0)) (omega (arith, size-small n k.0)) parts.0, parts.1)
+use Rattle.cap_log.proofs.{Cuts.{rejoined, same_cut}, PartLemmas.{behind_mark, size-small, size-spaceless}}
 
 -- the bytes of a load's or a store's end, cut behind its size
 pub accessed_cut : (is_load : Bool) (datum : Datum) (end : ℕ) (bytes rest : List ℕ) → IsDatum datum
@@ -28,48 +20,39 @@ accessed_cut is_load datum end bytes rest fits e =
           ∙ ap (λ (bs : List ℕ). decimal datum.size ++ 32 ∷ bs) (append_assoc (value_mark is_load) digits (end ∷ rest)),
     )
 
--- a digit and a byte behind it, by the number of two bytes
-pub digit_by_two : (bytes : List ℕ) (word end digit : ℕ) → 2 ≤ length bytes → ((i : ℕ) → get_or bytes i 0 < 256)
-    → word ≡ from_le_bytes w16 (take 2 bytes) → end < 256 → digit ≡ (word + (65536 - (48 + end * 256))) % 65536 → digit < 10
-    → bytes ≡ decimal digit ++ end ∷ drop 2 bytes
-digit_by_two [] word end digit long small word_is ended digit_is few = absurd (omega arith)
-digit_by_two (a ∷ []) word end digit long small word_is ended digit_is few = absurd (omega arith)
-digit_by_two (a ∷ b ∷ rest) word end digit long small word_is ended digit_is few =
-    let first : a ≡ 48 + digit = omega (arith, small 0, small 1) in
-    let second : b ≡ end = omega (arith, small 0, small 1) in
-    rw (first, second, decimal_digit digit few) refl
+-- so where no value of the size at the front stands behind it, none stands there
+pub no_accessed : (is_load : Bool) (datum : Datum) (n end : ℕ) (bytes digits rest : List ℕ)
+    → Begins IsDataSize decimal 32 bytes n (value_mark is_load ++ digits) → BeginsWithNone (IsDataValue n) (hex_digits (2 * n)) end digits
+    → IsDatum datum → bytes ≡ accessed_spelling is_load datum ++ end ∷ rest → ⊥
+no_accessed is_load datum n end bytes digits rest found none fits e =
+    let cut = accessed_cut is_load datum end bytes rest fits e in
+    let parts = same_cut 32 (decimal n) (decimal datum.size) _ _ (size-spaceless n found.0) (size-spaceless datum.size fits.0)
+    (sym found.1 ∙ cut.1) in
+    let same = decimal_injective n datum.size (omega (arith, size-small n found.0)) (omega (arith, size-small datum.size fits.0)) parts.0 in
+    subst (λ (k : ℕ). BeginsWithNone (IsDataValue k) (hex_digits (2 * k)) end digits) same none datum.value rest
+    (fits.1, behind_mark is_load _ _ parts.1)
+
+-- a digit and the byte behind it, by the number of two bytes
+pub by_two : (bytes : List ℕ) (word end n : ℕ) → ((i : ℕ) → Fits w8 (get_or bytes i 0)) → word < 65536
+    → word ≡ from_le_bytes w16 (take 2 bytes) → end < 256 → n < 10
+    → (2 ≤ length bytes → (word + (65536 - (48 + end * 256))) % 65536 ≡ n → bytes ≡ decimal n ++ end ∷ drop 2 bytes)
+    × ((rest : List ℕ) → bytes ≡ decimal n ++ end ∷ rest → (word + (65536 - (48 + end * 256))) % 65536 ≡ n)
+by_two bytes word end n small below is ended few = rw (decimal_digit n few) (
+  λ two e. rejoined 2 bytes _ _ (sym (le_bytes_2 ((48 + n) ∷ end ∷ []) word refl (λ i. search rules) (omega arith))
+      ∙ le_bytes_2 (take 2 bytes) word (length-take-le 2 bytes two) (λ i. search (rules, small i)) is) refl,
+  λ rest e. omega (arith, is ∙ ap (λ (bs : List ℕ). from_le_bytes w16 (take 2 bs)) e),
+)
 
 -- a digit and the mark of a load behind it, by the number of four bytes
-pub digit_by_four : (bytes : List ℕ) (word digit : ℕ) → 4 ≤ length bytes → ((i : ℕ) → get_or bytes i 0 < 256)
-    → word ≡ from_le_bytes w32 (take 4 bytes) → digit ≡ (word + (4294967296 - 540876848)) % 4294967296 → digit < 10
-    → bytes ≡ decimal digit ++ 32 ∷ 61 ∷ 32 ∷ drop 4 bytes
-digit_by_four [] word digit long small word_is digit_is few = absurd (omega arith)
-digit_by_four (a ∷ []) word digit long small word_is digit_is few = absurd (omega arith)
-digit_by_four (a ∷ b ∷ []) word digit long small word_is digit_is few = absurd (omega arith)
-digit_by_four (a ∷ b ∷ c ∷ []) word digit long small word_is digit_is few = absurd (omega arith)
-digit_by_four (a ∷ b ∷ c ∷ d ∷ rest) word digit long small word_is digit_is few =
-    let whole : a + 256 * (b + 256 * (c + 256 * d)) ≡ 540876848 + digit = omega (arith, small 0, small 1, small 2, small 3) in
-    let first : a ≡ 48 + digit = omega (arith, small 0) in
-    let second : b ≡ 32 = omega (arith, small 1) in
-    let third : c ≡ 61 = omega (arith, small 2) in
-    let fourth : d ≡ 32 = omega arith in
-    rw (first, second, third, fourth, decimal_digit digit few) refl
-
--- what stands before the value of a load, and of a store
-pub load_mark : (n : ℕ) (digits : List ℕ) → (n ≡ 0 → ⊥) → value_mark (not (eqb n 0)) ++ digits ≡ 61 ∷ 32 ∷ digits
-load_mark n digits some = elim (eqb_tells n 0) [
-  | inl is ↦ absurd (some is.1)
-  | inr other ↦ ap (λ (b : Bool). value_mark (not b) ++ digits) other.0
-]
-
-pub store_mark : (n : ℕ) (digits : List ℕ) → n ≡ 0 → value_mark (not (eqb n 0)) ++ digits ≡ digits
-store_mark n digits none = ap (λ (k : ℕ). value_mark (not (eqb k 0)) ++ digits) none
-
--- no value of the size that was taken
-pub no_sized : (m n value end : ℕ) (digits rest : List ℕ) → m ≡ n → BeginsWithNone (IsDataValue m) (hex_digits (2 * m)) end digits
-    → IsDataValue n value → digits ≡ hex_digits (2 * n) value ++ end ∷ rest → ⊥
-no_sized m n value end digits rest same none =
-    subst (λ (k : ℕ). IsDataValue k value → digits ≡ hex_digits (2 * k) value ++ end ∷ rest → ⊥) same (λ fits e. none value rest (fits, e))
+pub by_four : (bytes : List ℕ) (word n : ℕ) → ((i : ℕ) → Fits w8 (get_or bytes i 0)) → word < 4294967296
+    → word ≡ from_le_bytes w32 (take 4 bytes) → n < 10
+    → (4 ≤ length bytes → (word + (4294967296 - 540876848)) % 4294967296 ≡ n → bytes ≡ decimal n ++ 32 ∷ 61 ∷ 32 ∷ drop 4 bytes)
+    × ((rest : List ℕ) → bytes ≡ decimal n ++ 32 ∷ 61 ∷ 32 ∷ rest → (word + (4294967296 - 540876848)) % 4294967296 ≡ n)
+by_four bytes word n small below is few = rw (decimal_digit n few) (
+  λ four e. rejoined 4 bytes _ _ (sym (le_bytes_4 ((48 + n) ∷ 32 ∷ 61 ∷ 32 ∷ []) word refl (λ i. search rules) (omega arith))
+      ∙ le_bytes_4 (take 4 bytes) word (length-take-le 4 bytes four) (λ i. search (rules, small i)) is) refl,
+  λ rest e. omega (arith, is ∙ ap (λ (bs : List ℕ). from_le_bytes w32 (take 4 bs)) e),
+)
 
 -- digits in front of others
 pub drop-hex_digits : (j k n : ℕ) → drop j (hex_digits (j + k) n) ≡ hex_digits k n
@@ -84,21 +67,5 @@ pub last_digits : (all count n : ℕ) (text : List ℕ) → count ≤ all → te
     → take (all - (all - count)) (drop (all - count) text) ≡ hex_digits count n
 last_digits all count n text few e =
     let whole : (all - count) + count ≡ all = omega arith in
-    let digits : drop (all - count) text ≡ hex_digits count n =
-    ap (λ (bs : List ℕ). drop (all - count) bs) (e ∙ ap (λ (i : ℕ). hex_digits i n) (sym whole)) ∙ drop-hex_digits (all - count) count n in
-    let long : length (drop (all - count) text) ≤ all - (all - count) = omega (arith, ap length digits, length-hex_digits count n) in
-    take_all (all - (all - count)) (drop (all - count) text) long ∙ digits
-
--- room for the digits behind a size
-pub sized_room : (at i j size value : ℕ) (gap old first second : List ℕ) → Writes at (decimal size) old first i
-    → Writes i gap first second j
-    → at + length (decimal size ++ (gap ++ hex_digits (2 * size) value)) ≤ length old → j + 2 * size ≤ length second
-sized_room at i j size value gap old first second one two room =
-    let ends = one.ends in
-    let ends' = two.ends in
-    let long = length-append (decimal size) (gap ++ hex_digits (2 * size) value) in
-    let long' = length-append gap (hex_digits (2 * size) value) in
-    let digits = length-hex_digits (2 * size) value in
-    let same = length-Writes at i (decimal size) old first one (omega arith) in
-    let same' = length-Writes i j gap first second two (omega arith) in
-    omega arith
+    let digits = rw whole at (drop-hex_digits (all - count) count n) in
+    rw (e, digits) (take_all _ _ (omega (arith, length-hex_digits count n)))

@@ -7,7 +7,7 @@ use Rattle.cap_log.specs.SpacelessLaws.{head-spaceless}
 use Rattle.cap_streams.specs.{Front.{HasNoFeed, IsLine}, Written.Writes}
 use Rattle.cap_log.proofs.Cuts.{same_cut}
 use Rattle.cap_log.proofs.Shapes.{Fits, Value, fits-of, head-operand, head_of, made, made-of, operands_of, row}
-use Rattle.cap_log.proofs.{Shapes.{row-short, spelling-of, text}, WriteLemmas.{front_and_byte, length-Writes}}
+use Rattle.cap_log.proofs.{Shapes.{row-short, spelling-of, text}, WriteLemmas.{front_and_byte, room_behind}}
 
 -- lines with one spelling are one
 same_made : (h k : Head) → h ≡ k → (x : Value h) (y : Value k) → Fits h x → Fits k y → text h x ≡ text k y → made h x ≡ made k y
@@ -30,12 +30,13 @@ spelling-plain l fits = rw (spelling-of l) (All-append (λ b. b ≢ 10) (head_sp
     ((row (head_of l)).operand.plain (operands_of l) (fits-of l fits))))
 
 pub spelling-short : (l : Line) → IsInRange l → length (spelling l) ≤ 95
-spelling-short l fits =
-    let long = ap length (spelling-of l) ∙ length-append (head_spelling (head_of l)) (32 ∷ text (head_of l) (operands_of l)) in
-    let first = head-operand.short (head_of l) tt in
-    let second = (row (head_of l)).operand.short (operands_of l) (fits-of l fits) in
-    let most = row-short (head_of l) in
-    omega arith
+spelling-short l fits = omega (
+  arith,
+  ap length (spelling-of l) ∙ length-append (head_spelling (head_of l)) (32 ∷ text (head_of l) (operands_of l)),
+  head-operand.short (head_of l) tt,
+  (row (head_of l)).operand.short (operands_of l) (fits-of l fits),
+  row-short (head_of l),
+)
 
 -- so a spelling and a line feed are the line at the front of any bytes
 pub IsLine-spelling : (l : Line) → IsInRange l → (rest : List ℕ) → IsLine (spelling l ++ 10 ∷ rest) (spelling l) rest
@@ -62,7 +63,7 @@ line_at l fits end count old mid new room words feed =
     let short = spelling-short l fits in
     let ends = words.ends in
     let ends' = feed.ends in
-    let both = front_and_byte end count 10 (spelling l) old mid new words feed (omega arith) in
+    let both = front_and_byte end count 10 (spelling l) old mid new words feed in
     record {
       ends = omega arith;
       fits = omega arith;
@@ -75,8 +76,4 @@ line_at l fits end count old mid new room words feed =
 -- the room for that line feed
 pub feed_room : (l : Line) → IsInRange l → (end : ℕ) (old mid : List ℕ) → 96 ≤ length old → Writes 0 (spelling l) old mid end
     → end + 1 ≤ length mid
-feed_room l fits end old mid room words =
-    let short = spelling-short l fits in
-    let ends = words.ends in
-    let same = length-Writes 0 end (spelling l) old mid words (omega arith) in
-    omega arith
+feed_room l fits end old mid room words = room_behind 0 end 1 (spelling l) old mid words (omega (arith, spelling-short l fits))

@@ -1,5 +1,5 @@
 -- Parts at the front of some bytes, with the byte that ends them.
-use Rattle.std.proofs.Common.{◌≡◌, ℕ, ◌+◌, ◌<◌, ◌≤◌, List, ◌∷◌, ◌++◌, length, take, drop, get_or, sym, ap}
+use Rattle.std.proofs.Common.{◌≡◌, ℕ, ◌+◌, ◌<◌, List, ◌∷◌, ◌++◌, length, take, drop, get_or, sym, ap}
 use Rattle.std.proofs.Common.{◌∙◌, arith, append_assoc, length-append, take-append-drop, take_at}
 use Rattle.std.proofs.lemmas.List.{drop_more, get_or_at}
 use Rattle.cap_log.specs.{Parts.{Begins, BeginsWithNone, FitBoth, HasNoSpace, spaced}}
@@ -7,17 +7,12 @@ use Rattle.cap_log.proofs.Cuts.{same_cut}
 
 module _ {A : Type 0} (Fits : A → Type 0) (spelled : A → List ℕ) (end : ℕ) where
   -- where all spellings have so many bytes: no more than these, another byte behind them, or bytes that are none
-  pub none_short : (n : ℕ) → ((a : A) → Fits a → length (spelled a) ≡ n) → (bytes : List ℕ) → length bytes ≤ n
+  pub none_ended : (n : ℕ) → ((a : A) → Fits a → length (spelled a) ≡ n) → (bytes : List ℕ) → (n < length bytes → get_or bytes n 0 ≡ end → ⊥)
       → BeginsWithNone Fits spelled end bytes
-  none_short n long bytes few a rest begins =
+  none_ended n long bytes none a rest begins =
       let same = long a begins.0 in
       let whole = ap length begins.1 ∙ length-append (spelled a) (end ∷ rest) in
-      omega arith
-
-  pub none_ended_so : (n : ℕ) → ((a : A) → Fits a → length (spelled a) ≡ n) → (bytes : List ℕ) → (get_or bytes n 0 ≡ end → ⊥)
-      → BeginsWithNone Fits spelled end bytes
-  none_ended_so n long bytes other a rest begins =
-      other (ap (λ (bs : List ℕ). get_or bs n 0) begins.1 ∙ get_or_at (spelled a) end rest 0 n (long a begins.0))
+      none (omega arith) (ap (λ (bs : List ℕ). get_or bs n 0) begins.1 ∙ get_or_at (spelled a) end rest 0 n same)
 
   pub none_in_front : (n : ℕ) → ((a : A) → Fits a → length (spelled a) ≡ n) → (bytes : List ℕ)
       → ((a : A) → Fits a → take n bytes ≡ spelled a → ⊥) → BeginsWithNone Fits spelled end bytes
@@ -26,9 +21,7 @@ module _ {A : Type 0} (Fits : A → Type 0) (spelled : A → List ℕ) (end : �
 
 -- so many bytes, the one behind them and the rest
 pub cut_behind : (n end : ℕ) (bytes : List ℕ) → n < length bytes → get_or bytes n 0 ≡ end → bytes ≡ take n bytes ++ end ∷ drop (n + 1) bytes
-cut_behind n end bytes before ended =
-    sym (take-append-drop n bytes)
-    ∙ ap (λ (rest : List ℕ). take n bytes ++ rest) (drop_more bytes n 0 before ∙ ap (λ (b : ℕ). b ∷ drop (n + 1) bytes) ended)
+cut_behind n end bytes before ended = rw (← ended, ← drop_more bytes n 0 before) (sym (take-append-drop n bytes))
 
 -- two parts, of which the first is one word
 module _ {A B : Type 0} (P : A → Type 0) (first : A → List ℕ) (Q : B → Type 0) (second : B → List ℕ) (end : ℕ) (bytes : List ℕ) where

@@ -4,7 +4,4 @@ use Rattle.cap_log.proofs.operands.write_parts.Goals as goal
 
 pub write-requires-clause-room : goal.write-requires-clause-room
 write-requires-clause-room g c =
-    let short = spelling-short c.args.line.now c.requires.in_range in
-    let same = ap length c.requires.spelling in
-    let room = c.requires.room in
-    omega arith
+    omega (arith, spelling-short c.args.line.now c.requires.in_range, ap length c.requires.spelling)

@@ -4,20 +4,12 @@ use Rattle.cap_log.proofs.parts.decimals.four_digits.Goals as goal
 
 pub bounds-count : goal.bounds-count
 bounds-count c =
-    let is = four c.args.front.now c.told-front c.fits-front _ _ _ _ c.from_le_bytes-values.ensures c.from-wide.ensures refl refl in
+    let is = four c.args.front.now c.told-front _ _ _ _ c.fits-front c.from_le_bytes-values.ensures c.from-wide.ensures refl refl in
     omega (arith, is.few)
 
 pub returns : goal.returns
 returns c =
-    let is = four c.args.front.now c.told-front c.fits-front _ _ _ _ c.from_le_bytes-values.ensures c.from-wide.ensures refl c.from.ensures in
+    let is = four c.args.front.now c.told-front _ _ _ _ c.fits-front c.from_le_bytes-values.ensures c.from-wide.ensures refl c.from.ensures in
     let first = c.from-2.ensures ∙ ap (λ (bytes : List ℕ). get_or bytes 0 0) c.to_le_bytes-pairs.ensures in
     let second = c.from-3.ensures ∙ ap (λ (bytes : List ℕ). get_or bytes 2 0) c.to_le_bytes-pairs.ensures in
-    record {
-      front = record {
-        few = is.few;
-        inside = is.inside;
-        digits = is.digits;
-        value_is = omega (arith, first, second, is.value_is);
-        stops = is.stops;
-      };
-    }
+    record { front = rw (first, second) is }

@@ -1,7 +1,7 @@
 use Rattle.std.specs.Int.{from_le_bytes}
-use Rattle.std.proofs.Common.{◌≡◌, ◌↔◌, ℕ, ◌+◌, ◌-◌, ◌*◌, ◌/◌, ◌%◌, ◌<◌, [], ◌∷◌, ◌++◌, List, drop, take, sym, ap, refl, ◌∙◌, arith, rules, w32}
-use Rattle.std.proofs.{Common.take-append-drop, lemmas.Nat.le_bytes_4}
-use Rattle.cap_log.proofs.RegisterLemmas.{name_of_one}
+use Rattle.std.proofs.Common.{◌≡◌, ◌↔◌, ℕ, ◌+◌, ◌-◌, ◌*◌, ◌/◌, ◌%◌, ◌<◌, [], ◌∷◌, take, sym, ap, refl, ◌∙◌, arith, rules, w32}
+use Rattle.std.proofs.lemmas.{Fmt.decimal_digit, Nat.le_bytes_4}
+use Rattle.cap_log.proofs.Cuts.{rejoined}
 use Rattle.cap_log.proofs.parts.registers.one_digit.Goals as goal
 
 -- what is taken from a number whose first three bytes are such a name and its end
@@ -15,13 +15,12 @@ returns c = λ n small.
     let front = c.args.front.now in
     let word = c.from_le_bytes-word.result in
     let number = is_name word _ c.args.end n (omega arith) small c.from_le_bytes-least.ensures in
-    let name = ap (λ (ds : List ℕ). ds ++ c.args.end ∷ []) (name_of_one n small) in (
+    rw (decimal_digit n small) (
       λ is.
           let low = number.0 is in
           ap (take 3) (sym (le_bytes_4 front word (search rules) (search rules) c.from_le_bytes-word.ensures)
-          ∙ le_bytes_4 (99 ∷ (48 + n) ∷ c.args.end ∷ (word / 16777216) ∷ []) word refl (λ i. search rules) (omega arith)) ∙ sym name,
+          ∙ le_bytes_4 (99 ∷ (48 + n) ∷ c.args.end ∷ (word / 16777216) ∷ []) word refl (λ i. search rules) (omega arith)),
       λ is.
-          let bytes = sym (take-append-drop 3 front) ∙ ap (λ (ds : List ℕ). ds ++ drop 3 front) (is ∙ name) in
-          let word_is = c.from_le_bytes-word.ensures ∙ ap (λ (l : List ℕ). from_le_bytes w32 l) bytes in
+          let word_is = c.from_le_bytes-word.ensures ∙ ap (from_le_bytes w32) (rejoined 3 front _ _ (sym is) refl) in
           number.1 (omega arith),
     )

@@ -1,7 +1,7 @@
 use Rattle.std.specs.Int.{from_le_bytes}
-use Rattle.std.proofs.Common.{◌≡◌, ◌↔◌, ℕ, ◌+◌, ◌-◌, ◌*◌, ◌/◌, ◌%◌, ◌<◌, ◌≤◌, [], ◌∷◌, ◌++◌, List, sym, ap, refl, ◌∙◌, arith, rules, w32}
+use Rattle.std.proofs.Common.{◌≡◌, ◌↔◌, ℕ, ◌+◌, ◌-◌, ◌*◌, ◌/◌, ◌%◌, ◌<◌, ◌≤◌, [], ◌∷◌, sym, ap, refl, ◌∙◌, arith, rules, w32}
 use Rattle.std.proofs.lemmas.Nat.{le_bytes_4}
-use Rattle.cap_log.proofs.RegisterLemmas.{name_of_two}
+use Rattle.cap_log.proofs.FewLemmas.{two}
 use Rattle.cap_log.proofs.parts.registers.two_digits.Goals as goal
 
 -- what is taken from the number of such a name and its end
@@ -15,20 +15,17 @@ is_name word least end n fits ended some few is = (λ e. omega arith, λ e. (ome
 pub returns-then-digits-lt2560 : goal.returns-then-digits-lt2560
 returns-then-digits-lt2560 c = λ n some few.
     let number = is_name c.from_le_bytes-word.result _ c.args.end n (omega arith) (omega arith) some few c.from_le_bytes-least.ensures in
-    let name = ap (λ (ds : List ℕ). ds ++ c.args.end ∷ []) (name_of_two n some few) in (
+    rw (two n some (omega arith)) (
       λ is.
           sym (le_bytes_4 c.args.front.now _ (search rules) (search rules) c.from_le_bytes-word.ensures)
-          ∙ le_bytes_4 (99 ∷ (48 + n / 10) ∷ (48 + n % 10) ∷ c.args.end ∷ []) _ refl (λ i. search rules)
-          (number.0 (c.if-digits-lt2560.true, is)) ∙ sym name,
-      λ is. (number.1 (c.from_le_bytes-word.ensures ∙ ap (λ (l : List ℕ). from_le_bytes w32 l) (is ∙ name))).1,
+          ∙ le_bytes_4 (99 ∷ (48 + n / 10) ∷ (48 + n % 10) ∷ c.args.end ∷ []) _ refl (λ i. search rules) (number.0 (c.if-digits-lt2560.true, is)),
+      λ is. (number.1 (c.from_le_bytes-word.ensures ∙ ap (from_le_bytes w32) is)).1,
     )
 
 pub returns-else-digits-lt2560 : goal.returns-else-digits-lt2560
 returns-else-digits-lt2560 c = λ n some few.
     let number = is_name c.from_le_bytes-word.result _ c.args.end n (omega arith) (omega arith) some few c.from_le_bytes-least.ensures in
-    let name = ap (λ (ds : List ℕ). ds ++ c.args.end ∷ []) (name_of_two n some few) in (
+    rw (two n some (omega arith)) (
       λ is. absurd (omega arith),
-      λ is.
-          let small = (number.1 (c.from_le_bytes-word.ensures ∙ ap (λ (l : List ℕ). from_le_bytes w32 l) (is ∙ name))).0 in
-          absurd (omega (arith, small, c.if-digits-lt2560.false)),
+      λ is. absurd (omega (arith, number.1 (c.from_le_bytes-word.ensures ∙ ap (from_le_bytes w32) is), c.if-digits-lt2560.false)),
     )

@@ -1,22 +1,16 @@
 use Rattle.std.proofs.Common.{◌≡◌, ℕ, ◌<◌, List, ◌∷◌, ◌++◌, length, take, drop, get_or, ap, ◌∙◌, arith, rules, sym, take_at, codes}
-use Rattle.std.proofs.lemmas.List.{take_rest, drop-drop, get_or-drop, take-append-drop}
+use Rattle.std.proofs.lemmas.List.{take_rest, drop-drop, get_or-drop}
 use Rattle.std.proofs.Common.{length-drop}
 use Rattle.cap_word.specs.Digits.{hex_digits}
 use Rattle.cap_word.proofs.DigitLemmas.{length-hex_digits}
 use Rattle.cap_log.specs.{Lines.IsWord, Parts.result_spelling}
-use Rattle.cap_log.proofs.{PartLemmas.{drop_result, length-result}, TakeLemmas.{cut_behind, none_ended_so, none_short}}
-use Rattle.cap_log.proofs.parts.results.CapPart.take.Goals.{then-bytes-le-RESULT_LENGTH-via-then-bytes-le-RESULT_LENGTH}
-use Rattle.cap_log.proofs.parts.results.CapPart.take.Goals.{then-bytes-le-RESULT_LENGTH-via-else-bytes-le-RESULT_LENGTH+then-bytes-end}
+use Rattle.cap_log.proofs.{Cuts.rejoined, PartLemmas.{drop_result, length-result}, TakeLemmas.{cut_behind, none_ended}}
 use Rattle.cap_log.proofs.parts.results.CapPart.take.Goals.{else-not-tag-via-then-not-tag+else-not-are_four, else-not-tag-via-else-not-tag}
 use Rattle.cap_log.proofs.parts.results.CapPart.take.Goals as goal
 
 pub returns-then-bytes-le-RESULT_LENGTH-clause-none : goal.returns-then-bytes-le-RESULT_LENGTH-clause-none
-returns-then-bytes-le-RESULT_LENGTH-clause-none c = elim c.then-bytes-le-RESULT_LENGTH.branch [
-  | then-bytes-le-RESULT_LENGTH-via-then-bytes-le-RESULT_LENGTH w ↦
-      none_short (λ a. IsWord a.word.0) result_spelling c.args.end 36 (λ a fits. length-result a) c.args.bytes.now w.if-bytes-le-RESULT_LENGTH.true
-  | then-bytes-le-RESULT_LENGTH-via-else-bytes-le-RESULT_LENGTH+then-bytes-end w ↦
-      none_ended_so (λ a. IsWord a.word.0) result_spelling c.args.end 36 (λ a fits. length-result a) c.args.bytes.now w.if-bytes-end.true
-]
+returns-then-bytes-le-RESULT_LENGTH-clause-none c =
+    none_ended (λ a. IsWord a.word.0) result_spelling c.args.end 36 (λ a fits. length-result a) c.args.bytes.now (λ before ended. search rules)
 
 pub returns-in_err-word-clause-none : goal.returns-in_err-word-clause-none
 returns-in_err-word-clause-none c = rw c.from_residual-in_err-word.ensures (λ a rest begins.
@@ -30,7 +24,7 @@ word_behind : (mark : List ℕ) (end n : ℕ) (bytes : List ℕ) → 36 < length
 word_behind mark end n bytes long ended marked digits =
     let word = cut_behind 32 end (drop 4 bytes) (omega (arith, length-drop 4 bytes)) (get_or-drop 4 bytes 32 0 ∙ ended) in
     let whole = rw (drop-drop 33 4 bytes, digits) at word in
-    sym (take-append-drop 4 bytes) ∙ ap (λ (bs : List ℕ). bs ++ drop 4 bytes) marked ∙ ap (λ (bs : List ℕ). mark ++ bs) whole
+    rejoined 4 bytes mark _ (sym marked) (sym whole)
 
 pub returns-clause-some : goal.returns-clause-some
 returns-clause-some c =

@@ -1,4 +1,4 @@
-use Rattle.cap_log.proofs.{PartLemmas.behind_mark, SizedLemmas.{accessed_cut, no_sized, same_size}}
+use Rattle.cap_log.proofs.SizedLemmas.{accessed_cut, no_accessed}
 use Rattle.cap_log.proofs.parts.sized.AccessedPart.take.Goals as goal
 
 pub returns-in_err-count-clause-none : goal.returns-in_err-count-clause-none
@@ -7,5 +7,4 @@ returns-in_err-count-clause-none g c = rw c.from_residual.ensures (λ a rest beg
 
 pub returns-in_err-value-clause-none : goal.returns-in_err-value-clause-none
 returns-in_err-value-clause-none g c = rw c.from_residual-in_err-value.ensures (λ a rest begins.
-    let same = same_size _ _ _ _ _ c.in_ok-count.ensures.some (accessed_cut _ a.0 c.args.end c.args.bytes.now rest begins.0 begins.1) in
-    no_sized _ a.0.size a.0.value c.args.end _ rest same.0 c.in_err-value.ensures.none begins.0.1 (behind_mark _ _ _ same.1))
+    no_accessed _ a.0 _ c.args.end c.args.bytes.now _ rest c.in_ok-count.ensures.some c.in_err-value.ensures.none begins.0 begins.1)
