@@ -73,7 +73,7 @@ impl Derived for LoadCap {
 }
 
 /// Takes the operands after a head and its space with the line feed, as `take` does, where they record what the step
-/// gives: the step, that capability with its origin's code, and what follows. `None` says nothing.
+/// gives: the step, what [`Derivation::derive`] gives for it, and what follows. `None` says nothing.
 #[inline(always)]
 pub(crate) fn glance<'a, M: TaggedStore, D: Derived>(
     machine: &mut Machine<M>,

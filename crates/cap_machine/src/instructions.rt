@@ -65,8 +65,9 @@ pub trait Instruction: Operands {
 
 /// A kind of step that gives a register a capability, which its line records.
 pub trait Derivation: Operands {
-    /// What it gives, whatever its line records, and if this comes from memory, the code of its granule's origin; or how
-    /// the step ends if a check of its operation or access fails. What the machine holds stays as it was.
+    /// What it gives, whatever its line records, and the code of this if it comes from memory: that of its granule's
+    /// origin, or 0 if it has no tag. Or how the step ends if a check of its operation or access fails. What the machine
+    /// holds stays as it was.
     fn derive<M: TaggedStore>(&self, machine: &mut Machine<M>) -> Result<(Cap, u64), StepEnd>
         ensures gives { IfOk result (λ p. Gives machine.old (Self.step self.now) p.0 p.1) }
         ensures end { IfErr result (λ end. EndsStep machine.old (Self.step self.now) end machine.old) }
@@ -113,11 +114,8 @@ pub trait Operation: Operands {
         requires derives { Derives machine.now (Self.step self.now) (Ok given) }
         ensures code { IsCodeOf machine.now (Self.step self.now) given result }
     {
-        if given.tag {
-            machine.codes[self.parts().source.number() as usize]
-        } else {
-            0
-        }
+        let code = machine.codes[self.parts().source.number() as usize];
+        if given.tag { code } else { 0 }
     }
 
     /// How it ends by some rules: its result, or its first failed check.
