@@ -118,18 +118,11 @@ fn put_free_lines(heap: &Heap, address: u64, buffer: &mut [u8], at: usize) -> us
 {
     let found = heap.overlapped(address, 1);
     let at = put_live_lines(buffer, at, found);
-    put_line(buffer, at, b"hint", free_hint(found))
-}
-
-// What freeing an address means that no live object begins at.
-fn free_hint(found: Option<(u64, u64)>) -> &'static [u8]
-    ensures text { result.now ≡ free_hint found }
-    ensures short { length result.now ≤ 80 }
-{
-    match found {
+    let hint: &[u8] = match found {
         Some(_) => b"the address lies in a live object: free takes its first one",
         None => b"no live object has this address: it was freed before, or never handed out",
-    }
+    };
+    put_line(buffer, at, b"hint", hint)
 }
 
 // Writes what is told of a request that was refused.

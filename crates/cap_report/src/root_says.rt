@@ -41,16 +41,6 @@ fn put_unsound_reason(buffer: &mut [u8], at: usize, word: Word) -> usize
     }
 }
 
-// The same, and that it isn't.
-fn put_unsound(buffer: &mut [u8], at: usize, word: Word) -> usize
-    requires { at + 96 ≤ length buffer.old }
-    ensures written { Writes at (unsound_text word.0) buffer.old buffer.new result }
-    ensures fits { result ≤ at + 96 }
-{
-    let at = put(buffer, at, b"its word isn't sound: ");
-    put_unsound_reason(buffer, at, word)
-}
-
 /// Writes in a sentence why a root's word was refused, as [`put_step_says`](crate::says::put_step_says) does for a step.
 #[tactic(auto, unfolding(cap_texts::specs::TextLines::says_line))]
 pub fn put_unsound_says(word: Word, buffer: &mut [u8], at: usize) -> usize
@@ -58,8 +48,8 @@ pub fn put_unsound_says(word: Word, buffer: &mut [u8], at: usize) -> usize
     ensures written { Writes at (says_line (unsound_text word.0)) buffer.old buffer.new result }
     ensures fits { result ≤ at + 102 }
 {
-    let at = put(buffer, at, b"says ");
-    let at = put_unsound(buffer, at, word);
+    let at = put(buffer, at, b"says its word isn't sound: ");
+    let at = put_unsound_reason(buffer, at, word);
     put(buffer, at, b"\n")
 }
 

@@ -64,7 +64,10 @@ pub fn put_meaning_lines(buffer: &mut [u8], at: usize, name: &[u8], word: Word) 
     ensures fits { result ≤ at + 108 }
 {
     let Interval { base, top } = bounds(word);
-    let at = put_perms_line(buffer, at, name, perm_view(word));
+    let at = put(buffer, at, name);
+    let at = put(buffer, at, b" perms ");
+    let at = put_hex(buffer, at, 8, u128::from(perm_view(word)));
+    let at = put(buffer, at, b"\n");
     let at = put_type_line(buffer, at, name, split(word).otype);
     put_bounds_line(buffer, at, name, b" bounds ", base, top)
 }
@@ -84,20 +87,6 @@ fn put_cap_line(buffer: &mut [u8], at: usize, name: &[u8], place: Place, cap: Ca
     let at = put_flag(buffer, at, cap.tag);
     let at = put(buffer, at, b" ");
     let at = put_hex(buffer, at, 32, cap.word.0);
-    put(buffer, at, b"\n")
-}
-
-// Writes the permissions.
-#[tactic(auto, unfolding(crate::specs::CapLines::perms_line))]
-fn put_perms_line(buffer: &mut [u8], at: usize, name: &[u8], view: u32) -> usize
-    requires name { length name.now ≤ 9 }
-    requires room { at + 25 ≤ length buffer.old }
-    ensures written { Writes at (perms_line name.now view) buffer.old buffer.new result }
-    ensures fits { result ≤ at + 25 }
-{
-    let at = put(buffer, at, name);
-    let at = put(buffer, at, b" perms ");
-    let at = put_hex(buffer, at, 8, u128::from(view));
     put(buffer, at, b"\n")
 }
 
