@@ -116,7 +116,7 @@ UNIT = r"(?:ns|ms|s|seconds?|minutes?|hours?|[MG]B|Ki?B|per cent|instructions|mi
 FIGURE = re.compile(rf"{NUMBER} {UNIT}\b|\b(?:half|a quarter of) an? (?:hour|minute|second)\b|\bten minutes\b|\bfew hundredths of a second\b")
 ROUNDED = {
     "0.02 to 0.06 s": ["0.023 to 0.058 s"],
-    "60 to 150 instructions": ["| 63 | 83 | 80 | 84 | 109 | 111 | 116 |", "| 146 | 114 | 139 | 88 | 86 | 106 | 101 |"],
+    "60 to 150 instructions": ["| 63 | 83 | 80 | 84 | 109 | 110 | 116 |", "| 146 | 114 | 139 | 88 | 86 | 106 | 101 |"],
     "10 ns": ["| decoding | 8.9 |", "| rounding: the fields, and whether it is exact | 11.9 |"],
     "30 to 40 ns": ["| each line by itself, its length known | 29 | 41 |"],
     "2,000 KB": ["`(ulimit -v 2000; ..)`"],
