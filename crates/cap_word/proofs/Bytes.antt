@@ -21,18 +21,6 @@ pub byte_at_is : (i n : ℕ) → byte_at i n ≡ n / 256 ^ i % 256
 byte_at_is zero n = ap (λ (x : ℕ). x % 256) (sym (ap (λ (x : ℕ). n / x) (pow-zero 256) ∙ div-one n))
 byte_at_is (suc i) n = refl
 
--- the bytes that std's conversion gives
-low_first : (k i n : ℕ) → bytes_low_first i k n ≡ low_bytes k (n / 256 ^ i)
-unfolding low_bytes
-low_first zero i n = refl
-low_first (suc k) i n =
-    let next : n / 256 ^ i / 256 ≡ n / 256 ^ suc i = div-div-eq-div-mul n (256 ^ i) 256 ∙ ap (λ (x : ℕ). n / x) (sym (pow-suc 256 i)) in
-    ap (λ x. x ∷ bytes_low_first (suc i) k n) (byte_at_is i n)
-    ∙ ap (λ x. n / 256 ^ i % 256 ∷ x) (low_first k (suc i) n ∙ ap (low_bytes k) (sym next))
-
-pub to_le_bytes_is : (n : ℕ) → to_le_bytes w128 n ≡ low_bytes 16 n
-to_le_bytes_is n = low_first 16 0 n ∙ ap (low_bytes 16) (ap (λ (x : ℕ). n / x) (pow-zero 256) ∙ div-one n)
-
 pub get_or-low_bytes : (k n i : ℕ) → i < k → get_or (low_bytes k n) i 0 ≡ n / 2 ^ (8 * i) % 256
 unfolding low_bytes
 get_or-low_bytes zero n i h = absurd (omega arith)

@@ -15,9 +15,12 @@ pub fn to_memory(word: Word) -> [u8; 16]
     ensures reads_back { stored_word result ≡ word.0 }
 {
     let stored = Word(word.0 ^ null().0);
+    // As a vector, all sixteen bytes are stored at once.
+    let mut bytes = [0; 16];
     u64x2::from_array([stored.address(), (stored.0 >> 64) as u64])
         .to_le_bytes()
-        .to_array()
+        .copy_to_slice(&mut bytes);
+    bytes
 }
 
 /// The word that sixteen bytes of memory hold: the inverse of [`to_memory`].
