@@ -1,6 +1,7 @@
 -- How regions lead to one another by the octal digits of their numbers. All of it is this profile's own.
 use Rattle.std.specs.Prelude.{◌≡◌, ◌≢◌, ℕ, zero, suc, ◌+◌, ◌*◌, ◌/◌, ◌%◌, ◌^◌, ◌<◌, ◌≤◌, Bool, true, false, ◌||◌, cond, eqb, ltb}
 use Rattle.std.specs.Prelude.{⊤, List, [], length, Option, None, Some, Result, Ok, Err, slice_index, slice_index_or}
+use Rattle.tagmem.specs.declared.order.TheConstants.{SLOTS}
 
 -- what a number has above so many digits
 abbrev pub above : ℕ → ℕ → ℕ
@@ -61,7 +62,7 @@ AreKept links more = (link digit : ℕ) → links link digit ≢ 0 → more link
 pub record IsEnding (numbers : List ℕ) (links : ℕ → ℕ → ℕ) (number link digit : ℕ) : Type 0 where
   pub absent : (at : ℕ) → at < length numbers → slice_index numbers at ≢ number
   pub in_range : link ≤ length numbers
-  pub slot : link ≡ 0 → digit < 4608
+  pub slot : link ≡ 0 → digit < SLOTS
   pub octal : 0 < link → digit < 8
   pub none : links link digit ≡ 0
   pub goes_on : (more : ℕ → ℕ → ℕ) (at : ℕ) → AreKept links more → more link digit ≡ suc at → leads_all more number at ≡ true

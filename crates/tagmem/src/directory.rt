@@ -1,8 +1,8 @@
 //! Which pages are there, in the order of their numbers.
 ghost use Rattle.std.specs.Prelude.{◌≡◌, ◌≢◌, ◌/◌, ◌*◌, ◌+◌, ◌^◌, ◌<◌, ◌≤◌, ℕ, true, false, Some, Err, IfSome, length, slice_index, vec_capacity};
-ghost use Rattle.std.specs.Prelude.{MatchOption, OnOk, OnErr, slice_index};
+ghost use Rattle.std.specs.Prelude.{MatchOption, OnOk, OnErr};
 ghost use Rattle.tagmem.specs.{Blocks.AreDistinct, Orders.{AreLinked, IsLinkedTo}};
-ghost use Rattle.tagmem.specs.{Pages.{AreCounted, IsLeast, IsWith}, Regions.{is_there, links_of, numbers_of}};
+ghost use Rattle.tagmem.specs.{declared.order.TheConstants.SLOTS, Pages.{AreCounted, IsLeast, IsWith}, Regions.{is_there, links_of, numbers_of}};
 
 use crate::order::{SLOTS, find, least_from};
 use crate::region::Region;
@@ -131,10 +131,10 @@ impl Directory {
         if there {
             return Ok(());
         }
-        self.last = region.unwrap_or(self.regions.len());
         match region {
             Ok(at) => {
                 self.regions[at].add((page % 64) as u8);
+                self.last = at;
                 self.count += 1;
                 Ok(())
             }
@@ -162,6 +162,7 @@ impl Directory {
         };
         self.regions
             .push_reserved(Region::new(page / 64, (page % 64) as u8));
+        self.last = at;
         self.count += 1;
         join(&mut self.regions, &mut self.roots, end, link);
         Ok(())
@@ -171,8 +172,8 @@ impl Directory {
 // Links the end of a way.
 fn join(regions: &mut Vec<Region>, roots: &mut Vec<u32>, end: (usize, usize), link: u32)
     requires in_range { end.0 ≤ length regions.old.items }
-    requires slot { end.0 ≡ 0 → end.1 < 4608 }
-    requires room { 4608 ≤ vec_capacity roots.old }
+    requires slot { end.0 ≡ 0 → end.1 < SLOTS }
+    requires room { SLOTS ≤ vec_capacity roots.old }
     requires digit { 0 < end.0 → end.1 < 8 }
     ensures numbers { numbers_of regions.new.items ≡ numbers_of regions.old.items }
     ensures there { (page : ℕ) → is_there regions.new.items page ≡ is_there regions.old.items page }
@@ -187,8 +188,8 @@ fn join(regions: &mut Vec<Region>, roots: &mut Vec<u32>, end: (usize, usize), li
 
 // Sets the link in a slot, in a table that is made first, if it isn't yet.
 fn set_root(roots: &mut Vec<u32>, slot: usize, link: u32)
-    requires slot { slot < 4608 }
-    requires room { 4608 ≤ vec_capacity roots.old }
+    requires slot { slot < SLOTS }
+    requires room { SLOTS ≤ vec_capacity roots.old }
     ensures own { slice_index roots.new.items slot ≡ link }
     ensures others { (other : ℕ) → other ≢ slot → slice_index roots.new.items other ≡ slice_index roots.old.items other }
 {

@@ -6,9 +6,10 @@
 //! is led to from a slot, or on a digit, is less than all from a higher one.
 ghost use Rattle.std.specs.Prelude.{◌≡◌, ◌*◌, ◌+◌, ◌^◌, ◌<◌, ◌≤◌, ◌⊎◌, ℕ, IfSome, List, false, length, slice_index, suc, true};
 ghost use Rattle.tagmem.specs.Orders.{AreLinked, IsLeastFrom, IsLeastUnder, IsStanding, above, IsUpTo, digits_in, slot_of};
-ghost use Rattle.tagmem.specs.Regions.{links_of, numbers_of};
+ghost use Rattle.tagmem.specs.{declared.order.TheConstants.SLOTS, Regions.{links_of, numbers_of}};
 
 use crate::region::Region;
+use crate::room::link_at;
 
 // How many slots there are: 1,024 for the numbers of each of four lengths, and 512 for longer ones.
 pub(crate) const SLOTS: usize = 4608;
@@ -18,7 +19,7 @@ pub(crate) const SLOTS: usize = 4608;
 fn slot(number: u64) -> usize
     requires { number < 2 ^ 51 }
     ensures value { result ≡ slot_of number }
-    ensures small { result < 4608 }
+    ensures small { result < SLOTS }
 {
     if number < 1 << 10 {
         number as usize
@@ -48,17 +49,6 @@ fn digits(slot: usize) -> usize
     }
 }
 
-// The link in a slot. A table that isn't made yet has none.
-#[inline(always)]
-fn link_in(roots: &[u32], slot: usize) -> u32
-    ensures { result ≡ slice_index roots.now slot }
-{
-    match roots.get(slot) {
-        Some(link) => *link,
-        None => 0,
-    }
-}
-
 // Where the region with a number stands, or else the link to the last region on its way and the digit on which that
 // leads to none. Where the slot has no root, the link is 0, and the slot stands for the digit.
 pub(crate) fn find(regions: &[Region], roots: &[u32], number: u64) -> Result<usize, (usize, usize)>
@@ -67,7 +57,7 @@ pub(crate) fn find(regions: &[Region], roots: &[u32], number: u64) -> Result<usi
     ensures { IsStanding (numbers_of regions.now) (links_of roots.now regions.now) number result }
 {
     let first = slot(number);
-    let root = link_in(roots, first);
+    let root = link_at(roots, first);
     if root == 0 {
         return Err((0, first));
     }
@@ -99,7 +89,7 @@ pub(crate) fn least_from(regions: &[Region], roots: &[u32], from: u64) -> Option
         if is_before(least, next) {
             return least;
         }
-        let link = link_in(roots, next);
+        let link = link_at(roots, next);
         let under = least_under(regions, from, digits(next), link, next as u64 % 1024);
         least = lesser(least, under);
     }

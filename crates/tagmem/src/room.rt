@@ -1,7 +1,18 @@
-//! Room in lists.
-ghost use Rattle.std.specs.Prelude.{◌≡◌, ◌≤◌, OnOk, vec_len, vec_capacity};
+//! Room in lists, and links in tables.
+ghost use Rattle.std.specs.Prelude.{◌≡◌, ◌≤◌, OnOk, slice_index, vec_len, vec_capacity};
 
 use crate::store::NoMemory;
+
+// The link at a place of a table. A table that isn't made yet has none.
+#[inline(always)]
+pub(crate) fn link_at(table: &[u32], place: usize) -> u32
+    ensures { result ≡ slice_index table.now place }
+{
+    match table.get(place) {
+        Some(link) => *link,
+        None => 0,
+    }
+}
 
 // Takes the memory of so many items in all. Where that is more than there was, some is taken beyond it, so that a list
 // seldom grows: as much as there was, up to 1,024 items, and of a long list a thirty-second. Memory that nothing was

@@ -4,7 +4,7 @@ ghost use Rattle.std.specs.Prelude.{slice_index, vec_capacity};
 ghost use Rattle.tagmem.specs.{Blocks.{IsAbsent, IsBlockAt, numbers_of}, Trees.{AreForward, AreTrees, IsEnding, place_of}};
 
 use crate::block::Block;
-use crate::room::make_room;
+use crate::room::{link_at, make_room};
 use crate::store::NoMemory;
 use std::alloc::Global;
 
@@ -56,10 +56,7 @@ impl Trees {
     pub(crate) fn root(&self, number: u64) -> u32
         ensures { result ≡ slice_index self.now.roots.items (place_of self.now.mask number) }
     {
-        match self.roots.get(place(number, self.mask)) {
-            Some(root) => *root,
-            None => 0,
-        }
+        link_at(&self.roots, place(number, self.mask))
     }
 
     // The index of the block with a number, from the root of its place on.

@@ -9,8 +9,8 @@ pub loop-region-init : goal.loop-region-init
 loop-region-init c =
     let links = links_of c.args.roots.now c.args.regions.now in
     let s = c.slot-first.result in
-    let root = c.link_in-root.result in
-    let led : links 0 s ≡ suc (root - 1) = omega (arith, c.if-root-eq0.false, c.link_in-root.ensures) in
+    let root = c.link_at-root.result in
+    let led : links 0 s ≡ suc (root - 1) = omega (arith, c.if-root-eq0.false, c.link_at-root.ensures) in
     record {
       in_range = omega (arith, c.requires.linked.within 0 s, led, length-map c.args.regions.now (λ (r : Region). r.number));
       low = c.digits-level.ensures.small;

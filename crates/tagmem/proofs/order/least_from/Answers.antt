@@ -9,7 +9,7 @@ is_before-requires c = one_small c.args.regions.now c.args.from c.loop-next.leas
 
 pub least_under-under-requires-clause-in_range : goal.least_under-under-requires-clause-in_range
 least_under-under-requires-clause-in_range c =
-    omega (arith, c.link_in-link.ensures, c.requires.linked.within 0 c.loop-next.next, length-map c.args.regions.now (λ (r : Region). r.number))
+    omega (arith, c.link_at-link.ensures, c.requires.linked.within 0 c.loop-next.next, length-map c.args.regions.now (λ (r : Region). r.number))
 
 pub least_under-under-requires-clause-within : goal.least_under-under-requires-clause-within
 least_under-under-requires-clause-within c = λ roots index digit.
@@ -33,7 +33,7 @@ loop-next-preserved c =
             in_range = lt;
             low = low;
             has = rw (c.digits.ensures.value, same) (above_slot n (omega (arith, numbers_small c.args.regions.now at lt)));
-            led = ap (λ l. leads links n c.digits.result l at) c.link_in-link.ensures
+            led = ap (λ l. leads links n c.digits.result l at) c.link_at-link.ensures
                 ∙ led_to numbers links n next c.digits.result at c.requires.linked same c.digits.ensures.value lt refl;
           })));
     }
