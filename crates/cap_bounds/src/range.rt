@@ -4,8 +4,8 @@ ghost use Rattle.std.specs.Prelude.{◌≡◌, ◌<◌, ◌≤◌, ◌+◌, ◌-
 ghost use Rattle.cap_bounds.specs.Bounds.{IsWindow, base_of, cut_exponent_of, top_of, unit_of, window_size};
 ghost use Rattle.cap_bounds.specs.Range.{KeepsBounds, window_start};
 
-use crate::decoding::{Scale, scale_of, window_from};
-use cap_word::Word;
+use crate::decoding::window_from;
+use cap_word::{Word, split};
 
 /// From this cut exponent on the window is the whole address space or more, and every address keeps the
 /// bounds.
@@ -24,16 +24,14 @@ fn window_of(word: Word) -> Option<(u64, u64)>
     ensures exact { IfSome result (λ window. (address : ℕ) → address < 2 ^ 64
         → (KeepsBounds word.0 address ↔ ((address + 2 ^ 64 - window.0) % 2 ^ 64 < window.1))) }
 {
-    let Scale {
-        cut_exponent,
-        b,
-        ..
-    } = scale_of(word);
-    if cut_exponent >= WHOLE_EXPONENT {
+    // Below it no exponent is cut.
+    let fields = split(word);
+    let exponent = u32::from(fields.e);
+    if exponent >= WHOLE_EXPONENT {
         return None;
     }
-    let start = window_from(cut_exponent, b, word.address());
-    Some((start, 1 << (cut_exponent + 14)))
+    let start = window_from(exponent, u64::from(fields.b), word.address());
+    Some((start, 1 << (exponent + 14)))
 }
 
 /// A word's representable range, as its start and its size: an address keeps the word's bounds exactly
