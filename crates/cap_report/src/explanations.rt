@@ -14,12 +14,12 @@ ghost use Rattle.cap_report.specs.{FaultReports.IsLineReport, Whys.{Explains, Ex
 
 use crate::fault_reports::put_report;
 use cap_judge::{
-    FaultLine, Judge, JudgeEnd, JudgeToFault, RefusedLine, Verdict, judge_bytes_keeping,
-    judge_keeping, push_report, push_verdict, verdict_text,
+    FaultLine, Judge, JudgeEnd, JudgeToFault, Verdict, judge_bytes_keeping, judge_keeping,
+    push_report, push_verdict, verdict_text,
 };
 use cap_log::buffers::put;
 use cap_log::{PushFault, Sink, Source, push_all};
-use cap_machine::Machine;
+use cap_machine::{Machine, Refusal};
 use std::alloc::Global;
 use tagmem::{PageStore, TaggedStore};
 
@@ -78,7 +78,13 @@ pub fn push_refused<M: TaggedStore, K: Sink>(
     ensures counted { CountsFault (K.faults sink.old) (K.faults sink.new) result }
 {
     match judge.refused() {
-        Some(fault) => push_fault(judge.machine(), &fault, sink),
+        Some(fault) => push_fault(
+            judge.machine(),
+            fault.line,
+            fault.refusal,
+            &fault.text,
+            sink,
+        ),
         None => Ok(()),
     }
 }
@@ -99,31 +105,39 @@ pub fn push_ending<M: TaggedStore, K: Sink>(
 {
     match judge.ending(rest) {
         Ok(verdict) => push_verdict(&verdict, sink),
-        Err(fault) => push_fault(judge.machine(), &fault, sink),
+        Err(fault) => push_fault(
+            judge.machine(),
+            fault.line,
+            fault.refusal,
+            &fault.text,
+            sink,
+        ),
     }
 }
 
 // Pushes the line of the `no` for a faulty line, and its diagnosis.
 fn push_fault<M: TaggedStore, K: Sink>(
     machine: &Machine<M>,
-    fault: &RefusedLine,
+    line: u64,
+    refusal: Refusal,
+    text: &FaultLine,
     sink: &mut K,
 ) -> Result<(), PushFault>
     ensures ok { OnOk result ((report : List ℕ)
-        × IsLineReport (account_of machine.now) (bytes_of fault.now.text) fault.now.refusal report
-        × K.took sink.old sink.new (verdict_line (No fault.now.line fault.now.refusal) ++ report)
-        × (length (verdict_line (No fault.now.line fault.now.refusal) ++ report) ≤ 3136)) }
+        × IsLineReport (account_of machine.now) (bytes_of text.now) refusal report
+        × K.took sink.old sink.new (verdict_line (No line refusal) ++ report)
+        × (length (verdict_line (No line refusal) ++ report) ≤ 3136)) }
     ensures err { OnErr result ((report : List ℕ)
-        × IsLineReport (account_of machine.now) (bytes_of fault.now.text) fault.now.refusal report
-        × (n : ℕ) × K.took sink.old sink.new (take n (verdict_line (No fault.now.line fault.now.refusal) ++ report))) }
+        × IsLineReport (account_of machine.now) (bytes_of text.now) refusal report
+        × (n : ℕ) × K.took sink.old sink.new (take n (verdict_line (No line refusal) ++ report))) }
     ensures counted { CountsFault (K.faults sink.old) (K.faults sink.new) result }
 {
-    let mut text = [0u8; 3136];
-    let mut line = [0u8; 64];
-    let length = verdict_text(&fault.verdict(), &mut line);
-    let at = put(&mut text, 0, &line[..length]);
-    let end = put_report(machine, &fault.text, fault.refusal, &mut text, at);
-    push_all(sink, &text[..end])
+    let mut told = [0u8; 3136];
+    let mut first = [0u8; 64];
+    let length = verdict_text(&Verdict::No { line, refusal }, &mut first);
+    let at = put(&mut told, 0, &first[..length]);
+    let end = put_report(machine, text, refusal, &mut told, at);
+    push_all(sink, &told[..end])
 }
 
 // Pushes the text of what a judge leaves, if it has a verdict.
@@ -171,17 +185,6 @@ fn push_why<M: TaggedStore, K: Sink>(
                 push_verdict(verdict, sink)
             }
         }
-        Verdict::No { line, refusal } => {
-            let text = *fault;
-            push_fault(
-                machine,
-                &RefusedLine {
-                    line,
-                    refusal,
-                    text,
-                },
-                sink,
-            )
-        }
+        Verdict::No { line, refusal } => push_fault(machine, line, refusal, fault, sink),
     }
 }

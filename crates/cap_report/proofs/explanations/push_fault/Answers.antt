@@ -7,8 +7,8 @@ use Rattle.cap_report.proofs.explanations.push_fault.Goals as goal
 pub returns-clause-ok : goal.returns-clause-ok
 returns-clause-ok g c =
     let r = c.put_report-end.ensures.report in
-    let text = (rw (c.verdict_text-length.ensures.line ∙ ap verdict_line c.verdict.ensures.value) at c.put-at.ensures.written) ⨾ r.2 in
-    let few : length (verdict_line (No c.args.fault.now.line c.args.fault.now.refusal) ++ r.0) ≤ 3136 = omega (arith, text.ends, c.put_report-end.ensures.fits) in
+    let text = (rw (c.verdict_text-length.ensures.line) at c.put-at.ensures.written) ⨾ r.2 in
+    let few : length (verdict_line (No c.args.line c.args.refusal) ++ r.0) ≤ 3136 = omega (arith, text.ends, c.put_report-end.ensures.fits) in
     on_ok c.push_all.result (λ took. (
       r.0,
       r.1,
@@ -19,7 +19,7 @@ returns-clause-ok g c =
 pub returns-clause-err : goal.returns-clause-err
 returns-clause-err g c =
     let r = c.put_report-end.ensures.report in
-    let text = (rw (c.verdict_text-length.ensures.line ∙ ap verdict_line c.verdict.ensures.value) at c.put-at.ensures.written) ⨾ r.2 in
+    let text = (rw (c.verdict_text-length.ensures.line) at c.put-at.ensures.written) ⨾ r.2 in
     on_err c.push_all.result (λ part. (
       r.0,
       r.1,
