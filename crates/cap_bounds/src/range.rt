@@ -31,7 +31,7 @@ fn window_of(word: Word) -> Option<(u64, u64)>
         return None;
     }
     let start = window_from(exponent, u64::from(fields.b), word.address());
-    Some((start, 1 << (exponent + 14)))
+    Some((start, 0x4000 << exponent))
 }
 
 /// A word's representable range, as its start and its size: an address keeps the word's bounds exactly
