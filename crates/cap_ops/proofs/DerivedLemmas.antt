@@ -1,5 +1,5 @@
 -- What is derived stays within its source.
-use Rattle.std.proofs.Common.{◌≡◌, ◌==◌, ◌+◌, ◌-◌, ◌*◌, ◌/◌, ◌%◌, ◌^◌, ◌≤◌, ℕ, Bool, true, false, if◌then◌else◌, bit_and, eqb-true, min, nat_le, ◌||◌, ◌⊎◌, inl, inr}
+use Rattle.std.proofs.Common.{◌≡◌, ◌==◌, ◌+◌, ◌-◌, ◌*◌, ◌/◌, ◌%◌, ◌^◌, ℕ, Bool, true, false, if◌then◌else◌, bit_and, eqb-true, min, nat_le, ◌||◌, ◌⊎◌, inl, inr}
 use Rattle.std.proofs.{Common.{sym, ap, refl, subst, ◌∙◌, arith, shr-shr}, Math.Path.fun_ext}
 use Rattle.std.proofs.lemmas.Bool.{and_parts}
 use Rattle.cap_word.specs.{declared.word.{Cap.Cap, Word.Word}, Fields.address_of}

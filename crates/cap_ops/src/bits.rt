@@ -30,6 +30,9 @@ pub const PERMIT_SEAL: u32 = 7;
 /// The number of the permission that unsealing needs.
 pub const PERMIT_UNSEAL: u32 = 9;
 
+/// All bits of a word below its field of permissions.
+pub(crate) const BELOW_PERMISSIONS: u128 = 0xffff_ffff_ffff_ffff_ffff_ffff_ffff;
+
 /// Whether a word has an architectural permission.
 #[inline(always)]
 pub(crate) fn permits(word: Word, permission: u32) -> bool
@@ -44,7 +47,7 @@ pub(crate) fn permits(word: Word, permission: u32) -> bool
 pub(crate) fn replace_permissions(word: Word, permissions: u16) -> Word
     ensures { result.0 ≡ with_perms word.0 permissions }
 {
-    Word((u128::from(permissions) << 112) + (word.0 & 0xffff_ffff_ffff_ffff_ffff_ffff_ffff))
+    Word((u128::from(permissions) << 112) + (word.0 & BELOW_PERMISSIONS))
 }
 
 /// The word with another object type, of 18 bits.

@@ -5,7 +5,7 @@ ghost use Rattle.cap_ops.specs.{Authority.StaysWithin, Checks.{Ends, first_of}};
 ghost use Rattle.cap_ops.specs.Operations.{and_perm_result, and_perm_checks, cleared};
 ghost use Rattle.cap_ops.specs.{Permissions.{perm_view_of, perms_from_view}, Refusals.refusal_of};
 
-use crate::bits::replace_permissions;
+use crate::bits::BELOW_PERMISSIONS;
 use crate::faults::OpFault;
 use crate::sealing::sealed;
 use cap_word::{Cap, Word};
@@ -53,10 +53,10 @@ fn and_perm_fault(source: Cap) -> Option<OpFault>
 pub(crate) fn masked(source: Cap, mask: u64) -> Cap
     ensures { result ≡ and_perm_result source mask }
 {
-    let kept = source.word.permissions() & field_of(mask);
+    let kept = (u128::from(field_of(mask)) << 112) + BELOW_PERMISSIONS;
     Cap {
         tag: source.tag,
-        word: replace_permissions(source.word, kept),
+        word: Word(source.word.0 & kept),
     }
 }
 

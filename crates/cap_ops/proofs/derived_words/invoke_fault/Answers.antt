@@ -1,4 +1,4 @@
-use Rattle.std.proofs.Common.{◌≡◌, ◌&&◌, ◌==◌, true, rules, sym, ◌∙◌}
+use Rattle.std.proofs.Common.{◌≡◌, ◌==◌, true, rules}
 use Rattle.std.proofs.lemmas.Bool.{and_parts}
 use Rattle.cap_ops.specs.{DerivedWords.{is_invoked, is_opened}, Permissions.{unsealed_type, with_type}}
 use Rattle.cap_ops.proofs.DerivedLemmas.{code_within, data_within}
