@@ -33,9 +33,9 @@ pub struct PageStore {
     ghost paged: { ArePaged blocks.items (there_in directory) },
     ghost stored: { AreStored (contents_of blocks.items) },
     ghost counted: { count ≡ map.len (contents_of blocks.items) },
-    // There is room for all blocks of the pages that are there.
+    // There is room for all blocks of the pages that are there, and trees have room for all that blocks have room for.
     ghost roomy: { blocks_of directory ≤ vec_capacity blocks },
-    ghost linkable: { HasRoomFor trees (blocks_of directory) },
+    ghost linkable: { HasRoomFor trees (vec_capacity blocks) },
     ghost few: { length blocks.items ≤ map.len (contents_of blocks.items) },
     ghost fits: { map.len (contents_of blocks.items) < 2 ^ 32 },
 }
@@ -116,7 +116,6 @@ impl PageStore {
         ensures directory { self.new.directory ≡ self.old.directory }
         ensures count { self.new.count ≡ self.old.count }
         ensures room { OnOk result (blocks_with self.old.directory there ≤ vec_capacity self.new.blocks) }
-        ensures linkable { OnOk result (HasRoomFor self.new.trees (blocks_with self.old.directory there)) }
         ensures only_new { OnErr result (there ≡ false) }
     {
         if there {
@@ -125,8 +124,35 @@ impl PageStore {
         let Some(many) = self.directory.blocks_with(there) else {
             return Err(NoMemory);
         };
-        make_room(&mut self.blocks, many)?;
-        self.trees.make_room(many)
+        let capacity = self.blocks.capacity();
+        if many <= capacity
+            || self.reserve(many.saturating_add(capacity / 2)).is_ok()
+            || self.reserve(many.saturating_add(capacity / 32)).is_ok()
+        {
+            Ok(())
+        } else {
+            self.reserve(many)
+        }
+    }
+
+    // Takes the memory of so many blocks in all, or takes none. More than is needed is asked for first, so that lists seldom
+    // grow: memory that nothing was written to is address space alone.
+    #[inline(never)]
+    fn reserve(&mut self, many: usize) -> Result<(), NoMemory>
+        ensures blocks { self.new.blocks.items ≡ self.old.blocks.items }
+        ensures directory { self.new.directory ≡ self.old.directory }
+        ensures count { self.new.count ≡ self.old.count }
+        ensures room { OnOk result (many ≤ vec_capacity self.new.blocks) }
+    {
+        let capacity = self.blocks.capacity();
+        self.trees.make_room(many)?;
+        match make_room(&mut self.blocks, many) {
+            Ok(()) => Ok(()),
+            Err(_) => {
+                self.trees.shrink_to(capacity);
+                Err(NoMemory)
+            }
+        }
     }
 
     // Adds a block, of which one granule is put: bytes over zeros from a byte index on.

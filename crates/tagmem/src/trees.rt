@@ -101,6 +101,18 @@ impl Trees {
         Ok(())
     }
 
+    // Gives back the memory of blocks beyond so many, if the system takes it.
+    pub(crate) fn shrink_to(&mut self, count: usize)
+        ensures kept { (many : ℕ) → many ≤ count → HasRoomFor self.old many → HasRoomFor self.new many }
+        ensures roots { self.new.roots.items ≡ self.old.roots.items }
+        ensures links { self.new.links.items ≡ self.old.links.items }
+        ensures mask { self.new.mask ≡ self.old.mask }
+    {
+        let links = count.saturating_mul(2);
+        self.links.shrink_to(links);
+        self.roots.shrink_to(links.max(FEWEST));
+    }
+
     // Takes in the last of the blocks. There are more places first, where these are too few and there is room.
     pub(crate) fn push(&mut self, blocks: &[Block])
         requires room { HasRoomFor self.old (length blocks.now) }

@@ -79,8 +79,8 @@ push-requires c =
     c.push_reserved.ensures.items in
     record {
       room = rw (seen, long) (record {
-        links = omega (arith, one_more after, more after, c.in_ok-make_room.ensures.linkable.links);
-        roots = λ some. c.in_ok-make_room.ensures.linkable.roots (omega (arith, one_more after, more after));
+        links = omega (arith, one_more after, more after, c.in_ok-make_room.ensures.room, m.linkable.links);
+        roots = λ some. m.linkable.roots (omega (arith, one_more after, more after, c.in_ok-make_room.ensures.room));
       });
       fits = rw (seen, long) (omega (arith, ap length c.make_room.ensures.blocks, s.few, room));
       as_many = rw (seen, long) (omega (arith, m.as_many));
@@ -120,7 +120,7 @@ invariant_of-self-4 c =
           m.stored);
       counted = rw pushed (omega (arith, len, m.counted));
       roomy = omega (arith, more after, c.push_reserved.ensures.capacity, c.in_ok-make_room.ensures.room);
-      linkable = c.push.ensures.kept (blocks_of c.insert.new.self) (rw (more after) c.in_ok-make_room.ensures.linkable);
+      linkable = c.push.ensures.kept _ (rw c.push_reserved.ensures.capacity m.linkable);
       few = rw pushed (omega (arith, len, length-add _ _ _ _ _ _ _ _ _ is, m.few));
       fits = rw pushed (omega (arith, len, same, room));
     }

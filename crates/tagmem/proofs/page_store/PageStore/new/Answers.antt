@@ -24,7 +24,7 @@ invariant_of-result c =
       stored = rw none (λ g entry is. absurd (none-some entry (sym (map.get-empty nat_cmp g) ∙ is)));
       counted = rw none (omega (arith, empty));
       roomy = omega (arith, c.new-3.ensures.blocks);
-      linkable = rw c.new-3.ensures.blocks (record { links = omega arith; roots = λ some. absurd (omega arith) });
+      linkable = rw c.new.ensures.capacity (record { links = omega arith; roots = λ some. absurd (omega arith) });
       few = rw none (omega arith);
       fits = rw none (omega (arith, empty));
     }
