@@ -24,7 +24,7 @@ fn window_of(word: Word) -> Option<(u64, u64)>
     ensures exact { IfSome result (λ window. (address : ℕ) → address < 2 ^ 64
         → (KeepsBounds word.0 address ↔ ((address + 2 ^ 64 - window.0) % 2 ^ 64 < window.1))) }
 {
-    // Below it no exponent is cut.
+    // Below WHOLE_EXPONENT no exponent is cut.
     let fields = split(word);
     let exponent = u32::from(fields.e);
     if exponent >= WHOLE_EXPONENT {
