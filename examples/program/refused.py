@@ -49,14 +49,18 @@ class Room:
         if given != wanted:
             self.wrong.append(f"{what}\n  gives  {given}\n  wanted {wanted}")
 
-    def each(self, words, wanted, program="capcheck"):
-        """Refuses each request of a run in turn, until none is reached."""
+    def each(self, words, wanted, program="capcheck", spare=False):
+        """Refuses each request of a run in turn, alone and with all later ones, until none is reached. If a run has requests
+        to spare, which ask for more than it needs, one that is refused alone may make no difference."""
+        lacks = (3, b"", f"{program}: no memory\n".encode())
         for number in itertools.count(1):
             ran, made = self.run(words, number, program)
             if made < number:
                 self.wants(f"{words}, no request refused", ran, wanted)
                 return
-            self.wants(f"{words}, request {number} refused", ran, (3, b"", f"{program}: no memory\n".encode()))
+            self.wants(f"{words}, request {number} refused", ran, wanted if spare and ran == wanted else lacks)
+            ran = self.run(words, f"{number}+", program)[0]
+            self.wants(f"{words}, request {number} and all later ones refused", ran, lacks)
 
 
 def each_request(room):
@@ -66,11 +70,11 @@ def each_request(room):
     for program, words in [*judges, *[("capdiag", it) for it in (["why"], ["why", "--origins"], ["why", "log"])]]:
         wanted = room.run(words, program=program)[0]
         room.wants(f"{words}, its verdict", (wanted[0], wanted[1][:8], wanted[2]), (0, b"yes 3 1\n", b""))
-        room.each(words, wanted, program)
+        room.each(words, wanted, program, spare=True)
     for words in (["round", "0000000000000001", "0000000000001fff"], ["explain", ROOT], ["vectors", "log"], ["judges"], []):
         room.each(words, room.run(words)[0])
     for words in (["judge"], ["why", "--origins", "--json"]):
-        room.each(words, room.run(words, program="capdiag")[0], "capdiag")
+        room.each(words, room.run(words, program="capdiag")[0], "capdiag", spare=True)
 
 
 def each_object(room):
@@ -91,7 +95,7 @@ def each_page(room):
         lines.append(f"setaddr c2 c1 {address} = 1 ffff1ffffc018004{address}\n")
         lines += [f"store c2 {16 * granule - 2048} 1 00\n" for granule in range(256)]
     room.put("log", "".join([*lines, "end 65792\n"]))
-    room.each(["judge"], (0, b"yes 65792 1\n", b""))
+    room.each(["judge"], (0, b"yes 65792 1\n", b""), spare=True)
 
 
 def steps(room):
