@@ -1,6 +1,6 @@
 -- A machine after a step was made, or refused.
 use Rattle.std.specs.FinMap as fin
-use Rattle.std.proofs.Common.{◌≡◌, ◌⊎◌, ℕ, ◌+◌, ◌/◌, ◌%◌, ◌^◌, ◌<◌, ◌≤◌, Bool, true, false, not, ◌||◌, ◌++◌, nat_le, List}
+use Rattle.std.proofs.Common.{◌≡◌, ℕ, ◌+◌, ◌/◌, ◌%◌, ◌^◌, ◌<◌, ◌≤◌, Bool, true, false, not, ◌||◌, ◌++◌, nat_le, List}
 use Rattle.std.proofs.Common.{[], ◌∷◌, length, take, drop, get_or, refl, sym, ap, subst, ◌∙◌, arith, lit<, inl, inr}
 use Rattle.std.proofs.Common.{nat_lt, ◌-◌, Some, None, Option, option_map, Result, Ok, Err, All, if◌then◌else◌, set}
 use Rattle.std.proofs.{Common.{le-ltb, eq-eqb, option_and_then}, Math.Bool.or-false, lemmas.Bool.{false≢true, cases_lt}}
@@ -340,13 +340,3 @@ pub faulted_as : (old : Held) (step : Step) (access : Access) (fault : OpFault)
     → first_of (row_of (state_of old) step).checks ≡ Some (refusal_of fault) → EndsStep old step (Refused (refusal_of fault)) old
 faulted_as old step access fault accesses found =
     refused_first old step _ fault (same_row old step access accesses) found
-
--- rules by which an operation makes its checks
-abbrev pub AreStrict : Rules → Type 0
-AreStrict rules = (rules ≡ One) ⊎ (rules ≡ TwoStrict)
-
--- by them a result is that of the row
-pub strictly : (rules : Rules) (checks : List (Bool × Refusal)) (result given : Cap) → AreStrict rules
-    → EndsBy rules checks result (Ok given) → given ≡ result
-strictly rules checks result given (inl is) = subst (λ (r : Rules). EndsBy r checks result (Ok given) → given ≡ result) (sym is) (λ ends. ends.1)
-strictly rules checks result given (inr is) = subst (λ (r : Rules). EndsBy r checks result (Ok given) → given ≡ result) (sym is) (λ ends. ends.1)

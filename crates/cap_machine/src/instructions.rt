@@ -287,17 +287,6 @@ impl<const WHAT: u8> Operation for Numbered<WHAT> {
             _ => and_perm_clear(source, self.number),
         }
     }
-
-    // In strict mode without a branch on the tag: it is the source's, whose code is 0 without one.
-    #[inline(always)]
-    fn code<M: TaggedStore>(&self, given: Cap, machine: &Machine<M>) -> u64 {
-        machine.kept();
-        let code = machine.codes[self.source.number() as usize];
-        match machine.rules {
-            Rules::TwoClear => if given.tag { code } else { 0 },
-            Rules::One | Rules::TwoStrict => code,
-        }
-    }
 }
 
 impl<const IS_UNSEALING: bool> Operation for Authorized<IS_UNSEALING> {
