@@ -5,7 +5,7 @@ use Rattle.std.proofs.Common.{pow-add, length-append, length-set, get_or-set_sam
 use Rattle.std.proofs.{Math.Nat.div-div-eq-div-mul, lemmas.Bool.{cases_lt, Decides.nat_tests}}
 use Rattle.std.proofs.lemmas.List.{get_or-map, get_or_push, get_or_append_left, map-set}
 use Rattle.tagmem.proofs.Blocks.{by_equal}
-use Rattle.tagmem.specs.Orders.{above, digits_in, slot_of, leads, leads_all, IsPlaced, HaveLevels, AreLinked, AreKept, IsEnding, IsLinkedTo}
+use Rattle.tagmem.specs.Orders.{above, digits_in, prefix_in, slot_of, leads, leads_all, IsPlaced, HaveLevels, AreLinked, AreKept, IsEnding, IsLinkedTo}
 use Rattle.tagmem.specs.{declared.region.Region.Region, Orders.{IsOneFrom, IsUnder}}
 use Rattle.tagmem.specs.Regions.{children_of, links_of, numbers_of}
 
@@ -51,14 +51,14 @@ pub above_rises : (digits a b : ℕ) → a ≤ b → above digits a ≤ above di
 above_rises zero a b le = omega arith
 above_rises (suc digits) a b le = omega (arith, above_rises digits a b le, above_suc digits a, above_suc digits b)
 
-pub slot_lt : (number : ℕ) → number < 2 ^ 51 → slot_of number < 4608
+pub slot_lt : (number : ℕ) → number < 2 ^ 51 → slot_of number < 36352
 slot_lt number small = grind (arith, nat_tests)
 
 pub slot_rises : (a b : ℕ) → a ≤ b → b < 2 ^ 51 → slot_of a ≤ slot_of b
 slot_rises a b le small = grind (arith, nat_tests)
 
 -- what a number has above the digits that its slot leaves is the slot's
-pub above_slot : (number : ℕ) → number < 2 ^ 51 → above (digits_in (slot_of number)) number ≡ slot_of number % 1024
+pub above_slot : (number : ℕ) → number < 2 ^ 51 → above (digits_in (slot_of number)) number ≡ prefix_in (slot_of number)
 above_slot number small = grind (arith, nat_tests)
 
 -- nor is it less than what it has above digits

@@ -7,17 +7,22 @@ use Rattle.tagmem.specs.declared.order.TheConstants.{SLOTS}
 abbrev pub above : ℕ → ℕ → ℕ
 above digits number = number / 2 ^ (3 * digits)
 
--- the slot of a number's root: its highest bits, ten of 10, 19, 28 or 40 or nine of 51, after the slots of shorter numbers
+-- the slot of a number's root: the number if it has 15 bits, or its highest bits, ten of 19, 28 or 40 or nine of 51, after
+-- the slots of shorter numbers
 abbrev pub slot_of : ℕ → ℕ
 slot_of number =
-    cond (ltb number 1024) number
-    (cond (ltb number 524288) (1024 + number / 512)
-    (cond (ltb number 268435456) (2048 + number / 262144)
-    (cond (ltb number 1099511627776) (3072 + number / 1073741824) (4096 + number / 4398046511104))))
+    cond (ltb number 32768) number
+    (cond (ltb number 524288) (32768 + number / 512)
+    (cond (ltb number 268435456) (33792 + number / 262144)
+    (cond (ltb number 1099511627776) (34816 + number / 1073741824) (35840 + number / 4398046511104))))
 
 -- how many digits are left after those bits
 abbrev pub digits_in : ℕ → ℕ
-digits_in slot = cond (ltb slot 1024) 0 (cond (ltb slot 2048) 3 (cond (ltb slot 3072) 6 (cond (ltb slot 4096) 10 14)))
+digits_in slot = cond (ltb slot 32768) 0 (cond (ltb slot 33792) 3 (cond (ltb slot 34816) 6 (cond (ltb slot 35840) 10 14)))
+
+-- what a slot's numbers have above those digits
+abbrev pub prefix_in : ℕ → ℕ
+prefix_in slot = cond (ltb slot 32768) slot (slot % 1024)
 
 -- a link is one more than the index of a region, and 0 for none. From 0 go the roots, each on its slot, and from another
 -- link those of its region, each on its digit
@@ -38,7 +43,7 @@ leads_all links number at = leads links number (digits_in (slot_of number)) (lin
 -- what is linked from a link on a digit has so many digits left, and this above them: a root what its slot says, and a
 -- child one digit less than its parent, and the digit after what that has
 abbrev pub IsPlaced : List ℕ → (ℕ → ℕ) → ℕ → ℕ → ℕ → ℕ → Type 0
-IsPlaced numbers level_of zero slot level prefix = (level ≡ digits_in slot) × (prefix ≡ slot % 1024)
+IsPlaced numbers level_of zero slot level prefix = (level ≡ digits_in slot) × (prefix ≡ prefix_in slot)
 IsPlaced numbers level_of (suc index) digit level prefix =
     (level_of index ≡ suc level) × (prefix ≡ 8 * above (suc level) (slice_index numbers index) + digit)
 

@@ -5,32 +5,33 @@
 //! number names, the highest first. So a way has no more steps than a number has digits after those bits, and all that
 //! is led to from a slot, or on a digit, is less than all from a higher one.
 ghost use Rattle.std.specs.Prelude.{◌≡◌, ◌*◌, ◌+◌, ◌^◌, ◌<◌, ◌≤◌, ◌⊎◌, ℕ, IfSome, List, false, length, slice_index, suc, true};
-ghost use Rattle.tagmem.specs.Orders.{AreLinked, IsLeastFrom, IsLeastUnder, IsStanding, above, IsUpTo, digits_in, slot_of};
+ghost use Rattle.tagmem.specs.Orders.{AreLinked, IsLeastFrom, IsLeastUnder, IsStanding, above, IsUpTo, digits_in, prefix_in, slot_of};
 ghost use Rattle.tagmem.specs.{declared.order.TheConstants.SLOTS, Regions.{links_of, numbers_of}};
 
 use crate::region::Region;
 use crate::room::link_at;
 
-// How many slots there are: 1,024 for the numbers of each of four lengths, and 512 for longer ones.
-pub(crate) const SLOTS: usize = 4608;
+// How many slots there are: one for each number of 15 bits, 1,024 for the numbers of each of three greater lengths, and
+// 512 for longer ones.
+pub(crate) const SLOTS: usize = 36352;
 
-// The slot of a number: its highest ten bits of 10, 19, 28 or 40, or nine of 51.
+// The slot of a number: the number itself if it has 15 bits, or else its highest ten bits of 19, 28 or 40, or nine of 51.
 #[inline(always)]
 fn slot(number: u64) -> usize
     requires { number < 2 ^ 51 }
     ensures value { result ≡ slot_of number }
     ensures small { result < SLOTS }
 {
-    if number < 1 << 10 {
+    if number < 1 << 15 {
         number as usize
     } else if number < 1 << 19 {
-        1024 + (number >> 9) as usize
+        32768 + (number >> 9) as usize
     } else if number < 1 << 28 {
-        2048 + (number >> 18) as usize
+        33792 + (number >> 18) as usize
     } else if number < 1 << 40 {
-        3072 + (number >> 30) as usize
+        34816 + (number >> 30) as usize
     } else {
-        4096 + (number >> 42) as usize
+        35840 + (number >> 42) as usize
     }
 }
 
@@ -41,11 +42,22 @@ fn digits(slot: usize) -> usize
     ensures small { result < 18 }
 {
     match slot / 1024 {
-        0 => 0,
-        1 => 3,
-        2 => 6,
-        3 => 10,
+        0..=31 => 0,
+        32 => 3,
+        33 => 6,
+        34 => 10,
         _ => 14,
+    }
+}
+
+// What the numbers of a slot have above those digits.
+fn prefix(slot: usize) -> u64
+    ensures { result ≡ prefix_in slot }
+{
+    if slot < 32768 {
+        slot as u64
+    } else {
+        slot as u64 % 1024
     }
 }
 
@@ -90,7 +102,7 @@ pub(crate) fn least_from(regions: &[Region], roots: &[u32], from: u64) -> Option
             return least;
         }
         let link = link_at(roots, next);
-        let under = least_under(regions, from, digits(next), link, next as u64 % 1024);
+        let under = least_under(regions, from, digits(next), link, prefix(next));
         least = lesser(least, under);
     }
     least

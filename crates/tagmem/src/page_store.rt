@@ -110,7 +110,8 @@ impl PageStore {
         None
     }
 
-    // Takes the memory of all blocks of a page that isn't there.
+    // Takes the memory of all blocks of a page that isn't there. More than is needed is asked for first, so that lists
+    // seldom grow: memory that nothing was written to is address space alone.
     fn make_room(&mut self, there: bool) -> Result<(), NoMemory>
         ensures blocks { self.new.blocks.items ≡ self.old.blocks.items }
         ensures directory { self.new.directory ≡ self.old.directory }
@@ -135,8 +136,7 @@ impl PageStore {
         }
     }
 
-    // Takes the memory of so many blocks in all, or takes none. More than is needed is asked for first, so that lists seldom
-    // grow: memory that nothing was written to is address space alone.
+    // Takes the memory of so many blocks in all.
     #[inline(never)]
     fn reserve(&mut self, many: usize) -> Result<(), NoMemory>
         ensures blocks { self.new.blocks.items ≡ self.old.blocks.items }

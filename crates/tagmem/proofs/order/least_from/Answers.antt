@@ -32,7 +32,7 @@ loop-next-preserved c =
           c.lesser-least.ensures.second n (under.1 at (record {
             in_range = lt;
             low = low;
-            has = rw (c.digits.ensures.value, same) (above_slot n (omega (arith, numbers_small c.args.regions.now at lt)));
+            has = rw (c.digits.ensures.value, c.prefix.ensures, same) (above_slot n (omega (arith, numbers_small c.args.regions.now at lt)));
             led = ap (λ l. leads links n c.digits.result l at) c.link_at-link.ensures
                 ∙ led_to numbers links n next c.digits.result at c.requires.linked same c.digits.ensures.value lt refl;
           })));
