@@ -4,14 +4,14 @@ use Rattle.std.specs.Ordering.{ordering_index}
 use Rattle.std.specs.FinMap as finite
 use Rattle.std.proofs.Common.{◌≡◌, ℕ, ◌+◌, ◌-◌, ◌<◌, ◌≤◌, List, [], length, get_or, set, Some}
 use Rattle.std.proofs.Common.{None, false, Result, Ok, Err, IfOk, IfErr, OnErr, Bool, cond}
-use Rattle.std.proofs.{Common.{sym, ◌∙◌, arith, insert, nat_cmp}, Math.Seq.map-set_same, lemmas.Grind.pieces}
+use Rattle.std.proofs.{Common.{sym, ◌∙◌, arith, insert, nat_cmp}, Math.Seq.map-set_same}
 use Rattle.std.proofs.lemmas.{Bool.Decides.nat_tests, Cmp.ranked, List.{get_or-map, length-map, map-append, take-map}}
 use Rattle.std.proofs.lemmas.List.{drop-map, Edits.{length-insert, get_or-insert_below, get_or-insert_at}}
-use Rattle.std.proofs.lemmas.List.{Edits.get_or-insert_above, Elements.{All-append, All-cons, All-take, All-drop}}
+use Rattle.std.proofs.lemmas.List.{Edits.get_or-insert_above}
 use Rattle.std.proofs.lemmas.{List.Sorted.IsNonDecreasingBy-from_default, Option.none-some}
-use Rattle.tagmem.specs.{declared.list_store.Listed.Listed, Granules.{IsStored, IsNextPut}}
-use Rattle.tagmem.specs.ListLaws.{granule_at, get-contents_of, NoneBefore, found_absent, RisesFar, rises_far}
-use Rattle.tagmem.specs.Listed.{entry_of, contents_of, granules_of, IsRising, AllStored, IsEntryAt, IsGapFor}
+use Rattle.tagmem.specs.{declared.list_store.Listed.Listed, Granules.IsNextPut}
+use Rattle.tagmem.proofs.ListLaws.{granule_at, get-contents_of, NoneBefore, found_absent, RisesFar, rises_far}
+use Rattle.tagmem.specs.Listed.{entry_of, contents_of, granules_of, IsRising, IsEntryAt, IsGapFor}
 use Rattle.tagmem.proofs.Listed.{contents_of-put, found_present, found-set, found-insert}
 
 -- an entry to stand for one that is not there
@@ -99,10 +99,6 @@ module _ (l : List Listed) (x : Listed) (index : ℕ) where
       let long = length-map l (λ listed. listed.granule) in
       rw granules_of-insert (rising_insert (granules_of l) x.granule index rising (omega (arith, gap.in_range, long)) gap.lower_before
       (λ i le lt. gap.higher_after i le (omega (arith, long))))
-
-  -- and both keep each entry a granule's
-  pub AllStored-insert : AllStored l → IsStored x.granule (entry_of x) → AllStored (insert l index x)
-  AllStored-insert all stored = search (pieces, arith, All-cons, All-append, All-take, All-drop)
 
 -- what holds of a list that grew, and of one that didn't, holds of the list after a try to grow
 pub tried : (P : List Listed → Type 0) (grew : Bool) (after grown before : List Listed) → after ≡ cond grew grown before

@@ -1,5 +1,6 @@
 pub mod Granules
 pub mod Indexes
+pub mod ListLaws
 pub mod Listed
 mod Blocks
 mod NextPut

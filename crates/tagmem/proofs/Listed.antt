@@ -3,9 +3,8 @@ use Rattle.std.specs.{Cmp.nat_cmp_total, FinMap.{nat_cmp-IsAntisymmetric, same_m
 use Rattle.std.specs.FinMap as map
 use Rattle.std.proofs.Common.{◌≡◌, ℕ, zero, suc, cond, eqb, List, [], ◌∷◌, get_or, set, Some, refl, arith}
 use Rattle.std.proofs.{Common.insert, lemmas.Bool.Decides.nat_tests}
-use Rattle.tagmem.specs.{declared.list_store.Listed.Listed, ListLaws.{found, get-contents_of, NoneBefore}}
-use Rattle.tagmem.specs.{ListLaws.none_before_tail, Listed.{entry_of, contents_of, IsEntryAt}}
-use Rattle.tagmem.proofs.Granules.{get-put}
+use Rattle.tagmem.specs.{declared.list_store.Listed.Listed, Listed.{entry_of, contents_of, IsEntryAt}}
+use Rattle.tagmem.proofs.{Granules.get-put, ListLaws.{found, get-contents_of, NoneBefore, none_before_tail}}
 
 -- lists that differ at one granule are maps that differ there
 pub contents_of-put : (old new : List Listed) (x : Listed) → ((q : ℕ) → found new q

@@ -8,13 +8,9 @@ use Rattle.std.proofs.lemmas.List.{get_or-map, get_or_push}
 use mir.Val.{bool_byte}
 use Rattle.tagmem.specs.{declared.block.Block.Block, Blocks.{slots_of, bytes_in_slot, contents_of, numbers_of}}
 use Rattle.tagmem.specs.{Blocks.{AreDistinct, ArePaged, IsAbsent, IsBlockAt}, Pages.IsWith}
-use Rattle.tagmem.specs.Granules.{Entry, Granules, entry_at, bytes_at, overwritten, with_write, HasRoom, IsCodeFor, IsStored, AreStored, NonePut}
+use Rattle.tagmem.specs.Granules.{entry_at, bytes_at, overwritten, with_write, HasRoom, IsCodeFor, AreStored, NonePut}
 use Rattle.tagmem.proofs.Blocks.{by_equal, get_read as get_block, get_absent, contents_of-set, numbers_of-set, numbers_of-push, AreDistinct-push, IsBlockAt-push, entries_of-push}
-use Rattle.tagmem.proofs.Granules.{get-put, len-put, IsStored-overwritten, IsStored-entry_at}
-
--- a put keeps each entry a granule's
-AreStored-put : (old : Granules) (g : ℕ) (entry : Entry) → IsStored g entry → AreStored old → AreStored (map.insert old g entry)
-AreStored-put old g entry here there q e at = grind (arith, nat_tests, there q e, get-put old g entry q)
+use Rattle.tagmem.proofs.Granules.{AreStored-put, get-put, len-put, IsStored-overwritten, IsStored-entry_at}
 
 -- a first was read at the index of a granule's block
 pub record IsRead (blocks : List Block) (index g : ℕ) (first : Block) : Type 0 where

@@ -3,7 +3,6 @@ pub mod Trees
 pub mod Directories
 pub mod Granules
 pub mod Listed
-pub mod ListLaws
 pub mod Orders
 pub mod Pages
 pub mod Regions

@@ -1,9 +1,8 @@
 //! A store that keeps its entries in a sorted list.
 ghost use Rattle.std.specs.Prelude.{◌≡◌, ◌^◌, ◌<◌, ◌+◌, ◌≤◌, length, None, vec_len, OnOk, OnErr, IfOk, IfErr};
 ghost use Rattle.std.specs.FinMap as map;
-ghost use Rattle.tagmem.specs.Granules.{with_write, HasRoom, IsCodeFor, IsStored};
-ghost use Rattle.tagmem.specs.ListLaws.{AreStored-contents_of, len_fits};
-ghost use Rattle.tagmem.specs.Listed.{contents_of, entry_of, IsRising, AllStored, IsEntryAt, IsGapFor};
+ghost use Rattle.tagmem.specs.Granules.{with_write, AreStored, HasRoom, IsCodeFor, IsStored};
+ghost use Rattle.tagmem.specs.Listed.{contents_of, entry_of, IsRising, IsEntryAt, IsGapFor};
 
 use crate::overwrites::overwrite;
 use crate::store::{NoMemory, TaggedStore};
@@ -23,8 +22,8 @@ struct Listed {
 pub struct ListStore {
     entries: Vec<Listed>,
     ghost rising: { IsRising entries.items },
-    ghost stored: { AllStored entries.items },
-    ghost counted: { length entries.items < 2 ^ 32 },
+    ghost stored: { AreStored (contents_of entries.items) },
+    ghost fits: { map.len (contents_of entries.items) < 2 ^ 32 },
 }
 
 impl ListStore {
@@ -115,9 +114,9 @@ impl TaggedStore for ListStore {
 
     ghost least_room = { λ _. 0 };
 
-    ghost are_stored = { λ s. AreStored-contents_of s.entries.items s.stored };
+    ghost are_stored = { λ s. s.stored };
 
-    ghost count_fits = { λ s. len_fits s.entries.items s.rising s.counted };
+    ghost count_fits = { λ s. s.fits };
 
     #[tactic(auto, using(crate::proofs::Indexes::read_at, crate::proofs::Indexes::get_in_gap))]
     fn get(&self, granule: u64) -> Option<(bool, [u8; 16])> {

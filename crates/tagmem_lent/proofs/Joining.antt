@@ -6,7 +6,7 @@ use Rattle.std.proofs.Common.{subst, ◌∙◌, arith, IsPermutation, take-add, 
 use Rattle.std.proofs.Common.{length-append, length-drop, length-set, length-take-le}
 use Rattle.std.proofs.{Math.Seq.{drop-append_seam, take-append_seam}, lemmas.List.{drop-take, take-set-le}}
 use Rattle.std.proofs.lemmas.List.Sorted.{IsPermutation-append_right, IsPermutation-refl, IsPermutation-trans}
-use Rattle.tagmem.specs.{Granules.IsStored, ListLaws.granule_at, Listed.{contents_of, entry_of}}
+use Rattle.tagmem.{specs.{Granules.IsStored, Listed.{contents_of, entry_of}}, proofs.ListLaws.granule_at}
 use Rattle.tagmem_lent.specs.declared.lent_store.Slot.{Slot}
 use Rattle.tagmem_lent.specs.Lent.{AreRuns, IsUnused, entries_of, listed_of, part, run_end}
 use Rattle.tagmem_lent.proofs.{Lent.{granule_in, granule_of, length-entries_of, run_rises}, Merging.take_of_take}

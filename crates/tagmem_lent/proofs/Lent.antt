@@ -7,7 +7,7 @@ use Rattle.std.proofs.lemmas.{Bool.Decides.nat_tests, List.{get_or-map, length-m
 use Rattle.std.proofs.lemmas.{Map.Keys.{below_from_sorted, sorted_from_strictly_increasing}, Option.none-some}
 use Rattle.tagmem.specs.{declared.list_store.Listed.Listed, Granules.{AreStored, Entry, Granules, IsCodeFor, IsNextPut}}
 use Rattle.tagmem.specs.Granules.{IsStored, blank, bytes_at, entry_at, overwritten, with_write}
-use Rattle.tagmem.specs.ListLaws.{NoneBefore, found_absent, get-contents_of, granule_at}
+use Rattle.tagmem.proofs.ListLaws.{NoneBefore, found_absent, get-contents_of, granule_at}
 use Rattle.tagmem.specs.Listed.{AreApart, IsEntryAt, contents_of, entry_of, granules_of}
 use Rattle.tagmem.proofs.{Granules.{IsStored-entry_at, IsStored-overwritten}, Indexes.nothing, Listed.found_present}
 use Rattle.tagmem_lent.specs.declared.lent_store.Slot.{Slot}

@@ -6,7 +6,7 @@ use Rattle.std.proofs.lemmas.{Bool.Decides.nat_tests, Grind.get_or_default_zero,
 use Rattle.std.proofs.lemmas.List.{Elements.All-tail, Sorted.{All-permutation, IsPermutation-map, IsPermutation-sym}}
 use Rattle.std.proofs.lemmas.Map.Keys.{IsDistinct-IsPermutation, IsDistinct-from_apart, apart_from_distinct}
 use Rattle.std.proofs.lemmas.Option.{none-some}
-use Rattle.tagmem.specs.{declared.list_store.Listed.Listed, Granules.Entry, ListLaws.{found, get-contents_of}}
+use Rattle.tagmem.{specs.{declared.list_store.Listed.Listed, Granules.Entry}, proofs.ListLaws.{found, get-contents_of}}
 use Rattle.tagmem.specs.Listed.{AreApart, IsEntryAt, contents_of, entry_of, granules_of}
 use Rattle.tagmem.proofs.{Indexes.granule_at-get_or, Listed.found_present}
 use Rattle.tagmem_lent.proofs.Lent.{none_before}

@@ -5,7 +5,7 @@ use Rattle.std.proofs.Common.{List, length, get_or, drop, sym, ap, subst, ◌∙
 use Rattle.std.proofs.{Common.{get_or-drop, get_or-take, length-drop, length-take-le}, Math.Nat.pow-le-pow_right}
 use Rattle.std.proofs.{Math.Nat.two-pow-succ, lemmas.{Bool.Decides.nat_tests, List.get_or_default, Nat.leading_length}}
 use mir.Val.{bool_byte}
-use Rattle.tagmem.specs.{declared.list_store.Listed.Listed, ListLaws.granule_at, Listed.IsEntryAt}
+use Rattle.tagmem.{specs.{declared.list_store.Listed.Listed, Listed.IsEntryAt}, proofs.ListLaws.granule_at}
 use Rattle.tagmem_lent.specs.declared.lent_store.Slot.{Slot}
 use Rattle.tagmem_lent.specs.Lent.{AreRuns, IsGapIn, IsLastAtMost, entries_of, part, run_end}
 use Rattle.tagmem_lent.proofs.{Joining.run_slots_rise, Lent.{granule_in, granule_of, length-entries_of, no_slot}}

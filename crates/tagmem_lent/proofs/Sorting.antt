@@ -8,7 +8,7 @@ use Rattle.std.proofs.{Common.{length-take, length-take-le}, Math.Seq.{get_or-ap
 use Rattle.std.proofs.{Math.Seq.take-set-le, lemmas.List.{get_or-append_right, get_or_append_left, map-append}}
 use Rattle.std.proofs.lemmas.List.{take-set, Elements.All-push, Sorted.{All-permutation, IsPermutation-append_right}}
 use Rattle.std.proofs.lemmas.List.Sorted.{IsPermutation-map, length_permutation}
-use Rattle.tagmem.specs.{declared.list_store.Listed.Listed, Granules.IsStored, ListLaws.granule_at}
+use Rattle.tagmem.{specs.{declared.list_store.Listed.Listed, Granules.IsStored}, proofs.ListLaws.granule_at}
 use Rattle.tagmem.specs.Listed.{AreApart, contents_of, entry_of, granules_of}
 use Rattle.tagmem.proofs.{Indexes.{granule_at-get_or, nothing}, Listed.{contents_of-put, found-insert}}
 use Rattle.tagmem_lent.specs.declared.lent_store.Slot.{Slot}

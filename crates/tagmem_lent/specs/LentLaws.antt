@@ -2,7 +2,7 @@
 use Rattle.std.specs.Prelude.{ℕ, ◌^◌, ◌<◌, List, take}
 use Rattle.std.specs.FinMap as map
 use Rattle.std.proofs.{Common.arith, lemmas.List.{length-map, length-take}}
-use Rattle.tagmem.specs.{ListLaws.len-apart, Listed.{AreApart, contents_of}}
+use Rattle.tagmem.{specs.Listed.{AreApart, contents_of}, proofs.ListLaws.len-apart}
 use Rattle.tagmem_lent.specs.{declared.lent_store.Slot.Slot, Lent.{entries_of, listed_of}}
 
 -- few slots have a map whose count fits

@@ -3,7 +3,7 @@ ghost use Rattle.std.specs.Prelude.{◌≡◌, ◌^◌, ◌<◌, ◌*◌, ◌+�
 ghost use Rattle.std.specs.{Prelude.{IfOk, IfErr, IfSome, if◌then◌else◌, IsPermutation}, List.Sorted.IsNonDecreasingBy};
 ghost use Rattle.std.specs.FinMap as map;
 ghost use Rattle.tagmem.specs.Granules.{with_bytes, with_cap, with_write, HasRoom, IsCodeFor, IsStored};
-ghost use Rattle.tagmem.specs.{ListLaws.AreStored-contents_of, Listed.{IsEntryAt, contents_of, entry_of}};
+ghost use Rattle.tagmem.{specs.Listed.{IsEntryAt, contents_of, entry_of}, proofs.ListLaws.AreStored-contents_of};
 ghost use Rattle.tagmem_lent.specs.Lent.{AreRuns, IsGapIn, IsLastAtMost, IsLesser, IsNextIn, IsUnused, entries_of};
 ghost use Rattle.tagmem_lent.specs.{Lent.{listed_of, part, run_end}, LentLaws.few_entries};
 

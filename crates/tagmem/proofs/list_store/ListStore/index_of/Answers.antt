@@ -1,5 +1,5 @@
 use Rattle.std.proofs.{Common.rules, lemmas.List.Sorted.answers_always}
-use Rattle.tagmem.specs.{declared.list_store.Listed.Listed, ListLaws.rises_far}
+use Rattle.tagmem.{specs.declared.list_store.Listed.Listed, proofs.ListLaws.rises_far}
 use Rattle.tagmem.proofs.Indexes.{searched}
 use Rattle.tagmem.proofs.list_store.ListStore.index_of.Goals as goal
 

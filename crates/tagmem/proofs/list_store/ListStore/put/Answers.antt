@@ -1,7 +1,7 @@
 use Rattle.std.proofs.Common.{◌<◌, All, arith}
 use Rattle.std.proofs.lemmas.List.Elements.{All-from_get_or}
-use Rattle.tagmem.specs.{Granules.{IsStored, blank}}
-use Rattle.tagmem.specs.{ListLaws.len-contents_of, Listed.{entry_of}}
+use Rattle.tagmem.specs.{Granules.{IsStored, blank}, Listed.entry_of}
+use Rattle.tagmem.proofs.ListLaws.{len-contents_of}
 use Rattle.tagmem.proofs.{Granules.{IsStored-overwritten, IsStored-blank}, Indexes.{read_at, get_in_gap, OnErr-from}}
 use Rattle.tagmem.proofs.list_store.ListStore.put.Goals as goal
 
@@ -12,7 +12,8 @@ replace-requires-clause-stored c =
     let listed = c.index.result.now in
     let fits : All (λ byte. byte < 256) c.args.bytes.now = All-from_get_or (λ byte. byte < 256) c.args.bytes.now 0
     (λ i lt. (c.type_inv.bytes i).fits) in
-    let stored : IsStored listed.granule (entry_of listed) = rw c.index.ensures (s.stored c.in-Ok.index listed c.in-Ok.ensures.found.in_range) in
+    let read = read_at s.entries.items s.rising c.args.granule c.in-Ok.index c.in-Ok.ensures.found listed c.index.ensures in
+    let stored : IsStored listed.granule (entry_of listed) = rw read.granule_is (s.stored c.args.granule (entry_of listed) read.entry_is) in
     rw c.overwrite.ensures.written (IsStored-overwritten listed.granule (entry_of listed)
     c.args.tag c.args.byte_index c.args.bytes.now c.args.code stored c.requires.inside fits (omega arith) c.requires.coded)
 

@@ -1,5 +1,5 @@
 use Rattle.std.proofs.Common.{◌≡◌, arith}
-use Rattle.tagmem.specs.{Granules.{bytes_at, overwritten}, ListLaws.AreStored-contents_of, Listed.contents_of}
+use Rattle.tagmem.specs.{Granules.{bytes_at, overwritten}, Listed.contents_of}
 use Rattle.tagmem.proofs.Granules.{length-bytes_at, overwritten_whole}
 use Rattle.tagmem.proofs.list_store.ListStoreTaggedStore.put_cap.Goals as goal
 
@@ -8,6 +8,6 @@ pub returns-clause-ok : goal.returns-clause-ok
 returns-clause-ok c =
     let s = c.args.self.now in
     let old = contents_of s.entries.items in
-    let sixteen = length-bytes_at old (AreStored-contents_of s.entries.items s.stored) c.args.granule in
+    let sixteen = length-bytes_at old s.stored c.args.granule in
     let whole : overwritten (bytes_at old c.args.granule) 0 c.args.bytes ≡ c.args.bytes = overwritten_whole _ _ (omega arith) in
     rw whole at c.put.ensures.ok

@@ -1,5 +1,5 @@
 use Rattle.std.proofs.Common.{◌≢◌, ◌<◌, ◌≤◌, ℕ}
-use Rattle.tagmem.specs.ListLaws.{granule_at}
+use Rattle.tagmem.proofs.ListLaws.{granule_at}
 use Rattle.tagmem_lent.specs.{Lent.run_end, LentStores.in_use}
 use Rattle.tagmem_lent.proofs.lent_store.LentStore.index_of.Given as goal
 

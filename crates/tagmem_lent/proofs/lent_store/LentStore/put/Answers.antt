@@ -1,6 +1,6 @@
 use Rattle.std.proofs.{Common.{◌≡◌, ◌<◌, All, OnOk, refl, sym, subst, ◌∙◌, arith}, lemmas.List.Elements.All-from_get_or}
 use Rattle.std.proofs.lemmas.Option.{none-some}
-use Rattle.tagmem.specs.{Granules.Granules, ListLaws.{AreStored-contents_of, len-apart}, Listed.contents_of}
+use Rattle.tagmem.{specs.{Granules.Granules, Listed.contents_of}, proofs.ListLaws.{AreStored-contents_of, len-apart}}
 use Rattle.tagmem.proofs.Indexes.{OnErr-from}
 use Rattle.tagmem_lent.specs.LentStores.{in_use}
 use Rattle.tagmem_lent.proofs.Lent.{IsStored-written, get_slot, get_unused, insert-written, length-entries_of, no_slot}

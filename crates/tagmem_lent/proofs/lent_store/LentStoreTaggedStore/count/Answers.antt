@@ -1,5 +1,5 @@
 use Rattle.std.proofs.Common.{arith}
-use Rattle.tagmem.specs.ListLaws.{len-apart}
+use Rattle.tagmem.proofs.ListLaws.{len-apart}
 use Rattle.tagmem_lent.specs.LentStores.{in_use}
 use Rattle.tagmem_lent.proofs.Lent.{length-entries_of}
 use Rattle.tagmem_lent.proofs.lent_store.LentStoreTaggedStore.count.Goals as goal

@@ -1,5 +1,5 @@
 use Rattle.std.proofs.Common.{◌≡◌, arith}
-use Rattle.tagmem.specs.{Granules.{bytes_at, overwritten}, ListLaws.AreStored-contents_of, Listed.contents_of}
+use Rattle.tagmem.{specs.{Granules.{bytes_at, overwritten}, Listed.contents_of}, proofs.ListLaws.AreStored-contents_of}
 use Rattle.tagmem.proofs.Granules.{length-bytes_at, overwritten_whole}
 use Rattle.tagmem_lent.specs.LentStores.{in_use}
 use Rattle.tagmem_lent.proofs.lent_store.LentStoreTaggedStore.put_cap.Goals as goal
