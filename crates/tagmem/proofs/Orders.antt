@@ -51,7 +51,7 @@ pub above_rises : (digits a b : ℕ) → a ≤ b → above digits a ≤ above di
 above_rises zero a b le = omega arith
 above_rises (suc digits) a b le = omega (arith, above_rises digits a b le, above_suc digits a, above_suc digits b)
 
-pub slot_lt : (number : ℕ) → number < 2 ^ 51 → slot_of number < 36352
+pub slot_lt : (number : ℕ) → number < 2 ^ 51 → slot_of number < 61440
 slot_lt number small = grind (arith, nat_tests)
 
 pub slot_rises : (a b : ℕ) → a ≤ b → b < 2 ^ 51 → slot_of a ≤ slot_of b

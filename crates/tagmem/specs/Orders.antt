@@ -7,22 +7,22 @@ use Rattle.tagmem.specs.declared.order.TheConstants.{SLOTS}
 abbrev pub above : ℕ → ℕ → ℕ
 above digits number = number / 2 ^ (3 * digits)
 
--- the slot of a number's root: the number if it has 15 bits, or its highest bits, ten of 19, 28 or 40 or nine of 51, after
--- the slots of shorter numbers
+-- the slot of a number's root: the number if it has 15 bits, or its highest bits, thirteen of 19, 28 or 40 or twelve of 51,
+-- after the slots of shorter numbers
 abbrev pub slot_of : ℕ → ℕ
 slot_of number =
     cond (ltb number 32768) number
-    (cond (ltb number 524288) (32768 + number / 512)
-    (cond (ltb number 268435456) (33792 + number / 262144)
-    (cond (ltb number 1099511627776) (34816 + number / 1073741824) (35840 + number / 4398046511104))))
+    (cond (ltb number 524288) (32768 + number / 64)
+    (cond (ltb number 268435456) (40960 + number / 32768)
+    (cond (ltb number 1099511627776) (49152 + number / 134217728) (57344 + number / 549755813888))))
 
 -- how many digits are left after those bits
 abbrev pub digits_in : ℕ → ℕ
-digits_in slot = cond (ltb slot 32768) 0 (cond (ltb slot 33792) 3 (cond (ltb slot 34816) 6 (cond (ltb slot 35840) 10 14)))
+digits_in slot = cond (ltb slot 32768) 0 (cond (ltb slot 40960) 2 (cond (ltb slot 49152) 5 (cond (ltb slot 57344) 9 13)))
 
 -- what a slot's numbers have above those digits
 abbrev pub prefix_in : ℕ → ℕ
-prefix_in slot = cond (ltb slot 32768) slot (slot % 1024)
+prefix_in slot = cond (ltb slot 32768) slot (slot % 8192)
 
 -- a link is one more than the index of a region, and 0 for none. From 0 go the roots, each on its slot, and from another
 -- link those of its region, each on its digit

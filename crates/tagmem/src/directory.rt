@@ -17,7 +17,7 @@ const FEWEST: usize = 4096;
 #[derive(Drop)]
 pub(crate) struct Directory {
     regions: Vec<Region>,
-    // The links to the first region of each slot.
+    // The links to the first region of each slot, as far as one has a region.
     roots: Vec<u32>,
     // Where the region stands to which a page was added last.
     last: usize,
@@ -186,7 +186,7 @@ fn join(regions: &mut Vec<Region>, roots: &mut Vec<u32>, end: (usize, usize), li
     regions[end.0 - 1].lead(end.1, link);
 }
 
-// Sets the link in a slot, in a table that is made first, if it isn't yet.
+// Sets the link in a slot, in a table that is made as far as that first.
 fn set_root(roots: &mut Vec<u32>, slot: usize, link: u32)
     requires slot { slot < SLOTS }
     requires room { SLOTS ≤ vec_capacity roots.old }
@@ -194,7 +194,7 @@ fn set_root(roots: &mut Vec<u32>, slot: usize, link: u32)
     ensures others { (other : ℕ) → other ≢ slot → slice_index roots.new.items other ≡ slice_index roots.old.items other }
 {
     if roots.len() <= slot {
-        let _made = roots.resize(SLOTS, 0);
+        let _made = roots.resize(slot + 1, 0);
     }
     roots[slot] = link;
 }

@@ -11,11 +11,11 @@ ghost use Rattle.tagmem.specs.{declared.order.TheConstants.SLOTS, Regions.{links
 use crate::region::Region;
 use crate::room::link_at;
 
-// How many slots there are: one for each number of 15 bits, 1,024 for the numbers of each of three greater lengths, and
-// 512 for longer ones.
-pub(crate) const SLOTS: usize = 36352;
+// How many slots there are: one for each number of 15 bits, 8,192 for the numbers of each of three greater lengths, and
+// 4,096 for longer ones.
+pub(crate) const SLOTS: usize = 61440;
 
-// The slot of a number: the number itself if it has 15 bits, or else its highest ten bits of 19, 28 or 40, or nine of 51.
+// The slot of a number: the number itself if it has 15 bits, or else its highest thirteen of 19, 28 or 40, or twelve of 51.
 #[inline(always)]
 fn slot(number: u64) -> usize
     requires { number < 2 ^ 51 }
@@ -25,13 +25,13 @@ fn slot(number: u64) -> usize
     if number < 1 << 15 {
         number as usize
     } else if number < 1 << 19 {
-        32768 + (number >> 9) as usize
+        32768 + (number >> 6) as usize
     } else if number < 1 << 28 {
-        33792 + (number >> 18) as usize
+        40960 + (number >> 15) as usize
     } else if number < 1 << 40 {
-        34816 + (number >> 30) as usize
+        49152 + (number >> 27) as usize
     } else {
-        35840 + (number >> 42) as usize
+        57344 + (number >> 39) as usize
     }
 }
 
@@ -41,12 +41,12 @@ fn digits(slot: usize) -> usize
     ensures value { result ≡ digits_in slot }
     ensures small { result < 18 }
 {
-    match slot / 1024 {
-        0..=31 => 0,
-        32 => 3,
-        33 => 6,
-        34 => 10,
-        _ => 14,
+    match slot / 8192 {
+        0..=3 => 0,
+        4 => 2,
+        5 => 5,
+        6 => 9,
+        _ => 13,
     }
 }
 
@@ -57,7 +57,7 @@ fn prefix(slot: usize) -> u64
     if slot < 32768 {
         slot as u64
     } else {
-        slot as u64 % 1024
+        slot as u64 % 8192
     }
 }
 

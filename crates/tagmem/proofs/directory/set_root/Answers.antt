@@ -1,4 +1,4 @@
-use Rattle.std.proofs.Common.{◌≡◌, ℕ, zero, suc, ◌≤◌, List, [], ◌∷◌, ◌++◌, get_or, length, replicate, take, refl, ap, ◌∙◌, arith}
+use Rattle.std.proofs.Common.{◌≡◌, ℕ, zero, suc, ◌+◌, ◌≤◌, List, [], ◌∷◌, ◌++◌, get_or, length, replicate, take, refl, ap, ◌∙◌, arith}
 use Rattle.std.proofs.Common.{Bool, Vec, Global, get_or-set_other}
 use Rattle.std.specs.Bool.{if◌then◌else◌}
 use Rattle.std.proofs.lemmas.List.{take_all}
@@ -23,6 +23,6 @@ returns-clause-others c = λ other differs.
     ∙ elim c.if-len-slot.branch [
       | then-len-slot w ↦ ap (λ (v : Vec ℕ Global). get_or v.items other 0) w.roots-is
           ∙ ap (λ items. get_or items other 0) w.resize-made.ensures.items
-          ∙ filled _ c.args.roots.now.items 36352 _ other (omega (arith, c.requires.slot, w.if-len-slot.true, c.len.ensures, c.args.roots.now.ok.0))
+          ∙ filled _ c.args.roots.now.items (c.args.slot + 1) _ other (omega (arith, c.requires.slot, w.if-len-slot.true, c.len.ensures, c.args.roots.now.ok.0))
       | else-len-slot w ↦ ap (λ (v : Vec ℕ Global). get_or v.items other 0) w.roots-is
     ]
