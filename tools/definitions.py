@@ -136,8 +136,8 @@ def clauses(crate):
         is_open = all(it in opened for it in module[:1])
         around, lines, at = "", text.split("\n"), 0
         for at, line in enumerate(lines):
-            m = re.match(r"(?:pub )?(?:impl|trait)\b.*?(?:for )?(\w+)(?:<[^{]*)?\s*\{", line)
-            around = m[1] if m else "" if re.match(r"\}", line) else around
+            m = re.match(r"(?:pub )?(?:trait (\w+)|impl\b.*?(?:for )?(\w+)(?:<[^{]*)?\s*\{)", line)
+            around = (m[1] or m[2]) if m else "" if re.match(r"\}", line) else around
             m = re.match(r"\s*(pub )?(?:const )?(?:unsafe )?(?:extern \"C\" )?fn (\w+)", line)
             is_trait = around and any(it.startswith("pub trait " + around) for it in lines)
             if re.match(r"\s+ghost (?!use)\w+", line) and (is_open or is_trait or around in items):
