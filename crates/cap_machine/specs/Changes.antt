@@ -1,4 +1,4 @@
--- What single parts of taking a root or making a step do, each for one private function (this profile's own).
+-- What single parts of taking a root or making a step do, most of them for one private function (this profile's own).
 use Rattle.std.specs.Prelude.{◌&&◌, ◌==◌, ◌≡◌, ℕ, ℤ, ◌+◌, Bool, true, false, not, ◌||◌, nat_le, if◌then◌else◌, List, []}
 use Rattle.std.specs.Prelude.{◌∷◌, drop, slice_set, take, Option, Some, None, IsTrue, Result, Ok, MatchResult}
 use Rattle.std.specs.{Prelude.option_map, Bool.beq}

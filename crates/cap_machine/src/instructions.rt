@@ -114,8 +114,10 @@ pub trait Operation: Operands {
         requires derives { Derives machine.now (Self.step self.now) (Ok given) }
         ensures code { IsCodeOf machine.now (Self.step self.now) given result }
     {
-        let code = machine.codes[self.parts().source.number() as usize];
-        if given.tag { code } else { 0 }
+        code_if(
+            given.tag,
+            machine.codes[self.parts().source.number() as usize],
+        )
     }
 
     /// How it ends by some rules: its result, or its first failed check.
@@ -239,7 +241,7 @@ impl<const IS_CLEARING: bool> Operation for Plain<IS_CLEARING> {
         }
     }
 
-    // Without a branch on the tag, which can't be predicted in many logs.
+    // Without a tag the source's code is 0.
     #[inline(always)]
     fn code<M: TaggedStore>(&self, _given: Cap, machine: &Machine<M>) -> u64 {
         machine.kept();
@@ -324,6 +326,14 @@ impl<const IS_UNSEALING: bool> Operation for Authorized<IS_UNSEALING> {
             seal_clear(source, authority)
         }
     }
+}
+
+// A code if there is a tag, or else 0. It has no branch on the tag, which can't be predicted in many logs.
+#[inline(always)]
+fn code_if(tag: bool, code: u64) -> u64
+    ensures { result ≡ code_for tag code }
+{
+    code & u64::from(tag).wrapping_neg()
 }
 
 // The code of a result, by what it comes from and the code of this. The tag is mostly the same, but can't be predicted
