@@ -20,7 +20,7 @@ module _ (regions : List Region) (index : ℕ) (region : Region) (in_range : ind
 
 -- a link set in a region is a link more
 pub IsLinkedTo-set : (roots : List ℕ) (regions : List Region) (index digit to : ℕ) (old new : Region) → index < length regions
-    → old ≡ get_or regions index old → digit < 8 → new.children ≡ set old.children digit to
+    → old ≡ get_or regions index old → digit < 4 → new.children ≡ set old.children digit to
     → IsLinkedTo (links_of roots regions) (links_of roots (set regions index new)) (suc index) digit to
 IsLinkedTo-set roots regions index digit to old new lt is small children = record {
   own = sym (here digit) ∙ get_or-set_same old.children digit to 0 (omega (arith, old.each_has_child));
@@ -42,16 +42,16 @@ links_of-push roots [] region none (suc zero) digit = none digit
 links_of-push roots regions region none link digit = refl
 
 -- with a digit less, more is above
-pub above_suc : (digits number : ℕ) → above (suc digits) number ≡ above digits number / 8
+pub above_suc : (digits number : ℕ) → above (suc digits) number ≡ above digits number / 4
 above_suc digits number =
-    let longer : 3 * suc digits ≡ 3 * digits + 3 = omega arith in
-    ap (λ n. number / n) (ap (λ n. 2 ^ n) longer ∙ pow-add 2 (3 * digits) 3) ∙ sym (div-div-eq-div-mul number (2 ^ (3 * digits)) 8)
+    let longer : 2 * suc digits ≡ 2 * digits + 2 = omega arith in
+    ap (λ n. number / n) (ap (λ n. 2 ^ n) longer ∙ pow-add 2 (2 * digits) 2) ∙ sym (div-div-eq-div-mul number (2 ^ (2 * digits)) 4)
 
 pub above_rises : (digits a b : ℕ) → a ≤ b → above digits a ≤ above digits b
 above_rises zero a b le = omega arith
 above_rises (suc digits) a b le = omega (arith, above_rises digits a b le, above_suc digits a, above_suc digits b)
 
-pub slot_lt : (number : ℕ) → number < 2 ^ 51 → slot_of number < 61440
+pub slot_lt : (number : ℕ) → number < 2 ^ 51 → slot_of number < 90112
 slot_lt number small = grind (arith, nat_tests)
 
 pub slot_rises : (a b : ℕ) → a ≤ b → b < 2 ^ 51 → slot_of a ≤ slot_of b
@@ -74,11 +74,11 @@ module _ (links : ℕ → ℕ → ℕ) (number : ℕ) where
 
   -- and on, where digits are left
   pub leads_on : (level digits index at : ℕ) → level ≡ suc digits → index ≢ at
-      → leads links number level (suc index) at ≡ leads links number digits (links (suc index) (above digits number % 8)) at
+      → leads links number level (suc index) at ≡ leads links number digits (links (suc index) (above digits number % 4)) at
   leads_on level digits index at is differs = grind (arith, nat_tests)
 
   pub leads_from : (level digits index at : ℕ) → level ≡ suc digits
-      → leads links number digits (links (suc index) (above digits number % 8)) at ≡ true → leads links number level (suc index) at ≡ true
+      → leads links number digits (links (suc index) (above digits number % 4)) at ≡ true → leads links number level (suc index) at ≡ true
   leads_from level digits index at is led = grind (arith, nat_tests)
 
   pub leads_nowhere : (digits link at : ℕ) → link ≡ 0 → leads links number digits link at ≡ true → ⊥
@@ -88,7 +88,7 @@ module _ (links : ℕ → ℕ → ℕ) (number : ℕ) where
   module _ (more : ℕ → ℕ → ℕ) (kept : AreKept links more) where
     leads-kept : (digits link at : ℕ) → leads links number digits link at ≡ true → leads more number digits link at ≡ true
     leads-kept (suc digits) (suc index) at led =
-        let digit = above digits number % 8 in
+        let digit = above digits number % 4 in
         grind (arith, nat_tests, kept (suc index) digit, leads_nowhere, leads-kept digits (links (suc index) digit) at)
     leads-kept digits link at led = grind (arith, nat_tests)
 
@@ -142,8 +142,8 @@ module _ (numbers : List ℕ) (links : ℕ → ℕ → ℕ) (from level : ℕ) w
   IsUnder-last link prefix at none under = grind (arith, nat_tests, under.led)
 
   pub IsUnder-on : (digits link prefix at : ℕ) → level ≡ suc digits → suc at ≢ link → get_or numbers at 0 < 2 ^ 64
-      → IsUnder numbers links from level link prefix at → let digit = above digits (get_or numbers at 0) % 8 in
-      IsUnder numbers links from digits (links link digit) (prefix * 8 % 2 ^ 64 + digit) at
+      → IsUnder numbers links from level link prefix at → let digit = above digits (get_or numbers at 0) % 4 in
+      IsUnder numbers links from digits (links link digit) (prefix * 4 % 2 ^ 64 + digit) at
   IsUnder-on digits link prefix at is differs small under = record {
     in_range = under.in_range;
     low = under.low;

@@ -1,28 +1,28 @@
--- How regions lead to one another by the octal digits of their numbers. All of it is this profile's own.
+-- How regions lead to one another by the digits of their numbers in base 4. All of it is this profile's own.
 use Rattle.std.specs.Prelude.{◌≡◌, ◌≢◌, ℕ, zero, suc, ◌+◌, ◌*◌, ◌/◌, ◌%◌, ◌^◌, ◌<◌, ◌≤◌, Bool, true, false, ◌||◌, cond, eqb, ltb}
 use Rattle.std.specs.Prelude.{⊤, List, [], length, Option, None, Some, Result, Ok, Err, slice_index, slice_index_or}
 use Rattle.tagmem.specs.declared.order.TheConstants.{SLOTS}
 
 -- what a number has above so many digits
 abbrev pub above : ℕ → ℕ → ℕ
-above digits number = number / 2 ^ (3 * digits)
+above digits number = number / 2 ^ (2 * digits)
 
--- the slot of a number's root: the number if it has 15 bits, or its highest bits, thirteen of 19, 28 or 40 or twelve of 51,
+-- the slot of a number's root: the number if it has 15 bits, or its highest bits, 14 of 20, 28 or 40 or 13 of 51,
 -- after the slots of shorter numbers
 abbrev pub slot_of : ℕ → ℕ
 slot_of number =
     cond (ltb number 32768) number
-    (cond (ltb number 524288) (32768 + number / 64)
-    (cond (ltb number 268435456) (40960 + number / 32768)
-    (cond (ltb number 1099511627776) (49152 + number / 134217728) (57344 + number / 549755813888))))
+    (cond (ltb number 1048576) (32768 + number / 64)
+    (cond (ltb number 268435456) (49152 + number / 16384)
+    (cond (ltb number 1099511627776) (65536 + number / 67108864) (81920 + number / 274877906944))))
 
 -- how many digits are left after those bits
 abbrev pub digits_in : ℕ → ℕ
-digits_in slot = cond (ltb slot 32768) 0 (cond (ltb slot 40960) 2 (cond (ltb slot 49152) 5 (cond (ltb slot 57344) 9 13)))
+digits_in slot = cond (ltb slot 32768) 0 (cond (ltb slot 49152) 3 (cond (ltb slot 65536) 7 (cond (ltb slot 81920) 13 19)))
 
 -- what a slot's numbers have above those digits
 abbrev pub prefix_in : ℕ → ℕ
-prefix_in slot = cond (ltb slot 32768) slot (slot % 8192)
+prefix_in slot = cond (ltb slot 32768) slot (slot % 16384)
 
 -- a link is one more than the index of a region, and 0 for none. From 0 go the roots, each on its slot, and from another
 -- link those of its region, each on its digit
@@ -34,7 +34,7 @@ linked roots children (suc index) digit = slice_index (slice_index_or children i
 abbrev pub leads : (ℕ → ℕ → ℕ) → ℕ → ℕ → ℕ → ℕ → Bool
 leads links number digits zero at = false
 leads links number zero (suc index) at = eqb index at
-leads links number (suc digits) (suc index) at = eqb index at || leads links number digits (links (suc index) (above digits number % 8)) at
+leads links number (suc digits) (suc index) at = eqb index at || leads links number digits (links (suc index) (above digits number % 4)) at
 
 -- the whole way does
 abbrev pub leads_all : (ℕ → ℕ → ℕ) → ℕ → ℕ → Bool
@@ -45,7 +45,7 @@ leads_all links number at = leads links number (digits_in (slot_of number)) (lin
 abbrev pub IsPlaced : List ℕ → (ℕ → ℕ) → ℕ → ℕ → ℕ → ℕ → Type 0
 IsPlaced numbers level_of zero slot level prefix = (level ≡ digits_in slot) × (prefix ≡ prefix_in slot)
 IsPlaced numbers level_of (suc index) digit level prefix =
-    (level_of index ≡ suc level) × (prefix ≡ 8 * above (suc level) (slice_index numbers index) + digit)
+    (level_of index ≡ suc level) × (prefix ≡ 4 * above (suc level) (slice_index numbers index) + digit)
 
 -- at each region so many digits are left
 abbrev pub HaveLevels : List ℕ → (ℕ → ℕ → ℕ) → (ℕ → ℕ) → Type 0
@@ -68,7 +68,7 @@ pub record IsEnding (numbers : List ℕ) (links : ℕ → ℕ → ℕ) (number l
   pub absent : (at : ℕ) → at < length numbers → slice_index numbers at ≢ number
   pub in_range : link ≤ length numbers
   pub slot : link ≡ 0 → digit < SLOTS
-  pub octal : 0 < link → digit < 8
+  pub child : 0 < link → digit < 4
   pub none : links link digit ≡ 0
   pub goes_on : (more : ℕ → ℕ → ℕ) (at : ℕ) → AreKept links more → more link digit ≡ suc at → leads_all more number at ≡ true
   pub placed : (level_of : ℕ → ℕ) → HaveLevels numbers links level_of → (level : ℕ) × IsPlaced numbers level_of link digit level (above level number)

@@ -174,7 +174,7 @@ fn join(regions: &mut Vec<Region>, roots: &mut Vec<u32>, end: (usize, usize), li
     requires in_range { end.0 ≤ length regions.old.items }
     requires slot { end.0 ≡ 0 → end.1 < SLOTS }
     requires room { SLOTS ≤ vec_capacity roots.old }
-    requires digit { 0 < end.0 → end.1 < 8 }
+    requires digit { 0 < end.0 → end.1 < 4 }
     ensures numbers { numbers_of regions.new.items ≡ numbers_of regions.old.items }
     ensures there { (page : ℕ) → is_there regions.new.items page ≡ is_there regions.old.items page }
     ensures linked { IsLinkedTo (links_of roots.old.items regions.old.items) (links_of roots.new.items regions.new.items) end.0 end.1 link }

@@ -1,7 +1,7 @@
 //! Where regions stand in a list, by their numbers, and which of them is next.
 //!
-//! The highest bits of a number name a slot in a table of roots. A region has links to eight others: a link is one more
-//! than an index in the list, and 0 for none. From a region a way goes on to the child that the next octal digit of a
+//! The highest bits of a number name a slot in a table of roots. A region has links to four others: a link is one more
+//! than an index in the list, and 0 for none. From a region a way goes on to the child that the next two bits of a
 //! number names, the highest first. So a way has no more steps than a number has digits after those bits, and all that
 //! is led to from a slot, or on a digit, is less than all from a higher one.
 ghost use Rattle.std.specs.Prelude.{◌≡◌, ◌*◌, ◌+◌, ◌^◌, ◌<◌, ◌≤◌, ◌⊎◌, ℕ, IfSome, List, false, length, slice_index, suc, true};
@@ -11,11 +11,11 @@ ghost use Rattle.tagmem.specs.{declared.order.TheConstants.SLOTS, Regions.{links
 use crate::region::Region;
 use crate::room::link_at;
 
-// How many slots there are: one for each number of 15 bits, 8,192 for the numbers of each of three greater lengths, and
-// 4,096 for longer ones.
-pub(crate) const SLOTS: usize = 61440;
+// How many slots there are: one for each number of 15 bits, 16,384 for the numbers of each of three greater lengths, and
+// 8,192 for longer ones.
+pub(crate) const SLOTS: usize = 90112;
 
-// The slot of a number: the number itself if it has 15 bits, or else its highest thirteen of 19, 28 or 40, or twelve of 51.
+// The slot of a number: the number itself if it has 15 bits, or else its highest 14 of 20, 28 or 40, or 13 of 51.
 #[inline(always)]
 fn slot(number: u64) -> usize
     requires { number < 2 ^ 51 }
@@ -24,14 +24,14 @@ fn slot(number: u64) -> usize
 {
     if number < 1 << 15 {
         number as usize
-    } else if number < 1 << 19 {
+    } else if number < 1 << 20 {
         32768 + (number >> 6) as usize
     } else if number < 1 << 28 {
-        40960 + (number >> 15) as usize
+        49152 + (number >> 14) as usize
     } else if number < 1 << 40 {
-        49152 + (number >> 27) as usize
+        65536 + (number >> 26) as usize
     } else {
-        57344 + (number >> 39) as usize
+        81920 + (number >> 38) as usize
     }
 }
 
@@ -39,14 +39,14 @@ fn slot(number: u64) -> usize
 #[inline(always)]
 fn digits(slot: usize) -> usize
     ensures value { result ≡ digits_in slot }
-    ensures small { result < 18 }
+    ensures small { result < 20 }
 {
-    match slot / 8192 {
-        0..=3 => 0,
-        4 => 2,
-        5 => 5,
-        6 => 9,
-        _ => 13,
+    match slot / 16384 {
+        0..=1 => 0,
+        2 => 3,
+        3 => 7,
+        4 => 13,
+        _ => 19,
     }
 }
 
@@ -57,7 +57,7 @@ fn prefix(slot: usize) -> u64
     if slot < 32768 {
         slot as u64
     } else {
-        slot as u64 % 8192
+        slot as u64 % 16384
     }
 }
 
@@ -81,7 +81,7 @@ pub(crate) fn find(regions: &[Region], roots: &[u32], number: u64) -> Result<usi
             return Ok(index);
         }
         level -= 1;
-        let digit = (number >> (3 * level)) as usize % 8;
+        let digit = (number >> (2 * level)) as usize % 4;
         let child = region.children[digit];
         if child == 0 {
             return Err((index + 1, digit));
@@ -131,7 +131,7 @@ pub(crate) fn least_under(
 ) -> Option<u64>
     requires in_range { link ≤ length regions.now }
     requires within { (roots : List ℕ) (index digit : ℕ) → links_of roots regions.now (suc index) digit ≤ length regions.now }
-    requires low { level < 18 }
+    requires low { level < 20 }
     ensures { (roots : List ℕ) → IsLeastUnder (numbers_of regions.now) (links_of roots regions.now) from level link prefix result }
 {
     if link == 0 {
@@ -142,9 +142,9 @@ pub(crate) fn least_under(
     if level == 0 {
         return least;
     }
-    for digit in 0..8 {
-        let child = (prefix << 3) + digit;
-        if child < from >> (3 * (level - 1)) {
+    for digit in 0..4 {
+        let child = (prefix << 2) + digit;
+        if child < from >> (2 * (level - 1)) {
             continue;
         }
         if ends_before(least, child, level - 1) {
@@ -173,12 +173,12 @@ fn own(number: u64, from: u64) -> Option<u64>
 // Whether a number is there that is less than all with a prefix.
 #[tactic(auto, using(crate::proofs::Orders::above_rises))]
 fn ends_before(least: Option<u64>, prefix: u64, level: usize) -> bool
-    requires { level < 18 }
+    requires { level < 20 }
     ensures before { result ≡ true → (number : ℕ) → prefix ≤ above level number → IsUpTo number least }
     ensures not_before { result ≡ false → IfSome least (λ number. prefix ≤ above level number) }
 {
     match least {
-        Some(number) => number >> (3 * level) < prefix,
+        Some(number) => number >> (2 * level) < prefix,
         None => false,
     }
 }

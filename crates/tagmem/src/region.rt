@@ -2,16 +2,16 @@
 ghost use Rattle.std.specs.Prelude.{◌≡◌, ◌≢◌, ◌<◌, ◌^◌, ℕ, IfSome, false, length, slice_index, slice_set, true};
 ghost use Rattle.tagmem.specs.Pages.{has_page, HasPage, IsLeast};
 
-// Its number, a bit for each of its pages, which says whether it is there, and the links to eight other regions.
+// Its number, a bit for each of its pages, which says whether it is there, and the links to four other regions.
 #[derive(Drop)]
 pub(crate) struct Region {
     pub(crate) number: u64,
     there: u64,
-    pub(crate) children: [u32; 8],
+    pub(crate) children: [u32; 4],
     ghost in_memory: { number < 2 ^ 50 },
     ghost small: { there < 2 ^ 64 },
     ghost used: { HasPage there },
-    ghost each_has_child: { length children ≡ 8 },
+    ghost each_has_child: { length children ≡ 4 },
 }
 
 impl Region {
@@ -27,7 +27,7 @@ impl Region {
         Region {
             number,
             there: 1 << place,
-            children: [0; 8],
+            children: [0; 4],
         }
     }
 
@@ -67,7 +67,7 @@ impl Region {
 
     // Leads to a region on a digit.
     pub(crate) fn lead(&mut self, digit: usize, link: u32)
-        requires { digit < 8 }
+        requires { digit < 4 }
         ensures number { self.new.number ≡ self.old.number }
         ensures there { self.new.there ≡ self.old.there }
         ensures children { self.new.children ≡ slice_set self.old.children digit link }

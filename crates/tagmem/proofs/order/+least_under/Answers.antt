@@ -37,9 +37,9 @@ counted t c = omega (arith, c.if-level-eq0.false)
 
 on_digit : (t : ℕ) (c : In-loop-digit t) (roots : List ℕ) (at : ℕ) → suc at ≢ c.args.link
     → IsUnder (numbers_of c.args.regions.now) (links_of roots c.args.regions.now) c.args.from c.args.level c.args.link c.args.prefix at
-    → let digit = above (c.args.level - 1) (get_or (numbers_of c.args.regions.now) at 0) % 8 in
+    → let digit = above (c.args.level - 1) (get_or (numbers_of c.args.regions.now) at 0) % 4 in
     IsUnder (numbers_of c.args.regions.now) (links_of roots c.args.regions.now) c.args.from (c.args.level - 1)
-    (links_of roots c.args.regions.now c.args.link digit) (c.args.prefix * 8 % 2 ^ 64 + digit) at
+    (links_of roots c.args.regions.now c.args.link digit) (c.args.prefix * 4 % 2 ^ 64 + digit) at
 on_digit t c roots at differs under =
     IsUnder-on (numbers_of c.args.regions.now) (links_of roots c.args.regions.now) c.args.from c.args.level (c.args.level - 1)
     c.args.link c.args.prefix at (counted t c) differs (omega (arith, numbers_small c.args.regions.now at under.in_range)) under
@@ -91,10 +91,10 @@ loop-digit-preserved t c =
       one = ⊎_elim (λ same. rw same c.loop-digit.invariant.one) (λ same. rw same (c.least_under-next.ensures []).0) is.one;
       under = λ roots at under lower.
           let n = get_or numbers at 0 in
-          by_digit c.args.link at (above (c.args.level - 1) n % 8) c.loop-digit.digit (IsUpTo n c.lesser-least.result)
+          by_digit c.args.link at (above (c.args.level - 1) n % 4) c.loop-digit.digit (IsUpTo n c.lesser-least.result)
           (λ below. is.first n (c.loop-digit.invariant.under roots at under below))
           (λ differs le. is.second n ((c.least_under-next.ensures roots).1 at
-          (let same : above (c.args.level - 1) n % 8 ≡ c.loop-digit.digit = omega (arith, le, lower differs) in
+          (let same : above (c.args.level - 1) n % 4 ≡ c.loop-digit.digit = omega (arith, le, lower differs) in
           rw (named t after roots c.loop-digit.digit) (rw same at (on_digit t in_loop roots at differs under)))));
     }
 
@@ -109,7 +109,7 @@ returns-then-ends_before t c = λ roots. (
   c.loop-digit.invariant.one,
   λ at under.
       let n = get_or (numbers_of c.args.regions.now) at 0 in
-      by_digit c.args.link at (above (c.args.level - 1) n % 8) c.loop-digit.digit (IsUpTo n c.loop-digit.least)
+      by_digit c.args.link at (above (c.args.level - 1) n % 4) c.loop-digit.digit (IsUpTo n c.loop-digit.least)
       (c.loop-digit.invariant.under roots at under)
       (λ differs le.
       let on = on_digit t (goal.at.returns-then-ends_before t c).In-loop-digit roots at differs under in

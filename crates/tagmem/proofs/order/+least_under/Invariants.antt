@@ -9,5 +9,5 @@ abbrev pub invariant-loop-digit : goal.invariant-loop-digit
 invariant-loop-digit l = let numbers = numbers_of l.regions in record {
   one : IsOneFrom numbers l.from l.least;
   under : (roots : List ℕ) (at : ℕ) → IsUnder numbers (links_of roots l.regions) l.from l.level l.link l.prefix at
-      → (suc at ≢ l.link → above (l.level - 1) (get_or numbers at 0) % 8 < l.digit) → IsUpTo (get_or numbers at 0) l.least;
+      → (suc at ≢ l.link → above (l.level - 1) (get_or numbers at 0) % 4 < l.digit) → IsUpTo (get_or numbers at 0) l.least;
 }

@@ -1,9 +1,26 @@
-use Rattle.std.proofs.Common.{◌≡◌, ◌≢◌, ℕ, suc, true, ◌+◌, ◌-◌, ◌%◌, ◌*◌, ◌<◌, List, get_or, length, sym, ap, subst, ◌∙◌, arith, add-one}
+use Rattle.std.proofs.Common.{◌≡◌, ◌≢◌, ℕ, suc, true, ◌+◌, ◌-◌, ◌%◌, ◌*◌, ◌<◌, List, get_or, length, refl, sym, ap, subst, ◌∙◌, arith, add-one}
 use Rattle.std.proofs.lemmas.{List.{length-map}}
-use Rattle.tagmem.specs.{declared.region.Region.Region, Orders.{HaveLevels, above, leads}, Regions.{links_of, numbers_of}}
+use Rattle.tagmem.specs.{declared.region.Region.Region, Orders.{HaveLevels, above, digits_in, leads}, Regions.{links_of, numbers_of}}
 use Rattle.tagmem.proofs.Orders.{above_slot, above_suc, child_is, leads_from, leads_here, leads_nowhere, leads_on, led_to, number_is}
 use Rattle.tagmem.proofs.order.find.Goals.{Else-region-number}
 use Rattle.tagmem.proofs.order.find.Goals as goal
+
+pub returns-then-root-eq0 : goal.returns-then-root-eq0
+returns-then-root-eq0 c =
+    let links = links_of c.args.roots.now c.args.regions.now in
+    let first = c.slot-first.result in
+    let is = c.slot-first.ensures.value in
+    let none : links 0 first ≡ 0 = omega (arith, c.link_at-root.ensures, c.if-root-eq0.true) in
+    record {
+      absent = λ at lt same. leads_nowhere links c.args.number (digits_in first) (links 0 first) at none
+          (led_to (numbers_of c.args.regions.now) links c.args.number first (digits_in first) at c.requires.linked is refl lt same);
+      in_range = omega arith;
+      slot = λ _. c.slot-first.ensures.small;
+      child = λ some. absurd (omega (arith, some));
+      none = none;
+      goes_on = λ more at kept to. rw (sym is, to) (leads_here more c.args.number (digits_in first) at);
+      placed = λ level_of have. (digits_in first, (refl, rw is (above_slot c.args.number c.requires.small)));
+    }
 
 pub loop-region-init : goal.loop-region-init
 loop-region-init c =
@@ -35,7 +52,7 @@ module _ (c : Else-region-number) where
   digits = c.loop-region.level - 1
 
   abbrev digit : ℕ
-  digit = above digits c.args.number % 8
+  digit = above digits c.args.number % 4
 
   differs : get_or numbers index 0 ≢ c.args.number
   differs same =
@@ -61,7 +78,7 @@ module _ (c : Else-region-number) where
       ∙ c.loop-region.invariant.sought at lt same
 
   placed : (level_of : ℕ → ℕ) → HaveLevels numbers links level_of
-      → (level_of index ≡ suc digits) × (above digits c.args.number ≡ 8 * above (suc digits) (get_or numbers index 0) + digit)
+      → (level_of index ≡ suc digits) × (above digits c.args.number ≡ 4 * above (suc digits) (get_or numbers index 0) + digit)
   placed level_of have = grind (arith, c.loop-region.invariant.placed level_of have, counted, above_suc digits c.args.number)
 
 pub overflow_sub-level : goal.overflow_sub-level
@@ -75,7 +92,7 @@ returns-then-child-eq0 c =
       absent = λ at lt same. leads_nowhere (links after) c.args.number (digits after) _ at none (sought after at lt same);
       in_range = omega (arith, c.loop-region.invariant.in_range, length-map c.args.regions.now (λ (r : Region). r.number));
       slot = λ none. absurd (omega arith);
-      octal = λ some. omega arith;
+      child = λ some. omega arith;
       none = none;
       goes_on = λ more at kept to. c.loop-region.invariant.goes_on more at kept (leads_from more c.args.number c.loop-region.level
           (digits after) (index after) at (counted after) (rw to (leads_here more c.args.number (digits after) at)));
