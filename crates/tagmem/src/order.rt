@@ -1,9 +1,9 @@
 //! Where regions stand in a list, by their numbers, and which of them is next.
 //!
 //! The highest bits of a number name a slot in a table of roots. A region has links to four others: a link is one more
-//! than an index in the list, and 0 for none. From a region a way goes on to the child that the next two bits of a
-//! number names, the highest first. So a way has no more steps than a number has digits after those bits, and all that
-//! is led to from a slot, or on a digit, is less than all from a higher one.
+//! than an index in the list, and 0 for none. From a region a way goes on to the child that the next digit of a number
+//! in base 4 names, the highest first. So a way has no more steps than a number has digits after those bits, and all
+//! that is led to from a slot, or on a digit, is less than all from a higher one.
 ghost use Rattle.std.specs.Prelude.{◌≡◌, ◌*◌, ◌+◌, ◌^◌, ◌<◌, ◌≤◌, ◌⊎◌, ℕ, IfSome, List, false, length, slice_index, suc, true};
 ghost use Rattle.tagmem.specs.Orders.{AreLinked, IsLeastFrom, IsLeastUnder, IsStanding, above, IsUpTo, digits_in, prefix_in, slot_of};
 ghost use Rattle.tagmem.specs.{declared.order.TheConstants.SLOTS, Regions.{links_of, numbers_of}};
