@@ -1,5 +1,5 @@
 -- Why the map that a list of entries is keeps the laws of a store.
-use Rattle.std.specs.Prelude.{◌≡◌, ℕ, suc, ◌^◌, ◌<◌, ◌≢◌, cond, eqb, List, [], ◌∷◌, map, length}
+use Rattle.std.specs.Prelude.{◌≡◌, ℕ, suc, ◌<◌, ◌≢◌, cond, eqb, List, [], ◌∷◌, map, length}
 use Rattle.std.specs.{Prelude.{get_or, Option, Some, None, refl}, Cmp.{nat_cmp_total, unsigned_tied}}
 use Rattle.std.specs.{FinMap.{find, get-from_entries}, Ordering.nat_cmp}
 use Rattle.std.specs.FinMap as map
@@ -74,7 +74,3 @@ len-apart (x ∷ l) apart =
 -- and so does one whose granules rise
 pub len-contents_of : (l : List Listed) → IsRising l → map.len (contents_of l) ≡ length l
 len-contents_of l rising = len-apart l (apart_far l (rises_far l rising))
-
--- and a short one has a map whose count fits
-pub len_fits : (l : List Listed) → IsRising l → length l < 2 ^ 32 → map.len (contents_of l) < 2 ^ 32
-len_fits l rising short = omega (arith, len-contents_of l rising)
