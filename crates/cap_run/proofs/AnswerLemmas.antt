@@ -13,11 +13,12 @@ use Rattle.cap_run.specs.declared.{asks.Asks.Asks, ends.{RunEnd.{RunEnd, TheVari
 use Rattle.cap_run.specs.declared.ends.RunRefusal.TheVariants.{AlreadyFreed, NoCapability, NoObject, NoOwner, Usual}
 use Rattle.cap_run.specs.{Numbers.{number_at, numbered_run}, Owned.AreWithin, RunChanges.{run_after, with_freed}}
 use Rattle.cap_run.specs.RunChecks.{Answers, extent_end, growth_end, number_end, owner_end, run_end}
-use Rattle.cap_run.specs.ObjectSteps.{AgainEnds, CanWiden, ExtentEnds, FreeEnds, FreeNumberEnds, Frees, HandsOut, ObjectEnds, Widens, object_refusal}
+use Rattle.cap_run.specs.ObjectSteps.{CanWiden, ExtentEnds, Frees, WidenEnds, Widens, object_refusal}
 use Rattle.cap_run.specs.{RunOf.{run_of, run_owners, run_state}, RunSteps.{or_later, step_limit}}
 use Rattle.cap_run.proofs.{NumberLemmas.{alone-at, at-number}, ChangeLemmas.number-of, RunNumberLemmas.{index_in, numbered-same}, ObjectNumberLemmas.{freed-number, handed-number, widened-by_number}}
 use Rattle.cap_run.proofs.EndLemmas.{EndsAs, answers-end, extent-ends, freed-number-end, later, live-number, number-ends, refusal-number}
-use Rattle.cap_run.proofs.ObjectLemmas.{some_and}
+use Rattle.cap_run.proofs.{HandingLemmas.match_none, ObjectLemmas.some_and}
+use Rattle.cap_run.proofs.ObjectEnds.{AgainEnds, FreeEnds, FreeNumberEnds, HandsOut, ObjectEnds}
 
 after_none_is : (one two end : Option RunRefusal) → one ≡ None → two ≡ end → or_later one two ≡ end
 after_none_is one two end is is2 = ap (λ (o : Option RunRefusal). or_later o two) is ∙ is2
@@ -221,3 +222,13 @@ module _ (held new : Held) (specials sp : Specials) (h after : Handouts) (sized 
         ])
         | inr it ↦ refused register it.0 rest end it.1 it.2
       ]) refl (same is)
+
+  pub widen-answers : (register number slot : ℕ) (result : Result (Unit {0}) RunEnd) → IsLive (objects_of h) number slot
+      → object_refusal (run_of held specials h) register ≡ None → OnOk result (Widens (run_of held specials h) register slot (run_of new sp after))
+      → OnOk result (step_limit (run_of held specials h) ≡ None) → OnOk result (CanWiden (run_of held specials h) h.keeps register slot)
+      → IfErr result (WidenEnds (run_of held specials h) h.keeps register slot) → OnErr result (run_of new sp after ≡ run_of held specials h)
+      → let run = numbered_run held specials h in
+      Answers (run_end asks run (steps.Widen register number)) (run_after run (steps.Widen register number)) true run result (numbered_run new sp after)
+  widen-answers register number slot (Ok done) live none ok few room end err = widen-ok register number slot live ok (none, few) room
+  widen-answers register number slot (Err it) live none ok few room end err =
+      widen-err register number it (match_none _ _ _ none (inr (slot, live, end))) err

@@ -11,10 +11,11 @@ use Rattle.cap_objects.specs.declared.handouts.NumberFault.TheVariants as number
 use Rattle.cap_run.specs.declared.{asks.Asks.Asks, ends.{RunEnd.{RunEnd, TheVariants.{NoMemory, Refused}}, RunRefusal.RunRefusal}, specials.Specials.Specials}
 use Rattle.cap_run.specs.declared.ends.RunRefusal.TheVariants.{AlreadyFreed, HasOwner, NoCapability, NoObject, Overlaps, StillHeld, Usual}
 use Rattle.cap_run.specs.{Numbers.{by_number, number_at, numbered_run}, Run.Run, RunChecks.{Answers, extent_end, is_live, number_end}}
-use Rattle.cap_run.specs.ObjectSteps.{ExtentEnds, NumberEnds, is_capability, object_refusal}
+use Rattle.cap_run.specs.ObjectSteps.{ExtentEnds, is_capability, object_refusal}
 use Rattle.cap_run.specs.{RunOf.{run_of, run_owners, run_state}, RunSteps.{or_later, step_limit}}
 use Rattle.cap_run.proofs.{ChangeLemmas.number-of, MeetLemmas.{extent-held, extent-overlaps, extent-room, first_check, no_check, second_check}, NumberLemmas.{at-number, slot-of}}
 use Rattle.cap_run.proofs.{RunNumberLemmas.index_in, ObjectLemmas.{owner-there}}
+use Rattle.cap_run.proofs.ObjectEnds.{NumberEnds}
 
 -- what an end says of the refusal that a step ends with
 abbrev pub EndsAs : Option RunRefusal → RunEnd → Type 0
@@ -32,6 +33,10 @@ later one two end is ends = subst (λ (o : Option RunRefusal). EndsAs (or_later 
 
 pub first : (one two : Option RunRefusal) (refusal : RunRefusal) → one ≡ Some refusal → or_later one two ≡ Some refusal
 first one two refusal is = ap (λ (o : Option RunRefusal). or_later o two) is
+
+-- neither of two refusals comes
+pub neither : (one two : Option RunRefusal) → one ≡ None → two ≡ None → or_later one two ≡ None
+neither one two is is2 = ap (λ (o : Option RunRefusal). or_later o two) is ∙ is2
 
 none_of : (b : Bool) → (b && false) ≡ false
 none_of true = refl

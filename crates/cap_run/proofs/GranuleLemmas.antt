@@ -1,7 +1,7 @@
 -- What granules of a run hold, and own.
 use Rattle.std.specs.FinMap as map
 use Rattle.std.proofs.Common.{◌≡◌, ◌==◌, ◌+◌, ◌-◌, ◌<◌, ◌||◌, ◌^◌, not, nat_lt, ℕ, Bool, true, false, IsTrue, Some, None, Option, inl, inr, is_some, option_and_then, unwrap_or, slice_get}
-use Rattle.std.proofs.Common.{if◌then◌else◌, refl, sym, ap, subst, ◌∙◌, arith, le-ltb, lt-ltb}
+use Rattle.std.proofs.Common.{refl, sym, ap, subst, ◌∙◌, arith, le-ltb, lt-ltb}
 use Rattle.std.proofs.Math.Path.{fun_ext}
 use Rattle.std.proofs.lemmas.{Bool.{cases_Bool, cond-true, cond-false, false≢true, Decides.eqb_tells}, Option.{none-some}}
 use Rattle.cap_word.specs.declared.word.Cap.{Cap}

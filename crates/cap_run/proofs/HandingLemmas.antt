@@ -14,8 +14,9 @@ use Rattle.cap_objects.specs.{Handed.{AddsObject, RefusesExtent, handed_out, las
 use Rattle.cap_ops.specs.declared.refusal.Refusal.TheVariants.{LimitPassed}
 use Rattle.cap_machine.specs.Accounts.{most_steps}
 use Rattle.cap_run.specs.declared.{ends.RunRefusal.{RunRefusal, TheVariants.Usual}, specials.Specials.Specials}
-use Rattle.cap_run.specs.ObjectSteps.{ExtentEnds, HandsOut, ended, first_holders, is_capability, object_refusal}
+use Rattle.cap_run.specs.ObjectSteps.{ExtentEnds, ended, first_holders, is_capability, object_refusal}
 use Rattle.cap_run.specs.{Owned.{IsWithin, is_empty, owner_for}, Run.Run, RunOf.{run_of, run_owners, run_state}, RunSteps.{IsUnstepped, step_limit}}
+use Rattle.cap_run.proofs.ObjectEnds.{HandsOut}
 
 pub match_none : {A : Type 0} (o : Option A) (N : Type 0) (S : A → Type 0) → o ≡ None → N → MatchOption o N S
 match_none {A} o N S is n = subst (λ (v : Option A). MatchOption v N S) (sym is) n

@@ -17,6 +17,7 @@ pub mod UsualRunLemmas
 mod PlaceLemmas
 mod OwnerLemmas
 mod ObjectLemmas
+mod ObjectEnds
 mod HandingLemmas
 mod SafetyLemmas
 mod FillLemmas

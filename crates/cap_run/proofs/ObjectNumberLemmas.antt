@@ -11,10 +11,11 @@ use Rattle.cap_objects.specs.{Counts.{CountsAre, Owners, at_key}, declared.{hand
 use Rattle.cap_objects.specs.{Extents.Objects, Handed.{IsLive, freed_in, handed_out, held_of, widened, with_held}, Indexes.kept, Objects.top_of_extent}
 use Rattle.cap_objects.proofs.KeyLemmas.{choice_under}
 use Rattle.cap_run_log.specs.declared.lines.RunStep.TheVariants as steps
-use Rattle.cap_run.specs.{declared.specials.Specials.Specials, Numbers.{by_number, number_at, numbered, numbered_run}, ObjectSteps.{Frees, HandsOut, Widens, first_holders}}
+use Rattle.cap_run.specs.{declared.specials.Specials.Specials, Numbers.{by_number, number_at, numbered, numbered_run}, ObjectSteps.{Frees, Widens, first_holders}}
 use Rattle.cap_run.specs.{Owned.{is_empty, owner_for}, RunChanges.{counted, run_after, with_freed}, RunOf.{run_of, run_owners, run_state}}
 use Rattle.cap_run.proofs.{ChangeLemmas.{counted-put, kept-by, number-of, present-by, renumbered}, NumberLemmas.{alone-at, at-number}, RunNumberLemmas.run-is}
 use Rattle.cap_run.proofs.{ObjectLemmas.{kept_some, owner-there}, OwnerLemmas.either-key}
+use Rattle.cap_run.proofs.ObjectEnds.{HandsOut}
 
 -- owners by number after an object got one place more
 owners-put : (owners after : Owners) (old new : Objects) (register slot number : ℕ) (cap : Cap)

@@ -4,17 +4,16 @@ use Rattle.std.specs.Ordering.{nat_cmp}
 use Rattle.std.proofs.Common.{◌≡◌, ◌≢◌, ◌==◌, ◌&&◌, not, ℕ, Bool, true, false, Some, None, Option, option_and_then, if◌then◌else◌, length}
 use Rattle.std.proofs.Common.{refl, sym, ap, subst, ◌∙◌}
 use Rattle.std.proofs.Math.Path.{fun_ext}
-use Rattle.std.specs.Prelude.{Result, Ok, Err, MatchResult, OnErr}
-use Rattle.std.proofs.lemmas.{Bool.{false≢true}, Option.{none-some, same_Some}}
+use Rattle.std.proofs.lemmas.{Option.{none-some, same_Some}}
 use Rattle.cap_word.specs.declared.word.Cap.{Cap}
 use Rattle.cap_machine.specs.{declared.{limits.Limits.Limits, rules.Rules.Rules}, Helds.Held, States.{State, granule_key, put}}
 use Rattle.cap_objects.specs.Counts.{CountsAre, Owners, at_key}
 use Rattle.cap_objects.specs.{declared.{handouts.Handouts.Handouts, objects.Object.Object}, Extents.Objects, Handed.{IsRecounted, held_of}, HandoutsIn.objects_of}
 use Rattle.cap_objects.specs.Indexes.{IsIndex, number_key}
 use Rattle.cap_objects.proofs.KeyLemmas.{at-same, choice_under}
-use Rattle.cap_run.specs.declared.{ends.{RunEnd.{RunEnd, TheVariants.{NoMemory, Refused}}, RunRefusal.RunRefusal}, specials.Specials.Specials}
+use Rattle.cap_run.specs.declared.{specials.Specials.Specials}
 use Rattle.cap_run.specs.{Numbers.{by_number, number_at, numbered, numbered_run}, Owned.{is_empty, owner_for}, Run.Run, GranuleSteps.Fills, RunChanges.{counted, stepped, with_named, with_place}}
-use Rattle.cap_run.specs.{RunChecks.Answers, RunOf.{run_of, run_owners, run_state}, RunSteps.{IsRefusedAs, Writes, WritesBoth}, Safety.IsSafe}
+use Rattle.cap_run.specs.{RunOf.{run_of, run_owners, run_state}, RunSteps.{Writes, WritesBoth}, Safety.IsSafe}
 use Rattle.cap_run.proofs.{NumberLemmas.{alone-at, at-number, owned-number, owner-of, recounted-numbers, renumbered, slot-of}, ObjectLemmas.owner-there}
 
 -- runs of the same parts
@@ -199,32 +198,3 @@ module _ (held : Held) (specials : Specials) (h : Handouts) (sized : length spec
         ∙ sym (owned-number (objects_of h) (run_owners held specials) n s.0 own
         (λ key t t_is. let y = owner-there held specials (objects_of h) sized are key t t_is in (y.0, y.1)));
   }
-
--- answers
-abbrev refusal_in : RunEnd → RunRefusal → RunRefusal
-refusal_in (Refused refusal) default = refusal
-refusal_in NoMemory default = default
-
-abbrev is_refused : Option RunEnd → Bool
-is_refused (Some (Refused refusal)) = true
-is_refused (Some NoMemory) = false
-is_refused None = false
-
-refused-as : (end : Option RunRefusal) (refusal : RunRefusal) → IsRefusedAs end (Refused refusal) → end ≡ Some refusal
-refused-as None refusal is = absurd (none-some (Refused refusal) is)
-refused-as (Some other) refusal is = ap (λ (e : RunEnd). Some (refusal_in e other)) (same_Some (Refused other) (Refused refusal) is)
-
-refused-never : (end : Option RunRefusal) → IsRefusedAs end NoMemory → ⊥
-refused-never None is = none-some NoMemory is
-refused-never (Some other) is = false≢true (sym (ap is_refused is))
-
-pub answers : {P : Type 0} (end : Option RunRefusal) (after : Run) (wants : Bool) (old new : Run) (result : Result (Unit {0}) RunEnd)
-    → (P → new ≡ after) → MatchResult result (λ _. (end ≡ None) × P) (IsRefusedAs end) → OnErr result (new ≡ old)
-    → Answers end after wants old result new
-answers end after wants old new (Ok done) leads is err = (is.0, leads is.1)
-answers end after wants old new (Err (Refused refusal)) leads is err = (refused-as end refusal is, err)
-answers end after wants old new (Err NoMemory) leads is err = absurd (refused-never end is)
-
-pub on-err : {P Q : Type 0} {A E : Type 0} (result : Result A E) → (P → Q) → OnErr result P → OnErr result Q
-on-err (Ok x) f is = is
-on-err (Err e) f is = f is

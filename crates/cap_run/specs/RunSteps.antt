@@ -5,12 +5,12 @@ use Rattle.cap_ops.specs.declared.derived_words.DeriveFault.{DeriveFault, TheVar
 use Rattle.cap_ops.specs.declared.derived_words.InvokeFault.{InvokeFault, TheVariants.{AuthorityUntagged, NotInvokable, WrongResult}}
 use Rattle.cap_ops.specs.declared.refusal.Refusal as usual
 use Rattle.cap_ops.specs.{Checks.first_of, DerivedWords.{derive_checks, invoke_checks}}
-use Rattle.cap_machine.specs.{Accounts.most_steps, Helds.Held, Labels.untagged, States.{put, tagged}}
+use Rattle.cap_machine.specs.{Accounts.most_steps, Helds.Held, States.{put}}
 use Rattle.cap_objects.specs.{Counts.at_key, Handed.IsRecounted}
 use Rattle.cap_run_log.specs.declared.lines.RunRegister.{RunRegister, TheVariants.{General, Special}}
-use Rattle.cap_run.specs.declared.ends.{RunEnd.{RunEnd, TheVariants.Refused}, RunRefusal.RunRefusal}
+use Rattle.cap_run.specs.declared.ends.{RunRefusal.RunRefusal}
 use Rattle.cap_run.specs.declared.ends.RunRefusal.TheVariants as refusals
-use Rattle.cap_run.specs.{Owned.owner_for, Run.{Run, first_special, register_key}}
+use Rattle.cap_run.specs.{Run.{Run, first_special, register_key}}
 
 -- the refusal that a failed check of a derivation is
 abbrev pub derive_refusal : DeriveFault → RunRefusal
@@ -73,45 +73,22 @@ pub record WritesBoth (old : Run) (first : ℕ) (one : Cap) (one_owner : Option 
   pub objects : IsRecounted old.objects new.objects
   pub rest : IsStepped old new
 
--- deriving: what is written has the owner of its source
-abbrev pub Derived : Run → RunRegister → RunRegister → Cap → Run → Type 0
-Derived old target source result new =
-    Writes old (register_key target) result (owner_for result (old.owners (register_key source))) new
-
 -- registers or special registers alone changed
 abbrev pub IsUnstepped : Held → Held → Type 0
 IsUnstepped old new =
     (new.rules ≡ old.rules) × (new.memory ≡ old.memory) × (new.roots ≡ old.roots) × (new.steps ≡ old.steps) × (new.limits ≡ old.limits)
 
--- a step is refused as this, its first check that fails
-abbrev pub IsRefusedAs : Option RunRefusal → RunEnd → Type 0
-IsRefusedAs refusal end = option_map Refused refusal ≡ Some end
-
 -- why `derive` is refused
 abbrev pub derive_end : Run → RunRegister → RunRegister → Cap → Option RunRefusal
 derive_end old target source recorded = or_later (derived_refusal target (old.state (register_key source)) recorded) (step_limit old)
 
--- exchanging: both sources are read before, and the checks of the first come first
+-- why `exchange` is refused: both sources are read before, and the checks of the first come first
 abbrev pub exchange_end : Run → ℕ → ℕ → ℕ → Cap → Cap → Option RunRefusal
 exchange_end old target source number recorded special_recorded =
     or_later (derived_refusal (General target) (old.state (register_key (Special number))) recorded)
     (or_later (derived_refusal (Special number) (old.state source) special_recorded) (step_limit old))
 
-abbrev pub Exchanged : Run → ℕ → ℕ → ℕ → Cap → Cap → Run → Type 0
-Exchanged old target source number recorded special_recorded new =
-    WritesBoth old target recorded (owner_for recorded (old.owners (register_key (Special number))))
-    (register_key (Special number)) special_recorded (owner_for special_recorded (old.owners source)) new
-
--- invoking a pair
+-- why `invoke` is refused
 abbrev pub invoke_end : Run → ℕ → ℕ → Word → Word → Option RunRefusal
 invoke_end old code data_register code_word data_word =
     or_later (invoked_refusal (old.state code) (old.state data_register) code_word data_word) (step_limit old)
-
-abbrev pub Invoked : Run → ℕ → ℕ → Word → Word → Run → Type 0
-Invoked old code data_register code_word data_word new =
-    WritesBoth old (register_key (Special 0)) (tagged code_word) (owner_for (tagged code_word) (old.owners code))
-    31 (tagged data_word) (owner_for (tagged data_word) (old.owners data_register)) new
-
--- dropping: the tag of a place goes, its word stays
-abbrev pub Dropped : Run → ℕ → Run → Type 0
-Dropped old key new = Writes old key (untagged (old.state key)) None new

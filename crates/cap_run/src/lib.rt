@@ -15,7 +15,6 @@ mod ends;
 mod granule_steps;
 mod laws;
 mod lines;
-mod object_lines;
 mod object_steps;
 mod owned;
 mod puts;

@@ -1,18 +1,17 @@
 //! What the steps that only runs have make of a run, where objects are told by their numbers.
 
-ghost use Rattle.std.specs.Prelude.{◌≡◌, ◌≤◌, ◌<◌, ◌^◌};
-ghost use Rattle.cap_log.specs.Lines.{IsTarget};
+ghost use Rattle.std.specs.Prelude.{◌≡◌, ◌<◌, ◌^◌};
 ghost use Rattle.cap_run_log.specs.RunLines.{IsRunPlace, IsRunStepInRange, derive_step, exchange_step};
 ghost use Rattle.cap_run_log.specs.declared.lines.RunPlace.TheVariants.{Granule};
-ghost use Rattle.cap_run_log.specs.declared.lines.RunStep.TheVariants.{Derive, Drop, Exchange, Fill, Invoke};
-ghost use Rattle.cap_run.specs.{Numbers.numbered_run, Run.{IsSource, IsTargetOf}, RunChanges.run_after};
+ghost use Rattle.cap_run_log.specs.declared.lines.RunStep.TheVariants.{Drop, Fill};
+ghost use Rattle.cap_run.specs.{Numbers.numbered_run, RunChanges.run_after};
 ghost use Rattle.cap_run.specs.RunChecks.{Answers, run_end, run_wants, usual_ended};
 
 use crate::ends::{RunEnd, RunRefusal};
 use crate::run_machine::RunMachine;
 use cap_machine::StepEnd;
 use cap_run_log::{DeriveLine, ExchangeLine, RunPlace, RunRegister, RunStep};
-use cap_word::{Cap, Word};
+use cap_word::Word;
 use tagmem::TaggedStore;
 
 // How a step ends in a run that ends so in the machine without objects.
@@ -45,20 +44,20 @@ impl<M: TaggedStore> RunMachine<M> {
         ensures asks { self.new.asks ≡ self.old.asks }
     {
         match *step {
-            RunStep::Derive(target, source, recorded) => self.derived(target, source, recorded),
+            RunStep::Derive(target, source, recorded) => self.derive(target, source, recorded),
             RunStep::Exchange {
                 target,
                 source,
                 special,
                 result: recorded,
                 special_result,
-            } => self.exchanged(target, source, special, recorded, special_result),
+            } => self.exchange(target, source, special, recorded, special_result),
             RunStep::Invoke {
                 code,
                 datum,
                 code_word,
                 datum_word,
-            } => self.invoked(code, datum, code_word, datum_word),
+            } => self.invoke(code, datum, code_word, datum_word),
             RunStep::Drop(place) => self.dropped(place),
             RunStep::Fill(granule, word) => self.filled(granule, word),
             RunStep::Object(register) => self.hand_out(register),
@@ -78,7 +77,7 @@ impl<M: TaggedStore> RunMachine<M> {
             (numbered_run self.new.machine self.new.specials self.new.objects) }
         ensures asks { self.new.asks ≡ self.old.asks }
     {
-        self.exchanged(
+        self.exchange(
             exchange.target,
             exchange.source,
             exchange.special,
@@ -97,67 +96,7 @@ impl<M: TaggedStore> RunMachine<M> {
             (numbered_run self.new.machine self.new.specials self.new.objects) }
         ensures asks { self.new.asks ≡ self.old.asks }
     {
-        self.derived(derive.target, derive.source, derive.result)
-    }
-
-    // A register gets what is derived from another one.
-    #[inline(always)]
-    pub(crate) fn derived(
-        &mut self,
-        target: RunRegister,
-        source: RunRegister,
-        recorded: Cap,
-    ) -> Result<(), RunEnd>
-        requires target { IsTargetOf target }
-        requires source { IsSource source }
-        ensures outcome { let old = numbered_run self.old.machine self.old.specials self.old.objects in
-            let step = Derive target source recorded in
-            Answers (run_end self.old.asks old step) (run_after old step) (run_wants old step) old result
-            (numbered_run self.new.machine self.new.specials self.new.objects) }
-        ensures asks { self.new.asks ≡ self.old.asks }
-    {
-        self.derive(target, source, recorded)
-    }
-
-    // A register and a special one get what is derived from the special one and from a register.
-    #[inline(always)]
-    pub(crate) fn exchanged(
-        &mut self,
-        target: u8,
-        source: u8,
-        number: u8,
-        recorded: Cap,
-        special_recorded: Cap,
-    ) -> Result<(), RunEnd>
-        requires target { IsTarget target }
-        requires source { source ≤ 31 }
-        requires number { number ≤ 31 }
-        ensures outcome { let old = numbered_run self.old.machine self.old.specials self.old.objects in
-            let step = Exchange target source number recorded special_recorded in
-            Answers (run_end self.old.asks old step) (run_after old step) (run_wants old step) old result
-            (numbered_run self.new.machine self.new.specials self.new.objects) }
-        ensures asks { self.new.asks ≡ self.old.asks }
-    {
-        self.exchange(target, source, number, recorded, special_recorded)
-    }
-
-    // A sealed pair is invoked.
-    pub(crate) fn invoked(
-        &mut self,
-        code: u8,
-        datum: u8,
-        code_word: Word,
-        datum_word: Word,
-    ) -> Result<(), RunEnd>
-        requires code { code ≤ 31 }
-        requires datum { datum ≤ 31 }
-        ensures outcome { let old = numbered_run self.old.machine self.old.specials self.old.objects in
-            let step = Invoke code datum code_word datum_word in
-            Answers (run_end self.old.asks old step) (run_after old step) (run_wants old step) old result
-            (numbered_run self.new.machine self.new.specials self.new.objects) }
-        ensures asks { self.new.asks ≡ self.old.asks }
-    {
-        self.invoke(code, datum, code_word, datum_word)
+        self.derive(derive.target, derive.source, derive.result)
     }
 
     // A granule gets a word without a tag.

@@ -8,7 +8,9 @@ ghost use Rattle.cap_objects.specs.{Counts.at_key, Extents.Sets, HandoutsIn.obje
 ghost use Rattle.cap_objects.specs.declared.objects.Object.{Object as ObjectIn};
 ghost use Rattle.cap_run.specs.declared.ends.RunRefusal.TheVariants.{Usual};
 ghost use Rattle.cap_ops.specs.declared.refusal.Refusal.TheVariants.{LimitPassed};
-ghost use Rattle.cap_run.specs.{ObjectSteps.{AgainEnds, CanWiden, ExtentEnds, FreeEnds, FreeNumberEnds, Frees, HandsOut, ObjectEnds, WidenEnds, Widens, ended, is_capability, object_refusal}, Owned.IsWithin};
+ghost use Rattle.cap_run_log.specs.declared.lines.RunStep.TheVariants as steps;
+ghost use Rattle.cap_run.specs.ObjectSteps.{CanWiden, ExtentEnds, Frees, WidenEnds, Widens, ended, is_capability, object_refusal};
+ghost use Rattle.cap_run.specs.{Numbers.numbered_run, Owned.IsWithin, RunChanges.run_after, RunChecks.{Answers, run_end, run_wants}};
 ghost use Rattle.cap_run.specs.{RunOf.{run_of, run_owners, run_state}, RunSteps.{IsUnstepped, step_limit}};
 
 use crate::ends::{RunEnd, RunRefusal};
@@ -151,19 +153,16 @@ impl<M: TaggedStore> RunMachine<M> {
         }
     }
 
-    /// What a register holds is a new object's, in the slot that is the answer. It is refused for the first of these: the
-    /// register has no tag, or is sealed (`NoCapability`); it has an owner (`HasOwner`); its bounds share an address with
-    /// the extent of a live object (`Overlaps`), or with that of a freed object that is held, if those are compared
-    /// (`StillHeld`); there are 4,294,967,295 steps (`LimitPassed`). After an error nothing has changed.
-    pub(crate) fn object(&mut self, register: u8) -> Result<usize, RunEnd>
+    /// `object cN`: what a register holds is a new object's. It is refused for the first of these: the register has no tag,
+    /// or is sealed (`NoCapability`); it has an owner (`HasOwner`); its bounds share an address with the extent of a live
+    /// object (`Overlaps`), or with that of a freed object that is held, if those are compared (`StillHeld`); there are
+    /// 4,294,967,295 steps (`LimitPassed`). After an error nothing has changed.
+    pub(crate) fn hand_out(&mut self, register: u8) -> Result<(), RunEnd>
         requires { IsTarget register }
-        ensures ok { IfOk result (λ slot. HandsOut (run_of self.old.machine self.old.specials self.old.objects) register slot
-            (run_of self.new.machine self.new.specials self.new.objects)) }
-        ensures can { OnOk result (let old = run_of self.old.machine self.old.specials self.old.objects in let w = (old.state register).word.0 in
-            (object_refusal old register ≡ None) × HasRoom self.old.objects.keeps None old.objects (base_of w) (top_of w) × (step_limit old ≡ None)) }
-        ensures end { IfErr result (ObjectEnds (run_of self.old.machine self.old.specials self.old.objects) self.old.objects.keeps register) }
-        ensures err { OnErr result (run_of self.new.machine self.new.specials self.new.objects
-            ≡ run_of self.old.machine self.old.specials self.old.objects) }
+        ensures outcome { let old = numbered_run self.old.machine self.old.specials self.old.objects in
+            let step = steps.Object register in
+            Answers (run_end self.old.asks old step) (run_after old step) (run_wants old step) old result
+            (numbered_run self.new.machine self.new.specials self.new.objects) }
         ensures asks { self.new.asks ≡ self.old.asks }
     {
         if let Some(refusal) = self.object_refusal(register) {
@@ -179,28 +178,23 @@ impl<M: TaggedStore> RunMachine<M> {
                 if u128::from(bounds.base) < bounds.top {
                     self.give(register, slot);
                 }
-                Ok(slot)
+                Ok(())
             }
         }
     }
 
-    /// What a register holds is the live object's with this number as well, as realloc in place: its extent becomes the
-    /// least interval that holds it and the bounds. It is refused for the first of these: `NoCapability` and `HasOwner` as
-    /// for `object`; no object with the number was handed out (`NoObject`); it was freed (`AlreadyFreed`); that interval
-    /// shares an address with the extent of another live object (`Overlaps`), or with that of a freed object that is held,
-    /// if those are compared (`StillHeld`); there are 4,294,967,295 steps (`LimitPassed`). After an error nothing has
-    /// changed.
-    pub(crate) fn object_again(&mut self, register: u8, number: u32) -> Result<usize, RunEnd>
+    /// `object cN K`: what a register holds is the live object's with this number as well, as realloc in place: its
+    /// extent becomes the least interval that holds it and the bounds. It is refused for the first of these:
+    /// `NoCapability` and `HasOwner` as for `object`; no object with the number was handed out (`NoObject`); it was
+    /// freed (`AlreadyFreed`); that interval shares an address with the extent of another live object (`Overlaps`), or
+    /// with that of a freed object that is held, if those are compared (`StillHeld`); there are 4,294,967,295 steps
+    /// (`LimitPassed`). After an error nothing has changed.
+    pub(crate) fn widen(&mut self, register: u8, number: u32) -> Result<(), RunEnd>
         requires { IsTarget register }
-        ensures ok { IfOk result (λ slot. IsLive (objects_of self.old.objects) number slot
-            × Widens (run_of self.old.machine self.old.specials self.old.objects) register slot
-            (run_of self.new.machine self.new.specials self.new.objects)) }
-        ensures can { OnOk result (let old = run_of self.old.machine self.old.specials self.old.objects in
-            (object_refusal old register ≡ None) × (step_limit old ≡ None)) }
-        ensures room { IfOk result (CanWiden (run_of self.old.machine self.old.specials self.old.objects) self.old.objects.keeps register) }
-        ensures end { IfErr result (AgainEnds (run_of self.old.machine self.old.specials self.old.objects) self.old.objects.keeps register number) }
-        ensures err { OnErr result (run_of self.new.machine self.new.specials self.new.objects
-            ≡ run_of self.old.machine self.old.specials self.old.objects) }
+        ensures outcome { let old = numbered_run self.old.machine self.old.specials self.old.objects in
+            let step = steps.Widen register number in
+            Answers (run_end self.old.asks old step) (run_after old step) (run_wants old step) old result
+            (numbered_run self.new.machine self.new.specials self.new.objects) }
         ensures asks { self.new.asks ≡ self.old.asks }
     {
         if let Some(refusal) = self.object_refusal(register) {
@@ -209,10 +203,7 @@ impl<M: TaggedStore> RunMachine<M> {
         match self.objects.live(number) {
             Err(NumberFault::NoObject) => Err(RunEnd::Refused(RunRefusal::NoObject)),
             Err(NumberFault::AlreadyFreed) => Err(RunEnd::Refused(RunRefusal::AlreadyFreed)),
-            Ok(slot) => match self.widen_for(register, slot) {
-                Ok(()) => Ok(slot),
-                Err(end) => Err(end),
-            },
+            Ok(slot) => self.widen_for(register, slot),
         }
     }
 
@@ -275,17 +266,14 @@ impl<M: TaggedStore> RunMachine<M> {
         self.machine.count_step();
     }
 
-    /// The object with a number is freed. It is refused for the first of these: none was handed out (`NoObject`); it was
+    /// `free K`: the object with a number is freed. It is refused for the first of these: none was handed out (`NoObject`); it was
     /// freed (`AlreadyFreed`); there are 4,294,967,295 steps (`LimitPassed`). Then nothing has changed. It takes no
     /// memory.
-    pub(crate) fn free_number(&mut self, number: u32) -> Result<(), RunEnd>
-        ensures ok { OnOk result ((slot : ℕ) × IsLive (objects_of self.old.objects) number slot
-            × Frees (run_of self.old.machine self.old.specials self.old.objects) slot
-            (run_of self.new.machine self.new.specials self.new.objects)) }
-        ensures can { OnOk result (step_limit (run_of self.old.machine self.old.specials self.old.objects) ≡ None) }
-        ensures end { IfErr result (FreeNumberEnds (run_of self.old.machine self.old.specials self.old.objects) number) }
-        ensures err { OnErr result (run_of self.new.machine self.new.specials self.new.objects
-            ≡ run_of self.old.machine self.old.specials self.old.objects) }
+    pub(crate) fn free_by_number(&mut self, number: u32) -> Result<(), RunEnd>
+        ensures outcome { let old = numbered_run self.old.machine self.old.specials self.old.objects in
+            let step = steps.FreeNumber number in
+            Answers (run_end self.old.asks old step) (run_after old step) (run_wants old step) old result
+            (numbered_run self.new.machine self.new.specials self.new.objects) }
         ensures asks { self.new.asks ≡ self.old.asks }
     {
         match self.objects.live(number) {
@@ -301,18 +289,15 @@ impl<M: TaggedStore> RunMachine<M> {
         }
     }
 
-    /// The object that owns a register is freed. It is refused for the first of these: the register has no tag
+    /// `free cN`: the object that owns a register is freed. It is refused for the first of these: the register has no tag
     /// (`NoCapability`); it has no owner (`NoOwner`); the owner was freed (`AlreadyFreed`); there are 4,294,967,295 steps
     /// (`LimitPassed`). Then nothing has changed. A sealed capability frees, too. It takes no memory.
-    pub(crate) fn free(&mut self, register: u8) -> Result<(), RunEnd>
+    pub(crate) fn free_owner(&mut self, register: u8) -> Result<(), RunEnd>
         requires { IsTarget register }
-        ensures ok { OnOk result ((slot : ℕ) × (run_owners self.old.machine self.old.specials register ≡ Some slot)
-            × Frees (run_of self.old.machine self.old.specials self.old.objects) slot
-            (run_of self.new.machine self.new.specials self.new.objects)) }
-        ensures can { OnOk result (step_limit (run_of self.old.machine self.old.specials self.old.objects) ≡ None) }
-        ensures end { IfErr result (FreeEnds (run_of self.old.machine self.old.specials self.old.objects) register) }
-        ensures err { OnErr result (run_of self.new.machine self.new.specials self.new.objects
-            ≡ run_of self.old.machine self.old.specials self.old.objects) }
+        ensures outcome { let old = numbered_run self.old.machine self.old.specials self.old.objects in
+            let step = steps.FreeOwner register in
+            Answers (run_end self.old.asks old step) (run_after old step) (run_wants old step) old result
+            (numbered_run self.new.machine self.new.specials self.new.objects) }
         ensures asks { self.new.asks ≡ self.old.asks }
     {
         let place = RunRegister::General(register);

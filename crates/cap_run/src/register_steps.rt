@@ -1,13 +1,14 @@
 //! Steps of runs on registers: deriving, exchanging, invoking, dropping.
 
-ghost use Rattle.std.specs.Prelude.{◌≡◌, ◌≤◌, ◌<◌, ◌-◌, ◌^◌, None, IsTrue, true, MatchResult, OnErr};
+ghost use Rattle.std.specs.Prelude.{◌≡◌, ◌≤◌, ◌<◌, ◌-◌, ◌^◌, None, IsTrue, true, false};
 ghost use Rattle.cap_ops.specs.Authority.{StaysWithin};
 ghost use Rattle.cap_log.specs.Lines.{IsTarget};
-ghost use Rattle.cap_machine.specs.Parents.{IsSoundCap};
+ghost use Rattle.cap_machine.specs.{Labels.untagged, Parents.IsSoundCap};
 ghost use Rattle.cap_run_log.specs.declared.lines.RunRegister.TheVariants.{General, Special};
-ghost use Rattle.cap_run.specs.{Run.{IsSource, IsTargetOf, register_key}, RunOf.{run_of, run_state}};
-ghost use Rattle.cap_run.specs.RunSteps.{Derived, Dropped, Exchanged, Invoked, IsRefusedAs, derive_end, derived_refusal, exchange_end};
-ghost use Rattle.cap_run.specs.RunSteps.{invoke_end, invoked_refusal, step_limit};
+ghost use Rattle.cap_run_log.specs.declared.lines.RunStep.TheVariants.{Derive, Exchange, Invoke};
+ghost use Rattle.cap_run.specs.{Numbers.numbered_run, Run.{IsSource, IsTargetOf, register_key}, RunOf.{run_of, run_state}};
+ghost use Rattle.cap_run.specs.{RunChanges.{run_after, stepped, with_place}, RunChecks.{Answers, run_end, run_wants}};
+ghost use Rattle.cap_run.specs.RunSteps.{derived_refusal, invoked_refusal, step_limit};
 
 use crate::derivations::is_plainly_derived;
 use crate::ends::{RunEnd, RunRefusal};
@@ -138,12 +139,10 @@ impl<M: TaggedStore> RunMachine<M> {
     ) -> Result<(), RunEnd>
         requires target { IsTargetOf target }
         requires source { IsSource source }
-        ensures outcome { let old = run_of self.old.machine self.old.specials self.old.objects in MatchResult result
-            (λ _. (derive_end old target source recorded ≡ None) × Derived old target source recorded
-            (run_of self.new.machine self.new.specials self.new.objects))
-            (IsRefusedAs (derive_end old target source recorded)) }
-        ensures err { OnErr result (run_of self.new.machine self.new.specials self.new.objects
-            ≡ run_of self.old.machine self.old.specials self.old.objects) }
+        ensures outcome { let old = numbered_run self.old.machine self.old.specials self.old.objects in
+            let step = Derive target source recorded in
+            Answers (run_end self.old.asks old step) (run_after old step) (run_wants old step) old result
+            (numbered_run self.new.machine self.new.specials self.new.objects) }
         ensures asks { self.new.asks ≡ self.old.asks }
     {
         if self.objects.count() == 0
@@ -166,12 +165,10 @@ impl<M: TaggedStore> RunMachine<M> {
     ) -> Result<(), RunEnd>
         requires target { IsTargetOf target }
         requires source { IsSource source }
-        ensures outcome { let old = run_of self.old.machine self.old.specials self.old.objects in MatchResult result
-            (λ _. (derive_end old target source recorded ≡ None) × Derived old target source recorded
-            (run_of self.new.machine self.new.specials self.new.objects))
-            (IsRefusedAs (derive_end old target source recorded)) }
-        ensures err { OnErr result (run_of self.new.machine self.new.specials self.new.objects
-            ≡ run_of self.old.machine self.old.specials self.old.objects) }
+        ensures outcome { let old = numbered_run self.old.machine self.old.specials self.old.objects in
+            let step = Derive target source recorded in
+            Answers (run_end self.old.asks old step) (run_after old step) (run_wants old step) old result
+            (numbered_run self.new.machine self.new.specials self.new.objects) }
         ensures asks { self.new.asks ≡ self.old.asks }
     {
         if let Some(refusal) = self.refusal_of_derived(target, source, recorded) {
@@ -198,12 +195,10 @@ impl<M: TaggedStore> RunMachine<M> {
         requires target { IsTarget target }
         requires source { source ≤ 31 }
         requires number { number ≤ 31 }
-        ensures outcome { let old = run_of self.old.machine self.old.specials self.old.objects in MatchResult result
-            (λ _. (exchange_end old target source number recorded special_recorded ≡ None)
-            × Exchanged old target source number recorded special_recorded (run_of self.new.machine self.new.specials self.new.objects))
-            (IsRefusedAs (exchange_end old target source number recorded special_recorded)) }
-        ensures err { OnErr result (run_of self.new.machine self.new.specials self.new.objects
-            ≡ run_of self.old.machine self.old.specials self.old.objects) }
+        ensures outcome { let old = numbered_run self.old.machine self.old.specials self.old.objects in
+            let step = Exchange target source number recorded special_recorded in
+            Answers (run_end self.old.asks old step) (run_after old step) (run_wants old step) old result
+            (numbered_run self.new.machine self.new.specials self.new.objects) }
         ensures asks { self.new.asks ≡ self.old.asks }
     {
         let general = RunRegister::General(target);
@@ -246,12 +241,10 @@ impl<M: TaggedStore> RunMachine<M> {
         requires target { IsTarget target }
         requires source { source ≤ 31 }
         requires number { number ≤ 31 }
-        ensures outcome { let old = run_of self.old.machine self.old.specials self.old.objects in MatchResult result
-            (λ _. (exchange_end old target source number recorded special_recorded ≡ None)
-            × Exchanged old target source number recorded special_recorded (run_of self.new.machine self.new.specials self.new.objects))
-            (IsRefusedAs (exchange_end old target source number recorded special_recorded)) }
-        ensures err { OnErr result (run_of self.new.machine self.new.specials self.new.objects
-            ≡ run_of self.old.machine self.old.specials self.old.objects) }
+        ensures outcome { let old = numbered_run self.old.machine self.old.specials self.old.objects in
+            let step = Exchange target source number recorded special_recorded in
+            Answers (run_end self.old.asks old step) (run_after old step) (run_wants old step) old result
+            (numbered_run self.new.machine self.new.specials self.new.objects) }
         ensures asks { self.new.asks ≡ self.old.asks }
     {
         let general = RunRegister::General(target);
@@ -287,12 +280,10 @@ impl<M: TaggedStore> RunMachine<M> {
     ) -> Result<(), RunEnd>
         requires code { code ≤ 31 }
         requires data_register { data_register ≤ 31 }
-        ensures outcome { let old = run_of self.old.machine self.old.specials self.old.objects in MatchResult result
-            (λ _. (invoke_end old code data_register code_word data_word ≡ None)
-            × Invoked old code data_register code_word data_word (run_of self.new.machine self.new.specials self.new.objects))
-            (IsRefusedAs (invoke_end old code data_register code_word data_word)) }
-        ensures err { OnErr result (run_of self.new.machine self.new.specials self.new.objects
-            ≡ run_of self.old.machine self.old.specials self.old.objects) }
+        ensures outcome { let old = numbered_run self.old.machine self.old.specials self.old.objects in
+            let step = Invoke code data_register code_word data_word in
+            Answers (run_end self.old.asks old step) (run_after old step) (run_wants old step) old result
+            (numbered_run self.new.machine self.new.specials self.new.objects) }
         ensures asks { self.new.asks ≡ self.old.asks }
     {
         let code = RunRegister::General(code);
@@ -330,11 +321,10 @@ impl<M: TaggedStore> RunMachine<M> {
     /// The tag of a register goes, and its word stays: a revoker's work.
     pub(crate) fn drop_register(&mut self, register: RunRegister) -> Result<(), RunEnd>
         requires { IsTargetOf register }
-        ensures outcome { let old = run_of self.old.machine self.old.specials self.old.objects in MatchResult result
-            (λ _. (step_limit old ≡ None) × Dropped old (register_key register) (run_of self.new.machine self.new.specials self.new.objects))
-            (IsRefusedAs (step_limit old)) }
-        ensures err { OnErr result (run_of self.new.machine self.new.specials self.new.objects
-            ≡ run_of self.old.machine self.old.specials self.old.objects) }
+        ensures outcome { let old = numbered_run self.old.machine self.old.specials self.old.objects in
+            let key = register_key register in
+            Answers (step_limit old) (stepped (with_place old key (untagged (old.state key)) None)) false old result
+            (numbered_run self.new.machine self.new.specials self.new.objects) }
         ensures asks { self.new.asks ≡ self.old.asks }
     {
         if let Some(refusal) = self.step_limit() {
