@@ -26,4 +26,4 @@ returns-else-is_some-clause-outcome g c =
     let n = c.free_slot.new.self in
     free-number-answers s.machine n.machine s.specials n.specials s.objects n.objects s.specials.sized.1 n.specials.sized.1 s.counted n.counted s.asks s.asked
     c.args.number (Ok (tt {0})) (c.in-Ok.slot, c.in-Ok.ensures.ok, c.free_slot.ensures.frees)
-    (sym c.step_limit.ensures.value ∙ none_of c.step_limit.result (search rules)) tt tt
+    (sym c.step_limit.ensures.value ∙ none_of c.step_limit.result (sym c.if-is_some.ensures)) tt tt

@@ -74,7 +74,7 @@ returns-in-Err-clause-outcome g c =
     c.bounds-bounds.ensures.base ∙ ap (λ (k : Cap). base_of k.word.0) c.register.ensures.value in
     let top : c.bounds-bounds.result.top ≡ top_of (old.state c.args.register).word.0 =
     c.bounds-bounds.ensures.top ∙ ap (λ (k : Cap). top_of k.word.0) c.register.ensures.value in
-    let few : step_limit old ≡ None = sym c.step_limit.ensures.value ∙ none_of c.step_limit.result (search rules) in
+    let few : step_limit old ≡ None = sym c.step_limit.ensures.value ∙ none_of c.step_limit.result (sym c.if-is_some.ensures) in
     let is = subst (λ (t : ℕ). RefusesExtent s.objects.keeps None old.objects (base_of (old.state c.args.register).word.0) t c.in-Err.fault) top
     (subst (λ (b : ℕ). RefusesExtent s.objects.keeps None old.objects b c.bounds-bounds.result.top c.in-Err.fault) base c.in-Err.ensures.fault) in
     let n = c.add_object.new.self in
@@ -101,7 +101,7 @@ returns-then-from-bounds-clause-outcome g c =
     let room : HasRoom s.objects.keeps None old.objects (base_of (old.state c.args.register).word.0) (top_of (old.state c.args.register).word.0) =
     subst (λ (t : ℕ). HasRoom s.objects.keeps None old.objects (base_of (old.state c.args.register).word.0) t) top
     (subst (λ (b : ℕ). HasRoom s.objects.keeps None old.objects b c.bounds-bounds.result.top) base c.in-Ok.ensures.room) in
-    let few : step_limit old ≡ None = sym c.step_limit.ensures.value ∙ none_of c.step_limit.result (search rules) in
+    let few : step_limit old ≡ None = sym c.step_limit.ensures.value ∙ none_of c.step_limit.result (sym c.if-is_some.ensures) in
     let n = c.give.new.self in
     hand-out-ok s.machine n.machine s.specials n.specials s.objects n.objects s.specials.sized.1 n.specials.sized.1 s.counted n.counted s.asks s.asked
     c.args.register c.in-Ok.slot
@@ -124,7 +124,7 @@ returns-else-from-bounds-clause-outcome g c =
     let room : HasRoom s.objects.keeps None old.objects (base_of (old.state c.args.register).word.0) (top_of (old.state c.args.register).word.0) =
     subst (λ (t : ℕ). HasRoom s.objects.keeps None old.objects (base_of (old.state c.args.register).word.0) t) top
     (subst (λ (b : ℕ). HasRoom s.objects.keeps None old.objects b c.bounds-bounds.result.top) base c.in-Ok.ensures.room) in
-    let few : step_limit old ≡ None = sym c.step_limit.ensures.value ∙ none_of c.step_limit.result (search rules) in
+    let few : step_limit old ≡ None = sym c.step_limit.ensures.value ∙ none_of c.step_limit.result (sym c.if-is_some.ensures) in
     let n = c.add_object.new.self in
     hand-out-ok s.machine n.machine s.specials n.specials s.objects n.objects s.specials.sized.1 n.specials.sized.1 s.counted n.counted s.asks s.asked
     c.args.register c.in-Ok.slot

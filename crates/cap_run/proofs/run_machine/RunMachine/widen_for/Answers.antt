@@ -50,7 +50,7 @@ returns-in-Err-clause-end g c o there =
     c.bounds-bounds.ensures.base ∙ ap (λ (k : Cap). base_of k.word.0) c.register.ensures.value in
     let top : c.bounds-bounds.result.top ≡ top_of (old.state c.args.register).word.0 =
     c.bounds-bounds.ensures.top ∙ ap (λ (k : Cap). top_of k.word.0) c.register.ensures.value in
-    let few : step_limit old ≡ None = sym c.step_limit.ensures.value ∙ none_of c.step_limit.result (search rules) in
+    let few : step_limit old ≡ None = sym c.step_limit.ensures.value ∙ none_of c.step_limit.result (sym c.if-is_some.ensures) in
     let low = min o.base (base_of (old.state c.args.register).word.0) in
     let is = subst (λ (t : ℕ). RefusesExtent s.objects.keeps (Some c.args.slot) old.objects low (max (top_of_extent o) t) c.in-Err.fault) top
     (subst (λ (b : ℕ). RefusesExtent s.objects.keeps (Some c.args.slot) old.objects (min o.base b) (max (top_of_extent o) c.bounds-bounds.result.top) c.in-Err.fault) base
@@ -119,3 +119,9 @@ returns-else-bounds-from-clause-room g c o there =
     subst (λ (t : ℕ). HasRoom s.objects.keeps (Some c.args.slot) old.objects (min o.base (base_of (old.state c.args.register).word.0)) (max (top_of_extent o) t)) top
     (subst (λ (b : ℕ). HasRoom s.objects.keeps (Some c.args.slot) old.objects (min o.base b) (max (top_of_extent o) c.bounds-bounds.result.top)) base
     (c.in-Ok.ensures.room o there))
+
+pub returns-then-bounds-from-clause-few : goal.returns-then-bounds-from-clause-few
+returns-then-bounds-from-clause-few g c = sym c.step_limit.ensures.value ∙ none_of c.step_limit.result (sym c.if-is_some.ensures)
+
+pub returns-else-bounds-from-clause-few : goal.returns-else-bounds-from-clause-few
+returns-else-bounds-from-clause-few g c = sym c.step_limit.ensures.value ∙ none_of c.step_limit.result (sym c.if-is_some.ensures)
