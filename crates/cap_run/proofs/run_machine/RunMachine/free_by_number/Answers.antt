@@ -1,4 +1,4 @@
-use Rattle.std.proofs.Common.{is_some, Ok, Err, ap, refl, subst, sym, ◌∙◌, rules}
+use Rattle.std.proofs.Common.{is_some, Ok, Err, ap, refl, subst, sym, ◌∙◌}
 use Rattle.cap_ops.specs.declared.refusal.Refusal.TheVariants.{LimitPassed}
 use Rattle.cap_objects.specs.{Handed.HasNoLive, HandoutsIn.objects_of}
 use Rattle.cap_run.specs.declared.ends.{RunEnd.TheVariants.Refused, RunRefusal.TheVariants.{AlreadyFreed, Usual}}

@@ -1,4 +1,4 @@
-use Rattle.std.proofs.Common.{is_some, Ok, Err, ap, refl, sym, ◌∙◌, rules}
+use Rattle.std.proofs.Common.{is_some, Ok, Err, ap, refl, sym, ◌∙◌}
 use Rattle.cap_objects.specs.HandoutsIn.{objects_of}
 use Rattle.cap_ops.specs.declared.refusal.Refusal.TheVariants.{LimitPassed}
 use Rattle.cap_run.specs.{declared.ends.{RunEnd.TheVariants.Refused, RunRefusal.TheVariants.{AlreadyFreed, Usual}}, RunOf.run_of}
