@@ -1,5 +1,4 @@
-use Rattle.std.proofs.Common.{sym, ap, ◌∙◌}
-use Rattle.cap_word.specs.declared.word.Cap.{Cap}
+use Rattle.std.proofs.Common.{sym, ◌∙◌}
 use Rattle.cap_machine.specs.States.{tagged}
 use Rattle.cap_run.specs.{Numbers.numbered_run, Run.first_special, RunOf.{run_owners, run_state}, RunSteps.{invoked_refusal, step_limit}}
 use Rattle.cap_run.proofs.{EndLemmas.neither, RunNumberLemmas.both-numbered}
@@ -12,10 +11,7 @@ returns-clause-outcome g c =
     let state = run_state s.machine s.specials in
     let owners = run_owners s.machine s.specials in (
       neither (invoked_refusal (state c.args.code) (state c.args.data_register) c.args.code_word c.args.data_word)
-          (step_limit (numbered_run s.machine s.specials s.objects))
-          (ap (λ (k : Cap). invoked_refusal k (state c.args.data_register) c.args.code_word c.args.data_word) (sym c.register.ensures.value)
-          ∙ ap (λ (k : Cap). invoked_refusal c.register.result k c.args.code_word c.args.data_word) (sym c.register-2.ensures.value)
-          ∙ sym c.invoked_refusal.ensures.value ∙ c.in_default.is) (sym c.step_limit.ensures.value ∙ c.in_default-step_limit.is),
+          (step_limit (numbered_run s.machine s.specials s.objects)) (cc) (sym c.step_limit.ensures.value ∙ c.in_default-step_limit.is),
       both-numbered s.machine n.machine s.specials n.specials s.objects n.objects n.specials.sized.1 n.counted s.objects.kept.numbered n.objects.kept.numbered
           first_special 31 (owners c.args.code) (owners c.args.data_register) (tagged c.args.code_word) (tagged c.args.data_word) c.write_both.ensures.writes,
     )
