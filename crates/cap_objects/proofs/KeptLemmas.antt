@@ -4,7 +4,7 @@ use Rattle.std.proofs.Common.{option_and_then, if◌then◌else◌, refl, sym, a
 use Rattle.std.proofs.lemmas.{Bool.{cases_Bool, cases_lt, cond-true, cond-false, false≢true, Decides.eqb_tells, and_parts}, Option.{none-some, same_Some}}
 use Rattle.cap_objects.specs.{declared.objects.Object.Object, Extents.{MeetsNone, Objects, Sets, is_compared}}
 use Rattle.cap_objects.specs.{Handed.{AreKept, freed_in, with_held}, Indexes.{Rekeys, base_key, number_key}}
-use Rattle.cap_objects.proofs.{IndexLemmas.{index-put, rekey-add, rekey-gone, rekey-same}}
+use Rattle.cap_objects.proofs.{IndexLemmas.{index-put, rekey-gone, rekey-same}}
 
 pub of_ok : {A E P : Type 0} (r : Result A E) → is_err r ≡ false → OnOk r P → P
 of_ok (Ok x) is p = p
@@ -281,10 +281,9 @@ module _ (keeps : Bool) (count : ℕ) (objects : Objects) (numbers bases : ℕ �
   -- one more object
   pub kept-added : (slot : ℕ) (after : Objects) (o : Object) (numbers_after bases_after : ℕ → Option ℕ) → objects slot ≡ None
       → Sets objects slot (Some o) after → o.number ≡ count + 1 → o.freed ≡ false → (o.long ≡ true → o.base ≤ o.last)
-      → (o.long ≡ true → MeetsNone keeps None false objects o.base o.last) → Sets numbers o.number (Some slot) numbers_after
-      → (o.long ≡ true → Sets bases o.base (Some slot) bases_after) → (o.long ≡ false → (k : ℕ) → bases_after k ≡ bases k)
-      → AreKept keeps (count + 1) after numbers_after bases_after
-  kept-added slot after o numbers_after bases_after free set number live long room numbers_set bases_set bases_same =
+      → (o.long ≡ true → MeetsNone keeps None false objects o.base o.last) → Rekeys numbers slot None (Some o.number) numbers_after
+      → Rekeys bases slot None (if o.long then Some o.base else None) bases_after → AreKept keeps (count + 1) after numbers_after bases_after
+  kept-added slot after o numbers_after bases_after free set number live long room numbers_rekeyed bases_rekeyed =
       kept-put (count + 1) slot after (Some o) set (omega arith)
       (λ p same. subst (Fits (count + 1) slot after (Some o) set (omega arith)) (same_Some o p same) (record {
         is_long = long;
@@ -293,16 +292,8 @@ module _ (keeps : Bool) (count : ℕ) (objects : Objects) (numbers bases : ℕ �
         is_apart = λ other b other_is differ co cb. met_none other b other_is (λ e. none-some other e) cb o.base o.last (room (compared_long keeps o co));
       }))
       numbers_after bases_after
-      (subst (λ (was : Option ℕ). Rekeys numbers slot was (Some o.number) numbers_after) (sym (ap (option_and_then number_key) free))
-      (rekey-add numbers numbers_after slot o.number numbers_set))
+      (subst (λ (was : Option ℕ). Rekeys numbers slot was (Some o.number) numbers_after) (sym (ap (option_and_then number_key) free)) numbers_rekeyed)
       (λ k is. inr (unnumbered k (let e = same_Some o.number k is in omega (arith, number))))
       (subst (λ (was : Option ℕ). Rekeys bases slot was (base_key keeps o) bases_after) (sym (ap (option_and_then (base_key keeps)) free))
-      (elim (cases_Bool o.long) [
-        | inl is_long ↦
-            subst (λ (now : Option ℕ). Rekeys bases slot None now bases_after) (sym (base_of keeps o (compared_live keeps o.long o.freed live ∙ is_long)))
-            (rekey-add bases bases_after slot o.base (bases_set is_long))
-        | inr short ↦
-            subst (λ (now : Option ℕ). Rekeys bases slot None now bases_after)
-            (sym (cond-false (is_compared keeps o) (Some o.base) None (compared_live keeps o.long o.freed live ∙ short)))
-            (bases_same short)
-      ]))
+      (subst (λ (b : Bool). Rekeys bases slot None (if b then Some o.base else None) bases_after) (sym (compared_live keeps o.long o.freed live))
+      bases_rekeyed))

@@ -53,9 +53,9 @@ pub(crate) fn insert_keys(
     slot: u32,
 ) -> Result<(), AllocError>
     requires new_number { tree.get nat_cmp numbers.old object.number ≡ None }
-    ensures ok { OnOk result (Sets (tree.get nat_cmp numbers.old) object.number (Some slot) (tree.get nat_cmp numbers.new)) }
-    ensures ok_base { OnOk result (object.long ≡ true → Sets (tree.get nat_cmp bases.old) object.base (Some slot) (tree.get nat_cmp bases.new)) }
-    ensures ok_short { OnOk result (object.long ≡ false → (key : ℕ) → tree.get nat_cmp bases.new key ≡ tree.get nat_cmp bases.old key) }
+    ensures ok { OnOk result (Rekeys (tree.get nat_cmp numbers.old) slot None (Some object.number) (tree.get nat_cmp numbers.new)) }
+    ensures ok_base { OnOk result (Rekeys (tree.get nat_cmp bases.old) slot None (if object.long then Some object.base else None)
+        (tree.get nat_cmp bases.new)) }
     ensures err { OnErr result ((key : ℕ) → tree.get nat_cmp numbers.new key ≡ tree.get nat_cmp numbers.old key) }
     ensures err_base { OnErr result ((key : ℕ) → tree.get nat_cmp bases.new key ≡ tree.get nat_cmp bases.old key) }
 {
