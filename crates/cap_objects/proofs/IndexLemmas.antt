@@ -5,18 +5,6 @@ use Rattle.std.proofs.lemmas.{Bool.{cases_Bool, cond-true, cond-false, false≢t
 use Rattle.cap_objects.specs.{declared.objects.Object.Object, Counts.is_owner, Extents.{Objects, Sets}, Indexes.{IsIndex, Rekeys}}
 use Rattle.cap_objects.proofs.KeyLemmas.{is_owner-self, is_owner-true}
 
-pub rekey-add : (index new : ℕ → Option ℕ) (slot key : ℕ) → Sets index key (Some slot) new → Rekeys index slot None (Some key) new
-rekey-add index new slot key set k = elim (eqb_tells k key) [
-  | inl same ↦ ap new same.1 ∙ set.0 ∙ sym (cond-true (is_owner k (Some key)) (Some slot) (index k) same.0)
-  | inr unlike ↦ set.1 k unlike.1 ∙ sym (cond-false (is_owner k (Some key)) (Some slot) (index k) unlike.0)
-]
-
-pub rekey-gone : (index new : ℕ → Option ℕ) (slot key : ℕ) → Sets index key None new → Rekeys index slot (Some key) None new
-rekey-gone index new slot key set k = elim (eqb_tells k key) [
-  | inl same ↦ ap new same.1 ∙ set.0 ∙ sym (cond-true (is_owner k (Some key)) None (index k) same.0)
-  | inr unlike ↦ set.1 k unlike.1 ∙ sym (cond-false (is_owner k (Some key)) None (index k) unlike.0)
-]
-
 module _ (key : Object → Option ℕ) (objects : Objects) (index : ℕ → Option ℕ) (known : IsIndex key objects index) (slot : ℕ) where
   pub rekey-same : (now : Option ℕ) → option_and_then key (objects slot) ≡ now → Rekeys index slot (option_and_then key (objects slot)) now index
   rekey-same now same k = elim (cases_Bool (is_owner k now)) [

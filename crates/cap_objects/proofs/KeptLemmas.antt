@@ -3,8 +3,8 @@ use Rattle.std.proofs.Common.{◌≡◌, ◌≢◌, ◌<◌, ◌≤◌, ◌+◌,
 use Rattle.std.proofs.Common.{option_and_then, if◌then◌else◌, refl, sym, ap, subst, ◌∙◌, arith, Result, Ok, Err, OnOk, is_err}
 use Rattle.std.proofs.lemmas.{Bool.{cases_Bool, cases_lt, cond-true, cond-false, false≢true, Decides.eqb_tells, and_parts}, Option.{none-some, same_Some}}
 use Rattle.cap_objects.specs.{declared.objects.Object.Object, Extents.{MeetsNone, Objects, Sets, is_compared}}
-use Rattle.cap_objects.specs.{Handed.{AreKept, freed_in, with_held}, Indexes.{Rekeys, base_key, number_key}}
-use Rattle.cap_objects.proofs.{IndexLemmas.{index-put, rekey-add, rekey-gone, rekey-same}}
+use Rattle.cap_objects.specs.{Handed.{AreKept, freed_in, with_held}, Indexes.{Drops, Rekeys, base_key, number_key}}
+use Rattle.cap_objects.proofs.{IndexLemmas.{index-put, rekey-same}}
 
 pub of_ok : {A E P : Type 0} (r : Result A E) → is_err r ≡ false → OnOk r P → P
 of_ok (Ok x) is p = p
@@ -216,28 +216,20 @@ module _ (keeps : Bool) (count : ℕ) (objects : Objects) (numbers bases : ℕ �
         (rekey-same (base_key keeps) objects bases known.based slot (base_key keeps x) was_base)
 
     -- it is gone
-    pub kept-gone : (numbers_after bases_after : ℕ → Option ℕ) → Sets objects slot None after → Sets numbers x.number None numbers_after
-        → (is_compared keeps x ≡ true → Sets bases x.base None bases_after)
-        → (is_compared keeps x ≡ false → (k : ℕ) → bases_after k ≡ bases k) → AreKept keeps count after numbers_after bases_after
-    kept-gone numbers_after bases_after set numbers_set bases_set bases_same =
+    pub kept-gone : (numbers_after bases_after : ℕ → Option ℕ) → Sets objects slot None after → Drops numbers (Some x.number) numbers_after
+        → Drops bases (base_key keeps x) bases_after → AreKept keeps count after numbers_after bases_after
+    kept-gone numbers_after bases_after set numbers_dropped bases_dropped =
         kept-put count slot after None set (omega arith) (λ p is. absurd (none-some p is)) numbers_after bases_after
-        (subst (λ (was : Option ℕ). Rekeys numbers slot was None numbers_after) (sym was_number) (rekey-gone numbers numbers_after slot x.number numbers_set))
+        (subst (λ (was : Option ℕ). Rekeys numbers slot was None numbers_after) (sym was_number) numbers_dropped)
         (λ k is. absurd (none-some k is))
-        (elim (cases_Bool (is_compared keeps x)) [
-          | inl is ↦
-              subst (λ (was : Option ℕ). Rekeys bases slot was None bases_after) (sym (was_base ∙ base_of keeps x is))
-              (rekey-gone bases bases_after slot x.base (bases_set is))
-          | inr not_it ↦
-              subst (λ (was : Option ℕ). Rekeys bases slot was None bases_after) (sym (was_base ∙ cond-false (is_compared keeps x) (Some x.base) None not_it))
-              (bases_same not_it)
-        ])
+        (subst (λ (was : Option ℕ). Rekeys bases slot was None bases_after) (sym was_base) bases_dropped)
 
     -- it was freed
     pub kept-marked : (step : ℕ) (bases_after : ℕ → Option ℕ) → x.freed ≡ false → Sets objects slot (Some (freed_in step x)) after
-        → ((x.long && not keeps) ≡ true → Sets bases x.base None bases_after)
-        → ((x.long && not keeps) ≡ false → (k : ℕ) → bases_after k ≡ bases k) → AreKept keeps count after numbers bases_after
-    kept-marked step bases_after live set bases_set bases_same =
+        → Drops bases (if x.long && not keeps then Some x.base else None) bases_after → AreKept keeps count after numbers bases_after
+    kept-marked step bases_after live set dropped =
         let o = freed_in step x in
+        let drops = λ (b : Bool). Drops bases (if b then Some x.base else None) bases_after in
         kept-put count slot after (Some o) set (omega arith)
         (λ p is. subst (Fits count slot after (Some o) set (omega arith)) (same_Some o p is)
         (fits_alike (Some o) set o refl refl refl refl (was_compared keeps x.long x.freed live)))
@@ -249,8 +241,8 @@ module _ (keeps : Bool) (count : ℕ) (objects : Objects) (numbers bases : ℕ �
               subst (λ (was : Option ℕ). Rekeys bases slot was (base_key keeps o) bases_after) (sym (was_base ∙ base_of keeps x (went keeps x.long x.freed goes live)))
               (subst (λ (now : Option ℕ). Rekeys bases slot (Some x.base) now bases_after)
               (sym (cond-false (is_compared keeps o) (Some x.base) None (gone keeps x.long goes)))
-              (rekey-gone bases bases_after slot x.base (bases_set goes)))
-          | inr stays ↦ λ k. bases_same stays k ∙ rekey-same (base_key keeps) objects bases known.based slot (base_key keeps o)
+              (subst drops goes dropped))
+          | inr stays ↦ λ k. subst drops stays dropped k ∙ rekey-same (base_key keeps) objects bases known.based slot (base_key keeps o)
               (was_base ∙ ap (λ (b : Bool). if b then Some x.base else None) (stayed keeps x.long x.freed stays live)) k
         ])
 
@@ -281,10 +273,9 @@ module _ (keeps : Bool) (count : ℕ) (objects : Objects) (numbers bases : ℕ �
   -- one more object
   pub kept-added : (slot : ℕ) (after : Objects) (o : Object) (numbers_after bases_after : ℕ → Option ℕ) → objects slot ≡ None
       → Sets objects slot (Some o) after → o.number ≡ count + 1 → o.freed ≡ false → (o.long ≡ true → o.base ≤ o.last)
-      → (o.long ≡ true → MeetsNone keeps None false objects o.base o.last) → Sets numbers o.number (Some slot) numbers_after
-      → (o.long ≡ true → Sets bases o.base (Some slot) bases_after) → (o.long ≡ false → (k : ℕ) → bases_after k ≡ bases k)
-      → AreKept keeps (count + 1) after numbers_after bases_after
-  kept-added slot after o numbers_after bases_after free set number live long room numbers_set bases_set bases_same =
+      → (o.long ≡ true → MeetsNone keeps None false objects o.base o.last) → Rekeys numbers slot None (Some o.number) numbers_after
+      → Rekeys bases slot None (if o.long then Some o.base else None) bases_after → AreKept keeps (count + 1) after numbers_after bases_after
+  kept-added slot after o numbers_after bases_after free set number live long room numbers_rekeyed bases_rekeyed =
       kept-put (count + 1) slot after (Some o) set (omega arith)
       (λ p same. subst (Fits (count + 1) slot after (Some o) set (omega arith)) (same_Some o p same) (record {
         is_long = long;
@@ -293,16 +284,8 @@ module _ (keeps : Bool) (count : ℕ) (objects : Objects) (numbers bases : ℕ �
         is_apart = λ other b other_is differ co cb. met_none other b other_is (λ e. none-some other e) cb o.base o.last (room (compared_long keeps o co));
       }))
       numbers_after bases_after
-      (subst (λ (was : Option ℕ). Rekeys numbers slot was (Some o.number) numbers_after) (sym (ap (option_and_then number_key) free))
-      (rekey-add numbers numbers_after slot o.number numbers_set))
+      (subst (λ (was : Option ℕ). Rekeys numbers slot was (Some o.number) numbers_after) (sym (ap (option_and_then number_key) free)) numbers_rekeyed)
       (λ k is. inr (unnumbered k (let e = same_Some o.number k is in omega (arith, number))))
       (subst (λ (was : Option ℕ). Rekeys bases slot was (base_key keeps o) bases_after) (sym (ap (option_and_then (base_key keeps)) free))
-      (elim (cases_Bool o.long) [
-        | inl is_long ↦
-            subst (λ (now : Option ℕ). Rekeys bases slot None now bases_after) (sym (base_of keeps o (compared_live keeps o.long o.freed live ∙ is_long)))
-            (rekey-add bases bases_after slot o.base (bases_set is_long))
-        | inr short ↦
-            subst (λ (now : Option ℕ). Rekeys bases slot None now bases_after)
-            (sym (cond-false (is_compared keeps o) (Some o.base) None (compared_live keeps o.long o.freed live ∙ short)))
-            (bases_same short)
-      ]))
+      (subst (λ (b : Bool). Rekeys bases slot None (if b then Some o.base else None) bases_after) (sym (compared_live keeps o.long o.freed live))
+      bases_rekeyed))

@@ -1,6 +1,6 @@
 -- Looking for the extents that share an address with an interval.
 use Rattle.std.proofs.Common.{◌≡◌, ◌≢◌, ◌<◌, ◌≤◌, ◌+◌, ◌⊎◌, ◌&&◌, not, ℕ, Bool, true, false, Some, None, Option, inl, inr}
-use Rattle.std.proofs.Common.{IsSome, IsSomeAnd, refl, sym, ap, subst, ◌∙◌, arith}
+use Rattle.std.proofs.Common.{IsSome, refl, sym, ap, subst, ◌∙◌, arith}
 use Rattle.std.proofs.lemmas.{Bool.{cases_lt, false≢true, Decides.eqb_tells, and_parts}, Option.{none-some, same_Some}}
 use Rattle.cap_objects.specs.{declared.objects.Object.Object, Counts.is_owner, Extents.{IsAsked, IsFirstMet, Meets, MeetsNone, Objects, is_compared}}
 use Rattle.cap_objects.specs.{Handed.{AreKept, IsLive, IsNextNumber}, Indexes.{IsFirstFrom, IsFirstWithin, IsLastAtOrBelow}}
@@ -174,7 +174,3 @@ module _ (keeps : Bool) (count : ℕ) (objects : Objects) (numbers bases : ℕ �
         let at = number_at keeps count objects numbers bases known slot l.object l.there in
         false≢true (sym l.live ∙ freed slot l.object (sym is ∙ ap numbers (sym l.number) ∙ at) l.there),
   )
-
-pub some_and : {A : Type 0} (o : Option A) (P : A → Type 0) → IsSomeAnd o P → (x : A) × (o ≡ Some x) × P x
-some_and None P h = absurd h
-some_and (Some x) P h = (x, refl, h)

@@ -1,5 +1,5 @@
 -- Present objects by their slots, and whose extents new ones are compared with (this profile's own).
-use Rattle.std.specs.Prelude.{◌≡◌, ◌≢◌, ◌&&◌, ◌||◌, ℕ, ◌<◌, ◌≤◌, Bool, true, false, not, nat_lt, Option, Some}
+use Rattle.std.specs.Prelude.{◌≡◌, ◌≢◌, ◌&&◌, ◌||◌, ℕ, ◌≤◌, Bool, true, false, not, nat_lt, Option, Some}
 use Rattle.cap_objects.specs.declared.objects.Object.{Object}
 
 -- an object is live, or a place holds it
@@ -22,12 +22,6 @@ Sets old key entry new = (new key ≡ entry) × ((other : ℕ) → other ≢ key
 -- an extent of an address ends at its last one
 abbrev pub AreLong : Objects → Type 0
 AreLong objects = (slot : ℕ) (object : Object) → objects slot ≡ Some object → object.long ≡ true → object.base ≤ object.last
-
--- the extents that are compared share no address
-abbrev pub AreApart : Bool → Objects → Type 0
-AreApart keeps objects =
-    (one two : ℕ) (a b : Object) → objects one ≡ Some a → objects two ≡ Some b → one ≢ two → is_compared keeps a ≡ true → is_compared keeps b ≡ true
-    → a.base ≤ b.base → a.last < b.base
 
 -- an extent shares an address with the addresses from a base to a last one
 abbrev pub Meets : ℕ → ℕ → Object → Type 0

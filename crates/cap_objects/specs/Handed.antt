@@ -3,7 +3,7 @@ use Rattle.std.specs.Prelude.{◌≡◌, ◌≢◌, ◌⊎◌, ℕ, ◌-◌, ◌
 use Rattle.std.specs.Prelude.{List, codes}
 use Rattle.cap_objects.specs.declared.{objects.Object.Object, handouts.HandOutFault.{HandOutFault, TheVariants.{Overlaps, StillHeld, NoMemory}}}
 use Rattle.cap_objects.specs.declared.handouts.NumberFault.{NumberFault, TheVariants.{NoObject, AlreadyFreed}}
-use Rattle.cap_objects.specs.Extents.{AreApart, AreLong, IsFirstMet, MeetsNone, Objects, Sets, is_present}
+use Rattle.cap_objects.specs.Extents.{AreLong, IsFirstMet, MeetsNone, Objects, Sets, is_compared, is_present}
 use Rattle.cap_objects.specs.{Indexes.{IsIndex, base_key, kept, number_key}, Objects.{Share, top_of_extent}}
 
 -- the last address below a top
@@ -97,7 +97,8 @@ pub record AreKept (keeps : Bool) (count : ℕ) (objects : Objects) (numbers bas
   pub numbered : IsIndex number_key objects numbers
   pub based : IsIndex (base_key keeps) objects bases
   pub long : AreLong objects
-  pub apart : AreApart keeps objects
+  pub apart : (one two : ℕ) (a b : Object) → objects one ≡ Some a → objects two ≡ Some b → one ≢ two → is_compared keeps a ≡ true
+      → is_compared keeps b ≡ true → a.base ≤ b.base → a.last < b.base
   pub some : (slot : ℕ) (object : Object) → objects slot ≡ Some object → 0 < object.number
   pub few : (slot : ℕ) (object : Object) → objects slot ≡ Some object → object.number ≤ count
 

@@ -27,6 +27,10 @@ abbrev pub Rekeys : (ℕ → Option ℕ) → ℕ → Option ℕ → Option ℕ �
 Rekeys old slot was now new =
     (k : ℕ) → new k ≡ (if is_owner k now then Some slot else (if is_owner k was then None else old k))
 
+-- an index without a key
+abbrev pub Drops : (ℕ → Option ℕ) → Option ℕ → (ℕ → Option ℕ) → Type 0
+Drops old key new = (k : ℕ) → new k ≡ (if is_owner k key then None else old k)
+
 -- the entry with the last key at or below a number
 abbrev pub IsLastAtOrBelow : (ℕ → Option ℕ) → ℕ → Option (ℕ × ℕ) → Type 0
 IsLastAtOrBelow at number None = (key : ℕ) → key ≤ number → at key ≡ None

@@ -2,7 +2,7 @@
 
 ghost use Rattle.std.specs.{Prelude.{◌≡◌, ◌&&◌, not, ℕ, Some, None, true, false, if◌then◌else◌, OnOk, OnErr}, Ordering.nat_cmp};
 ghost use Rattle.std.specs.BTreeMap as tree;
-ghost use Rattle.cap_objects.specs.{Extents.{Sets, is_compared}, Indexes.{IsFirstFrom, IsFirstWithin, IsLastAtOrBelow, Rekeys}};
+ghost use Rattle.cap_objects.specs.{Extents.is_compared, Indexes.{Drops, IsFirstFrom, IsFirstWithin, IsLastAtOrBelow, Rekeys, base_key}};
 
 use crate::objects::{Object, is_compared};
 use std::alloc::AllocError;
@@ -53,9 +53,9 @@ pub(crate) fn insert_keys(
     slot: u32,
 ) -> Result<(), AllocError>
     requires new_number { tree.get nat_cmp numbers.old object.number ≡ None }
-    ensures ok { OnOk result (Sets (tree.get nat_cmp numbers.old) object.number (Some slot) (tree.get nat_cmp numbers.new)) }
-    ensures ok_base { OnOk result (object.long ≡ true → Sets (tree.get nat_cmp bases.old) object.base (Some slot) (tree.get nat_cmp bases.new)) }
-    ensures ok_short { OnOk result (object.long ≡ false → (key : ℕ) → tree.get nat_cmp bases.new key ≡ tree.get nat_cmp bases.old key) }
+    ensures ok { OnOk result (Rekeys (tree.get nat_cmp numbers.old) slot None (Some object.number) (tree.get nat_cmp numbers.new)) }
+    ensures ok_base { OnOk result (Rekeys (tree.get nat_cmp bases.old) slot None (if object.long then Some object.base else None)
+        (tree.get nat_cmp bases.new)) }
     ensures err { OnErr result ((key : ℕ) → tree.get nat_cmp numbers.new key ≡ tree.get nat_cmp numbers.old key) }
     ensures err_base { OnErr result ((key : ℕ) → tree.get nat_cmp bases.new key ≡ tree.get nat_cmp bases.old key) }
 {
@@ -99,9 +99,8 @@ pub(crate) fn remove_keys(
     object: Object,
     keeps: bool,
 )
-    ensures number { Sets (tree.get nat_cmp numbers.old) object.number None (tree.get nat_cmp numbers.new) }
-    ensures base { is_compared keeps object ≡ true → Sets (tree.get nat_cmp bases.old) object.base None (tree.get nat_cmp bases.new) }
-    ensures short { is_compared keeps object ≡ false → (key : ℕ) → tree.get nat_cmp bases.new key ≡ tree.get nat_cmp bases.old key }
+    ensures number { Drops (tree.get nat_cmp numbers.old) (Some object.number) (tree.get nat_cmp numbers.new) }
+    ensures base { Drops (tree.get nat_cmp bases.old) (base_key keeps object) (tree.get nat_cmp bases.new) }
 {
     numbers.remove(&object.number);
     if is_compared(object, keeps) {
@@ -111,8 +110,7 @@ pub(crate) fn remove_keys(
 
 /// Takes the base of an object that was freed out of the index, unless extents of freed objects are compared.
 pub(crate) fn remove_freed(bases: &mut BTreeMap<u64, u32>, object: Object, keeps: bool)
-    ensures goes { (object.long && not keeps) ≡ true → Sets (tree.get nat_cmp bases.old) object.base None (tree.get nat_cmp bases.new) }
-    ensures stays { (object.long && not keeps) ≡ false → (key : ℕ) → tree.get nat_cmp bases.new key ≡ tree.get nat_cmp bases.old key }
+    ensures { Drops (tree.get nat_cmp bases.old) (if object.long && not keeps then Some object.base else None) (tree.get nat_cmp bases.new) }
 {
     if object.long && !keeps {
         bases.remove(&object.base);

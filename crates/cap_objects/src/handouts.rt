@@ -4,10 +4,9 @@ ghost use Rattle.std.specs.Prelude.{◌≡◌, ◌≢◌, ◌<◌, ◌≤◌, �
 ghost use Rattle.std.specs.Prelude.{OnErr, IfOk, IfErr, IfSome, IfNone, MatchOption};
 ghost use Rattle.std.specs.Ordering.{nat_cmp};
 ghost use Rattle.std.specs.BTreeMap as tree;
-ghost use Rattle.cap_objects.specs.Extents.{IsFirstMet, MeetsNone, Sets, is_compared, is_present};
+ghost use Rattle.cap_objects.specs.Extents.{IsFirstMet, MeetsNone, Sets, is_compared};
 ghost use Rattle.cap_objects.specs.Handed.{AddsObject, AreKept, ArePresent, HasNoLive, HasRoom, IsLive, IsNextNumber, RefusesExtent};
-ghost use Rattle.cap_objects.specs.Handed.{freed_in, hand_out_fault_text, handed_out, held_of, last_below, widened};
-ghost use Rattle.cap_objects.specs.Handed.{with_held};
+ghost use Rattle.cap_objects.specs.Handed.{freed_in, hand_out_fault_text, handed_out, widened, with_held};
 ghost use Rattle.cap_objects.specs.{Counts.is_owner, Indexes.kept, Objects.top_of_extent, SlotsIn.present_in};
 ghost use Rattle.cap_objects.specs.declared.objects.Object.{Object as ObjectIn};
 ghost use Rattle.cap_objects.specs.declared.handouts.HandOutFault.TheVariants.{NoMemory};
@@ -255,10 +254,8 @@ impl Handouts {
         requires long { object.long ≡ true → object.base ≤ object.last }
         requires room { object.long ≡ true → MeetsNone self.old.keeps None false (objects_of self.old) object.base object.last }
         ensures ok { IfOk result (λ slot. AddsObject (objects_of self.old) slot object (objects_of self.new)) }
-        ensures low { IfOk result (λ slot. slot < 2 ^ 32) }
-        ensures count { OnOk result (self.new.count ≡ self.old.count + 1) }
-        ensures err { OnErr result ((slot : ℕ) → objects_of self.new slot ≡ objects_of self.old slot) }
-        ensures err_count { OnErr result (self.new.count ≡ self.old.count) }
+        ensures rest { IfOk result (λ slot. (slot < 2 ^ 32) × (self.new.count ≡ self.old.count + 1)) }
+        ensures err { OnErr result (((slot : ℕ) → objects_of self.new slot ≡ objects_of self.old slot) × (self.new.count ≡ self.old.count)) }
         ensures keeps { self.new.keeps ≡ self.old.keeps }
     {
         let slot = match self.slots.insert(object) {
@@ -351,7 +348,8 @@ impl Handouts {
         object.freed = true;
         object.freed_at = step;
         if object.is_present() {
-            self.mark(slot, object);
+            self.slots.set(slot, object);
+            remove_freed(&mut self.bases, object, self.keeps);
         } else {
             self.let_go(slot);
         }
@@ -370,17 +368,6 @@ impl Handouts {
         self.slots.remove(slot);
     }
 
-    // The object in a slot was freed, and is held.
-    fn mark(&mut self, slot: usize, object: Object)
-        requires was { IsSomeAnd (objects_of self.old slot) (λ old. (object ≡ freed_in object.freed_at old) × (old.freed ≡ false)) }
-        requires present { is_present object ≡ true }
-        ensures set { Sets (objects_of self.old) slot (Some object) (objects_of self.new) }
-        ensures rest { (self.new.count ≡ self.old.count) × (self.new.keeps ≡ self.old.keeps) }
-    {
-        self.slots.set(slot, object);
-        remove_freed(&mut self.bases, object, self.keeps);
-    }
-
     // The object in a slot, which is live, gets another extent of an address or more.
     fn move_base(&mut self, slot: usize, object: Object, wider: Object) -> Result<(), AllocError>
         requires was { (objects_of self.old slot ≡ Some object) × (object.freed ≡ false) }
@@ -390,7 +377,7 @@ impl Handouts {
         ensures err { OnErr result ((slot : ℕ) → objects_of self.new slot ≡ objects_of self.old slot) }
         ensures rest { (self.new.count ≡ self.old.count) × (self.new.keeps ≡ self.old.keeps) }
     {
-        let Some(narrow) = slot_by(&self.numbers, object.number) else {
+        let Ok(narrow) = u32::try_from(slot) else {
             return Err(AllocError);
         };
         if replace_key(&mut self.bases, narrow, object, wider.base).is_err() {

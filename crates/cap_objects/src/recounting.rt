@@ -1,6 +1,6 @@
 //! Counting a place from one owner to another.
 
-ghost use Rattle.std.specs.Prelude.{◌≡◌, ◌<◌, ◌≤◌, ◌+◌, ◌^◌, ℕ, Option, Some, true};
+ghost use Rattle.std.specs.Prelude.{◌≡◌, ◌<◌, ◌≤◌, ◌+◌, ◌^◌, ℕ, Option, Some};
 ghost use Rattle.cap_objects.specs.{Counts.{Moves, one_for}, Handed.{IsRecounted, held_of}, HandoutsIn.objects_of};
 
 use crate::handouts::Handouts;

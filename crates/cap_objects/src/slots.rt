@@ -1,7 +1,7 @@
 //! Slots of present objects, which are used again once their objects are gone.
 
 ghost use Rattle.std.specs.Prelude.{◌≡◌, ℕ, Some, None, true, false, IsSome, OnErr, IfOk, is_some, slice_get};
-ghost use Rattle.cap_objects.specs.{declared.objects.Object.{Object as ObjectIn}, Extents.{Sets, is_present}};
+ghost use Rattle.cap_objects.specs.{declared.objects.Object.{Object as ObjectIn}, Extents.{Sets, is_present}, Handed.AddsObject};
 
 use crate::objects::Object;
 use std::alloc::{AllocError, Global};
@@ -64,8 +64,7 @@ impl Slots {
     /// Puts an object in a free slot, or in a new one if there is none.
     pub(crate) fn insert(&mut self, object: Object) -> Result<u32, AllocError>
         requires { is_present object ≡ true }
-        ensures free { IfOk result (λ slot. present_in self.old slot ≡ None) }
-        ensures ok { IfOk result (λ slot. Sets (present_in self.old) slot (Some object) (present_in self.new)) }
+        ensures ok { IfOk result (λ slot. AddsObject (present_in self.old) slot object (present_in self.new)) }
         ensures err { OnErr result ((slot : ℕ) → present_in self.new slot ≡ present_in self.old slot) }
     {
         match self.next_free() {
@@ -92,8 +91,7 @@ impl Slots {
     // Puts an object in a new slot.
     fn push(&mut self, object: Object) -> Result<u32, AllocError>
         requires { is_present object ≡ true }
-        ensures free { IfOk result (λ slot. present_in self.old slot ≡ None) }
-        ensures ok { IfOk result (λ slot. Sets (present_in self.old) slot (Some object) (present_in self.new)) }
+        ensures ok { IfOk result (λ slot. AddsObject (present_in self.old) slot object (present_in self.new)) }
         ensures err { OnErr result ((slot : ℕ) → present_in self.new slot ≡ present_in self.old slot) }
     {
         let slot = self.objects.len();

@@ -19,7 +19,6 @@ invariant_of-self-2 c =
     record {
       kept = kept-added s.keeps s.count (objects_of s) (tree.get nat_cmp s.numbers) (tree.get nat_cmp s.bases) s.kept c.in-Ok.slot
           (present_in c.insert.new.self) c.args.object (tree.get nat_cmp c.insert_keys.new.numbers) (tree.get nat_cmp c.insert_keys.new.bases)
-          c.in-Ok.ensures.free c.in-Ok.ensures.ok c.requires.next.0 c.requires.next.1 c.requires.long c.requires.room
-          (of_ok c.insert_keys.result (search rules) e.ok) (of_ok c.insert_keys.result (search rules) e.ok_base)
-          (of_ok c.insert_keys.result (search rules) e.ok_short);
+          c.in-Ok.ensures.ok.0 c.in-Ok.ensures.ok.1 c.requires.next.0 c.requires.next.1 c.requires.long c.requires.room
+          (of_ok c.insert_keys.result (search rules) e.ok) (of_ok c.insert_keys.result (search rules) e.ok_base);
     }

@@ -1,17 +1,15 @@
 use Rattle.std.specs.BTreeMap as tree
-use Rattle.std.proofs.Common.{◌≡◌, ℕ, Some, None, if◌then◌else◌, nat_cmp, rules, subst, sym, ◌∙◌}
-use Rattle.std.proofs.lemmas.Option.{same_Some}
+use Rattle.std.proofs.Common.{◌≡◌, ℕ, Some, None, if◌then◌else◌, nat_cmp, rules, subst, ◌∙◌}
 use Rattle.cap_objects.specs.{HandoutsIn.objects_of, Indexes.Rekeys, SlotsIn.present_in}
-use Rattle.cap_objects.proofs.KeptLemmas.{base_at, compared_live, kept-moved, number_at, of_ok}
+use Rattle.cap_objects.proofs.KeptLemmas.{base_at, compared_live, kept-moved, of_ok}
 use Rattle.cap_objects.proofs.handouts.Handouts.move_base.Goals as goal
 
 pub replace_key-requires : goal.replace_key-requires
 replace_key-requires c long =
     let s = c.args.self.now in
     let o = c.args.object in
-    let at = number_at s.keeps s.count (objects_of s) (tree.get nat_cmp s.numbers) (tree.get nat_cmp s.bases) s.kept c.args.slot o c.requires.was.0 in
-    let narrow = same_Some c.args.slot c.in-Some.narrow (sym at ∙ sym c.in-Some.ensures) in
-    subst (λ (n : ℕ). tree.get nat_cmp s.bases o.base ≡ Some n) narrow
+    let narrow : c.in-Ok.narrow ≡ c.args.slot = search rules in
+    rw narrow
     (base_at s.keeps s.count (objects_of s) (tree.get nat_cmp s.numbers) (tree.get nat_cmp s.bases) s.kept c.args.slot o c.requires.was.0
     (compared_live s.keeps o.long o.freed c.requires.was.1 ∙ long))
 
@@ -19,11 +17,10 @@ pub invariant_of-self-2 : goal.invariant_of-self-2
 invariant_of-self-2 c =
     let s = c.args.self.now in
     let o = c.args.object in
-    let at = number_at s.keeps s.count (objects_of s) (tree.get nat_cmp s.numbers) (tree.get nat_cmp s.bases) s.kept c.args.slot o c.requires.was.0 in
-    let narrow = same_Some c.in-Some.narrow c.args.slot (c.in-Some.ensures ∙ at) in
     let bases = tree.get nat_cmp c.replace_key.new.bases in
+    let narrow : c.in-Ok.narrow ≡ c.args.slot = search rules in
     record {
-      kept = kept-moved s.keeps s.count (objects_of s) (tree.get nat_cmp s.numbers) (tree.get nat_cmp s.bases) s.kept c.args.slot c.args.object
+      kept = kept-moved s.keeps s.count (objects_of s) (tree.get nat_cmp s.numbers) (tree.get nat_cmp s.bases) s.kept c.args.slot o
           c.requires.was.0 (present_in c.set.new.self) c.args.wider bases c.requires.was.1 c.requires.wider.0
           c.requires.wider.1 c.requires.room c.set.ensures
           (subst (λ (n : ℕ). Rekeys (tree.get nat_cmp s.bases) n (if o.long then Some o.base else None) (Some c.args.wider.base) bases) narrow
