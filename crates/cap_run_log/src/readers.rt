@@ -223,14 +223,18 @@ fn take_run_operands(head: RunHead, bytes: &[u8]) -> Option<(RunLine, &[u8])>
     match head {
         RunHead::Version => take_made::<One>(bytes),
         RunHead::Root => take_made::<(RunPlace, Word)>(bytes),
-        RunHead::Derive => match take_derived(bytes) {
-            Some((derive, rest)) => Some((RunLine::Run(derive.into_step()), rest)),
-            None => None,
-        },
-        RunHead::Exchange => match take_exchanged(bytes) {
-            Some((exchange, rest)) => Some((RunLine::Run(exchange.into_step()), rest)),
-            None => None,
-        },
+        RunHead::Derive => {
+            let Some((derive, rest)) = take_derived(bytes) else {
+                return None;
+            };
+            Some((RunLine::Run(derive.into_step()), rest))
+        }
+        RunHead::Exchange => {
+            let Some((exchange, rest)) = take_exchanged(bytes) else {
+                return None;
+            };
+            Some((RunLine::Run(exchange.into_step()), rest))
+        }
         RunHead::Invoke => take_made::<InvokeParts>(bytes),
         RunHead::Drop => take_made::<RunPlace>(bytes),
         RunHead::Fill => take_made::<(Granule, Word)>(bytes),
