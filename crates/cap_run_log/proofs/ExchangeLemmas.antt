@@ -1,5 +1,5 @@
 -- Where no exchange line stands, and no derive line.
-use Rattle.std.proofs.Common.{◌≡◌, ℕ, List, ◌∷◌, ◌++◌, Option, Some, None, IfNone, sym, ◌∙◌}
+use Rattle.std.proofs.Common.{◌≡◌, ℕ, List, ◌∷◌, ◌++◌, Option, Some, None, IfNone, IfSome, ap, drop, sym, take, take-append-drop, ◌∙◌}
 use Rattle.cap_log.specs.Parts.{Begins, BeginsWithNone}
 use Rattle.cap_run_log.specs.declared.{heads.RunHead.RunHead, lines.{DeriveLine.DeriveLine, ExchangeLine.ExchangeLine}}
 use Rattle.cap_run_log.specs.{RunHeads.run_head_spelling, RunLines.{IsRunLineInRange, derive_line, exchange_line, run_spelling}}
@@ -17,3 +17,14 @@ pub none_after_derive : {A : Type 0} (found : Option A) (bytes operands : List �
     → IfNone found ((derive : DeriveLine) (rest : List ℕ) → Begins IsRunLineInRange run_spelling 10 bytes (derive_line derive) rest → ⊥)
 none_after_derive None bytes operands is none = λ derive rest begins. none (derive_line derive) rest (begins.0, sym is ∙ begins.1)
 none_after_derive (Some found) bytes operands is none = tt
+
+-- a front that is a text, and what follows it
+pub front_is : (n : ℕ) (bytes front rest text : List ℕ) → front ≡ take n bytes → rest ≡ drop n bytes → front ≡ text → bytes ≡ text ++ rest
+front_is n bytes front rest text cut tail same =
+    sym (take-append-drop n bytes) ∙ ap (λ (bs : List ℕ). bs ++ drop n bytes) (sym cut ∙ same) ∙ ap (λ (bs : List ℕ). text ++ bs) (sym tail)
+
+-- what follows a text and a space, where a space stands after the text
+pub text_then : {A : Type 0} (found : Option A) (rest_of : A → List ℕ) (bytes text others : List ℕ) → bytes ≡ text ++ others
+    → IfSome found (λ rest. others ≡ 32 ∷ rest_of rest) → IfSome found (λ rest. bytes ≡ text ++ 32 ∷ rest_of rest)
+text_then None rest_of bytes text others is then = tt
+text_then (Some rest) rest_of bytes text others is then = is ∙ ap (λ (bs : List ℕ). text ++ bs) then

@@ -1,11 +1,11 @@
 -- Lines that only run logs have, by their heads: what stands behind each head, and the line that head and operands make.
-use Rattle.std.proofs.Common.{append_assoc, ◌≡◌, ℕ, ◌+◌, ◌≤◌, List, ◌∷◌, ◌++◌, sym, ap, subst, ◌∙◌, refl, arith, length, length-append, Bool, true, false}
+use Rattle.std.proofs.Common.{append_assoc, ◌≡◌, ℕ, ◌+◌, ◌≤◌, List, [], ◌∷◌, ◌++◌, sym, ap, subst, ◌∙◌, refl, arith, length, length-append, Bool, true, false}
 use Rattle.std.proofs.{Common.{codes, if◌then◌else◌, bytes_eq, lit≤}, lemmas.Bool.false≢true}
 use Rattle.cap_word.specs.{declared.word.{Cap.Cap, Word.Word}, Digits.hex_digits}
 use Rattle.cap_word.proofs.DigitLemmas.{length-hex_digits}
 use Rattle.cap_log.specs.declared.{kinds.{Head.Head, Step.Step}, lines.Line.Line}
 use Rattle.cap_log.specs.{Heads.head_spelling, Lines.{IsInRange, IsRegister, IsTarget, IsWord, register_spelling, spelling, tag_spelling}}
-use Rattle.cap_log.specs.Parts.{Begins, BeginsWithNone, FitBoth, result_spelling, spaced}
+use Rattle.cap_log.specs.Parts.{Begins, BeginsWithNone, FitBoth, Lacks, result_spelling, spaced}
 use Rattle.cap_log.specs.SpacelessLaws.{Lacks-by_test, digits-spaceless, head-spaceless, register-spaceless}
 use Rattle.cap_log.proofs.OperandLemmas.{FitBoth-operand, IsOperand, Spaceless, mapped}
 use Rattle.cap_log.proofs.PartLemmas.{register-operand, result-operand, target-operand, word-operand}
@@ -16,8 +16,8 @@ use Rattle.cap_run_log.proofs.Operands.{freed-operand, granule-operand, handed-o
 use Rattle.cap_run_log.proofs.Operands.{special-operand, tag-operand}
 use Rattle.cap_log.proofs.{Cuts.same_cut, Shapes.{head_of, operands_of, spelling-of, text}}
 use Rattle.cap_run_log.specs.declared.{heads.RunHead.RunHead, lines.{RunLine.RunLine, RunStep.RunStep}}
-use Rattle.cap_run_log.specs.declared.parts.{Equals.Equals, Freed.Freed, Granule.Granule, Handed.Handed, Source.Source}
-use Rattle.cap_run_log.specs.declared.{parts.{One.One, Special.Special, Tag.Tag, Written.Written}, results.Results.Results}
+use Rattle.cap_run_log.specs.declared.parts.{Freed.Freed, Granule.Granule, Handed.Handed, Same.Same, Source.Source}
+use Rattle.cap_run_log.specs.declared.{parts.{Special.Special, Tag.Tag, Written.Written}, results.Results.Results}
 use Rattle.cap_run_log.specs.RunHeads.{IsRunHead, run_head_spelling}
 use Rattle.cap_run_log.specs.RunLines.{IsGranule, IsRunLineInRange, IsRunPlace, IsRunRegister, granule_spelling}
 use Rattle.cap_run_log.specs.RunLines.{run_place_spelling, run_register_spelling, run_spelling, special_spelling}
@@ -65,11 +65,14 @@ source = then_ (one (λ (r : Source). IsRunRegister 0 r.0) (λ r. run_register_s
     (mapped (IsRunRegister 0) run_register_spelling 5 (register_at-operand 0) (λ r. r.0) (λ n. record { 0 = n }) (λ _. refl)))
     (λ r fits. register_at-spaceless 0 r.0 fits)
 
-pub equals-operand : IsOperand (λ (sign : Equals). Unit {0}) (λ sign. codes "=") 1
-equals-operand = record { one = λ a b fits fits' e. refl; plain = λ a fits. Lacks-by_test 10 (codes "=") refl; short = λ a fits. lit≤ tt }
+pub same-operand : (byte : ℕ) → Lacks 10 (byte ∷ []) → IsOperand (λ (it : Same byte). Unit {0}) (λ it. byte ∷ []) 1
+same-operand byte plain = record { one = λ a b fits fits' e. refl; plain = λ a fits. plain; short = λ a fits. lit≤ tt }
+
+abbrev same_byte : (byte : ℕ) → Lacks 10 (byte ∷ []) → Row
+same_byte byte plain = one (λ (it : Same byte). Unit {0}) (λ it. byte ∷ []) 1 (same-operand byte plain)
 
 abbrev equals : Row → Row
-equals = then_ (one (λ (sign : Equals). Unit {0}) (λ sign. codes "=") 1 equals-operand) (λ sign fits. equals-spaceless)
+equals = then_ (same_byte 61 (Lacks-by_test 10 (codes "=") refl)) (λ sign fits. equals-spaceless)
 
 abbrev tag : Row → Row
 tag = then_ (one (λ (t : Tag). Unit {0}) (λ t. tag_spelling t.0) 1
@@ -84,9 +87,6 @@ word = then_ a_word (λ w fits. digits-spaceless 32 w.0)
 
 abbrev a_place : Row
 a_place = one IsRunPlace run_place_spelling 17 run_place-operand
-
-pub one-operand : IsOperand (λ (version : One). Unit {0}) (λ version. codes "1") 1
-one-operand = record { one = λ a b fits fits' e. refl; plain = λ a fits. Lacks-by_test 10 (codes "1") refl; short = λ a fits. lit≤ tt }
 
 -- what an exchange records, as its words
 abbrev pub recorded_words : Row
@@ -144,7 +144,7 @@ no_results end bytes few x rest begins =
 
 -- what stands behind a head
 abbrev pub row : RunHead → Row
-row RunHead.Version = one (λ (version : One). Unit {0}) (λ version. codes "1") 1 one-operand
+row RunHead.Version = same_byte 49 (Lacks-by_test 10 (codes "1") refl)
 row RunHead.Root = then_ a_place place-spaceless a_word
 row RunHead.Derive = written (source (one (λ (cap : Cap). IsWord cap.word.0) result_spelling 36 result-operand))
 row RunHead.Exchange = target (register (special (one FitsResults results_text 71 results-operand)))

@@ -1,5 +1,5 @@
 -- Spellings: bytes spell one line of a run log at most, and a spelling has no line feed and at most 95 bytes.
-use Rattle.std.proofs.Common.{◌≡◌, ◌≢◌, ℕ, ◌+◌, ◌≤◌, List, [], ◌∷◌, ◌++◌, length, sym, ap, subst, ◌∙◌, refl, arith, lit≤, codes, take, drop}
+use Rattle.std.proofs.Common.{◌≡◌, ◌≢◌, ℕ, ◌+◌, ◌≤◌, List, [], ◌∷◌, ◌++◌, length, sym, ap, subst, ◌∙◌, refl, arith, lit≤, take, drop}
 use Rattle.std.proofs.{Common.length-append, lemmas.List.{append_cancel_right, Elements.{All-append, All-cons}}}
 use Rattle.cap_log.specs.{Heads.head_spelling, SpacelessLaws.head-spaceless}
 use Rattle.cap_log.proofs.Shapes.{head_of, operands_of, spelling-of, text}
@@ -14,15 +14,8 @@ use Rattle.cap_run_log.proofs.Rows.{Fits, Kind, Own, Usual, Value, is_made, kind
 use Rattle.cap_run_log.proofs.Rows.{run_head-spaceless, run_text}
 
 head-plain : (h : RunHead) → HasNoFeed (run_head_spelling h)
-head-plain RunHead.Version = Lacks-by_test 10 (codes "run") refl
-head-plain RunHead.Root = Lacks-by_test 10 (codes "root") refl
-head-plain RunHead.Derive = Lacks-by_test 10 (codes "derive") refl
-head-plain RunHead.Exchange = Lacks-by_test 10 (codes "exchange") refl
-head-plain RunHead.Invoke = Lacks-by_test 10 (codes "invoke") refl
-head-plain RunHead.Drop = Lacks-by_test 10 (codes "drop") refl
-head-plain RunHead.Fill = Lacks-by_test 10 (codes "fill") refl
-head-plain RunHead.Object = Lacks-by_test 10 (codes "object") refl
-head-plain RunHead.Free = Lacks-by_test 10 (codes "free") refl
+head-plain RunHead.Version = Lacks-by_test 10 (run_head_spelling RunHead.Version) refl
+head-plain h = Lacks-by_test 10 (run_head_spelling h) refl
 
 head-short : (h : RunHead) → length (run_head_spelling h) ≤ 8
 head-short RunHead.Version = lit≤ tt

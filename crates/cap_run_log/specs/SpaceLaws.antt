@@ -33,12 +33,5 @@ tag-spaceless true = Lacks-by_test 32 (codes "1") refl
 tag-spaceless false = Lacks-by_test 32 (codes "0") refl
 
 pub run_head-spaceless : (h : RunHead) → HasNoSpace (run_head_spelling h)
-run_head-spaceless RunHead.Version = Lacks-by_test 32 (codes "run") refl
-run_head-spaceless RunHead.Root = Lacks-by_test 32 (codes "root") refl
-run_head-spaceless RunHead.Derive = Lacks-by_test 32 (codes "derive") refl
-run_head-spaceless RunHead.Exchange = Lacks-by_test 32 (codes "exchange") refl
-run_head-spaceless RunHead.Invoke = Lacks-by_test 32 (codes "invoke") refl
-run_head-spaceless RunHead.Drop = Lacks-by_test 32 (codes "drop") refl
-run_head-spaceless RunHead.Fill = Lacks-by_test 32 (codes "fill") refl
-run_head-spaceless RunHead.Object = Lacks-by_test 32 (codes "object") refl
-run_head-spaceless RunHead.Free = Lacks-by_test 32 (codes "free") refl
+run_head-spaceless RunHead.Version = Lacks-by_test 32 (run_head_spelling RunHead.Version) refl
+run_head-spaceless h = Lacks-by_test 32 (run_head_spelling h) refl

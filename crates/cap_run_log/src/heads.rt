@@ -89,12 +89,14 @@ pub(crate) fn strip_exchange(bytes: &[u8]) -> Option<&[u8]>
     ensures some { IfSome result (λ rest. bytes.now ≡ codes "exchange" ++ 32 ∷ rest.now) }
     ensures none { IfNone result (BeginsWithout (codes "exchange") 32 bytes.now) }
 {
-    let (front, others) = bytes.split_first_chunk::<8>()?;
-    if !are_eight(front, b"exchange") {
+    let Some((front, others)) = bytes.split_first_chunk::<8>() else {
         return None;
+    };
+    if are_eight(front, b"exchange") {
+        strip_word(others, b"", b' ')
+    } else {
+        None
     }
-    let (first, rest) = others.split_first()?;
-    if *first == b' ' { Some(rest) } else { None }
 }
 
 /// The same of `derive`: what it compares are parts of the number that [`strip_exchange`] compares.
@@ -103,16 +105,20 @@ pub(crate) fn strip_derive(bytes: &[u8]) -> Option<&[u8]>
     ensures some { IfSome result (λ rest. bytes.now ≡ codes "derive" ++ 32 ∷ rest.now) }
     ensures none { IfNone result (BeginsWithout (codes "derive") 32 bytes.now) }
 {
-    let (front, others) = bytes.split_first_chunk::<4>()?;
+    let Some((front, others)) = bytes.split_first_chunk::<4>() else {
+        return None;
+    };
     if !are_four(front, b"deri") {
         return None;
     }
-    let (middle, others) = others.split_first_chunk::<2>()?;
-    if !are_two(middle, b"ve") {
+    let Some((middle, others)) = others.split_first_chunk::<2>() else {
         return None;
+    };
+    if are_two(middle, b"ve") {
+        strip_word(others, b"", b' ')
+    } else {
+        None
     }
-    let (first, rest) = others.split_first()?;
-    if *first == b' ' { Some(rest) } else { None }
 }
 
 // Whether eight bytes are these, compared as one number.

@@ -1,17 +1,18 @@
 //! The parts of lines that only run logs have.
 
-ghost use Rattle.std.specs.Prelude.{◌≡◌, ◌↔◌, ◌+◌, ◌≤◌, ◌<◌, decimal, codes, length, true};
+ghost use Rattle.std.specs.Prelude.{◌≡◌, ◌↔◌, ◌+◌, ◌≤◌, ◌<◌, [], ◌∷◌, ◌++◌, IfSome, decimal, length, true};
 ghost use Rattle.cap_log.specs.Lines.{IsRegister, register_spelling, tag_spelling};
 ghost use Rattle.cap_streams.specs.Written.{Writes};
 ghost use Rattle.cap_run_log.specs.RunLines.{IsGranule, IsObjectNumber, IsRunPlace, IsRunRegister, granule_spelling};
 ghost use Rattle.cap_run_log.specs.RunLines.{run_place_spelling, run_register_spelling, special_spelling};
+ghost use Rattle.cap_run_log.specs.UsualLines.{in_run};
 ghost use Rattle.cap_run_log.specs.RunParts.{IsFreed, IsHanded, freed_spelling, handed_spelling};
 ghost use Rattle.cap_run_log.specs.SpaceLaws.{equals-spaceless, granule-spaceless, place-spaceless};
 ghost use Rattle.cap_run_log.specs.SpaceLaws.{register_at-spaceless, special-spaceless, tag-spaceless};
 
 use crate::lines::{RunPlace, RunRegister};
 use cap_log::buffers::{put, put_decimal};
-use cap_log::{Part, Register, Single, Target, strip_word, take_decimal};
+use cap_log::{Part, Place, Register, Single, Target, strip_word, take_decimal};
 
 /// A special register, 0 to 31.
 #[derive(Clone, Copy)]
@@ -24,15 +25,16 @@ impl Part for Special {
 
     #[inline(always)]
     fn take(bytes: &[u8], end: u8) -> Option<(Special, &[u8])> {
-        // One digit is the most usual: it and the letters before it are compared as one number.
-        if let Some((front, others)) = bytes.split_first_chunk::<4>() {
-            let digit = digit_of(front);
-            if digit < 10 && !others.is_empty() && others[0] == end {
-                return Some((Special(digit as u8), &others[1..]));
-            }
+        if let Some(found) = take_short(bytes, end) {
+            return Some(found);
         }
-        let digits = bytes.strip_prefix(b"scr")?;
-        let (number, rest) = take_decimal::<2, 0, 32>(digits, end)?;
+        // The r is taken as the byte that ends the letters before it.
+        let Some(digits) = strip_word(bytes, b"sc", b'r') else {
+            return None;
+        };
+        let Some((number, rest)) = take_decimal::<2, 0, 32>(digits, end) else {
+            return None;
+        };
         Some((Special(number as u8), rest))
     }
 
@@ -117,12 +119,12 @@ impl Part for Granule {
     ghost spelled = { λ granule. granule_spelling granule.0 };
 
     fn take(bytes: &[u8], end: u8) -> Option<(Granule, &[u8])> {
-        let digits = bytes.strip_prefix(b"@")?;
-        let (address, rest) = u64::take(digits, end)?;
-        if address % 16 == 0 {
-            Some((Granule(address / 16), rest))
-        } else {
-            None
+        let Some((place, rest)) = Place::take(bytes, end) else {
+            return None;
+        };
+        match place {
+            Place::Granule(number) => Some((Granule(number), rest)),
+            Place::Register(_) => None,
         }
     }
 
@@ -143,16 +145,13 @@ impl Part for RunPlace {
     ghost spelled = { run_place_spelling };
 
     fn take(bytes: &[u8], end: u8) -> Option<(RunPlace, &[u8])> {
-        if let Some((granule, rest)) = Granule::take(bytes, end) {
-            return Some((RunPlace::Granule(granule.0), rest));
+        if let Some((place, rest)) = Place::take(bytes, end) {
+            return Some((in_run(place), rest));
         }
-        if let Some((special, rest)) = Special::take(bytes, end) {
-            return Some((RunPlace::Special(special.0), rest));
-        }
-        let Some((target, rest)) = Target::take(bytes, end) else {
+        let Some((special, rest)) = Special::take(bytes, end) else {
             return None;
         };
-        Some((RunPlace::General(target.number()), rest))
+        Some((RunPlace::Special(special.0), rest))
     }
 
     #[inline(always)]
@@ -169,49 +168,43 @@ impl Single for RunPlace {
     ghost spaceless = { place-spaceless };
 }
 
-/// The sign before what a step records.
+/// A part that is always the same byte.
 #[derive(Clone, Copy)]
-pub struct Equals;
+pub struct Same<const BYTE: u8>;
 
-impl Part for Equals {
-    ghost fits = { λ sign. Unit {0} };
+/// The sign before what a step records.
+pub type Equals = Same<b'='>;
 
-    ghost spelled = { λ sign. codes "=" };
+/// This sign.
+pub const EQUALS: Equals = Same;
+
+/// The version of a run log.
+pub type One = Same<b'1'>;
+
+/// This version.
+pub const ONE: One = Same;
+
+impl<const BYTE: u8> Part for Same<BYTE> {
+    ghost fits = { λ same. Unit {0} };
+
+    ghost spelled = { λ same. BYTE ∷ [] };
 
     #[inline(always)]
-    fn take(bytes: &[u8], end: u8) -> Option<(Equals, &[u8])> {
-        let rest = strip_word(bytes, b"=", end)?;
-        Some((Equals, rest))
+    fn take(bytes: &[u8], end: u8) -> Option<(Self, &[u8])> {
+        let Some(rest) = strip_word(bytes, &[BYTE], end) else {
+            return None;
+        };
+        Some((Same, rest))
     }
 
     #[inline(always)]
     fn write(&self, buffer: &mut [u8], at: usize) -> usize {
-        put(buffer, at, b"=")
+        put(buffer, at, &[BYTE])
     }
 }
 
 impl Single for Equals {
     ghost spaceless = { λ sign fits. equals-spaceless };
-}
-
-/// The version of a run log.
-#[derive(Clone, Copy)]
-pub struct One;
-
-impl Part for One {
-    ghost fits = { λ version. Unit {0} };
-
-    ghost spelled = { λ version. codes "1" };
-
-    fn take(bytes: &[u8], end: u8) -> Option<(One, &[u8])> {
-        let rest = strip_word(bytes, b"1", end)?;
-        Some((One, rest))
-    }
-
-    #[inline(always)]
-    fn write(&self, buffer: &mut [u8], at: usize) -> usize {
-        put(buffer, at, b"1")
-    }
 }
 
 /// The tag of what a step records.
@@ -225,7 +218,9 @@ impl Part for Tag {
 
     #[inline(always)]
     fn take(bytes: &[u8], end: u8) -> Option<(Tag, &[u8])> {
-        let (front, rest) = bytes.split_first_chunk::<2>()?;
+        let Some((front, rest)) = bytes.split_first_chunk::<2>() else {
+            return None;
+        };
         if are_two(front, &[b'1', end]) {
             return Some((Tag(true), rest));
         }
@@ -256,7 +251,9 @@ impl Part for ObjectNumber {
     ghost spelled = { λ number. decimal number.0 };
 
     fn take(bytes: &[u8], end: u8) -> Option<(ObjectNumber, &[u8])> {
-        let (number, rest) = take_decimal::<10, 1, 0x1_0000_0000>(bytes, end)?;
+        let Some((number, rest)) = take_decimal::<10, 1, 0x1_0000_0000>(bytes, end) else {
+            return None;
+        };
         Some((ObjectNumber(number), rest))
     }
 
@@ -295,9 +292,8 @@ impl Part for Handed {
         match *self {
             Handed::Alone(register) => write_register(buffer, at, register),
             Handed::Numbered(register, number) => {
-                let space = write_register(buffer, at, register);
-                let next = put(buffer, space, b" ");
-                put_decimal(buffer, next, u64::from(number))
+                let register = Written(RunRegister::General(register));
+                (register, ObjectNumber(number)).write(buffer, at)
             }
         }
     }
@@ -336,12 +332,41 @@ impl Part for Freed {
     }
 }
 
+// A place of a log, as one of a run log.
+#[inline(always)]
+fn in_run(place: Place) -> RunPlace
+    ensures { result ≡ in_run place }
+{
+    match place {
+        Place::Register(number) => RunPlace::General(number),
+        Place::Granule(number) => RunPlace::Granule(number),
+    }
+}
+
 /// Whether two bytes are these, compared as one number.
 #[inline(always)]
 pub(crate) fn are_two(bytes: &[u8; 2], text: &[u8; 2]) -> bool
     ensures same { (result ≡ true) ↔ (bytes.now ≡ text.now) }
 {
     u16::from_le_bytes(*bytes) == u16::from_le_bytes(*text)
+}
+
+// Takes a special register of one digit, the most usual: it and the letters before it are compared as one number.
+#[inline(always)]
+fn take_short(bytes: &[u8], end: u8) -> Option<(Special, &[u8])>
+    ensures some { IfSome result (λ p. IsRegister (p.0).0 × (bytes.now ≡ special_spelling (p.0).0 ++ end ∷ p.1.now)) }
+{
+    let Some((front, others)) = bytes.split_first_chunk::<4>() else {
+        return None;
+    };
+    let digit = digit_of(front);
+    if digit >= 10 {
+        return None;
+    }
+    let Some(rest) = strip_word(others, b"", end) else {
+        return None;
+    };
+    Some((Special(digit as u8), rest))
 }
 
 // The special register whose name of one digit these bytes are, or a number above 9 if they are none.

@@ -10,6 +10,7 @@ ghost use Rattle.cap_run_log.specs.{RunHeads.{IsRunHead, run_head_spelling}, Run
 ghost use Rattle.cap_run_log.specs.declared.lines.DeriveLine.{DeriveLine as DeriveIn};
 ghost use Rattle.cap_run_log.specs.declared.lines.ExchangeLine.{ExchangeLine as ExchangeIn};
 ghost use Rattle.cap_run_log.specs.RunParts.{StandsAfter};
+ghost use Rattle.cap_run_log.specs.declared.heads.RunHead.{RunHead as RunHeadIn};
 ghost use Rattle.cap_run_log.specs.declared.heads.RunHead.TheVariants as heads;
 
 use crate::heads::{RunHead, strip_derive, strip_exchange};
@@ -113,17 +114,105 @@ fn take_usual(bytes: &[u8]) -> Option<(RunLine, &[u8])>
     }
 }
 
-// Takes the parts that follow a head and its space, with the line feed. `None` if no such line stands there.
+// Parts that make a line with the head before them.
+trait Operands: Part {
+    // That head.
+    ghost head: { RunHeadIn };
+
+    // The line.
+    fn into_line(self) -> RunLine
+        requires { Self.Part.fits self }
+        ensures range { IsRunLineInRange result }
+        ensures spelling { run_spelling result ≡ run_head_spelling head ++ 32 ∷ Self.Part.spelled self };
+}
+
+impl Operands for One {
+    ghost head = { heads.Version };
+
+    #[inline(always)]
+    fn into_line(self) -> RunLine {
+        RunLine::Version
+    }
+}
+
+impl Operands for (RunPlace, Word) {
+    ghost head = { heads.Root };
+
+    #[inline(always)]
+    fn into_line(self) -> RunLine {
+        RunLine::Root(self.0, self.1)
+    }
+}
+
+impl Operands for InvokeParts {
+    ghost head = { heads.Invoke };
+
+    #[inline(always)]
+    fn into_line(self) -> RunLine {
+        let (code, (datum, (_equals, (code_word, datum_word)))) = self;
+        RunLine::Run(RunStep::Invoke {
+            code: code.number(),
+            datum: datum.number(),
+            code_word,
+            datum_word,
+        })
+    }
+}
+
+impl Operands for RunPlace {
+    ghost head = { heads.Drop };
+
+    #[inline(always)]
+    fn into_line(self) -> RunLine {
+        RunLine::Run(RunStep::Drop(self))
+    }
+}
+
+impl Operands for (Granule, Word) {
+    ghost head = { heads.Fill };
+
+    #[inline(always)]
+    fn into_line(self) -> RunLine {
+        RunLine::Run(RunStep::Fill(self.0.0, self.1))
+    }
+}
+
+impl Operands for Handed {
+    ghost head = { heads.Object };
+
+    #[inline(always)]
+    fn into_line(self) -> RunLine {
+        RunLine::Run(match self {
+            Handed::Alone(register) => RunStep::Object(register),
+            Handed::Numbered(register, number) => RunStep::Widen(register, number),
+        })
+    }
+}
+
+impl Operands for Freed {
+    ghost head = { heads.Free };
+
+    #[inline(always)]
+    fn into_line(self) -> RunLine {
+        RunLine::Run(match self {
+            Freed::Owner(register) => RunStep::FreeOwner(register),
+            Freed::Number(number) => RunStep::FreeNumber(number),
+        })
+    }
+}
+
+// Takes the operands that follow their head and its space, with the line feed, as their line.
 #[inline(always)]
-fn take_run_parts<P: Part>(head: RunHead, bytes: &[u8]) -> Option<(P, &[u8])>
-    requires { StandsAfter head P.fits P.spelled }
-    ensures some { IfSome result (λ p. Begins P.fits (λ parts. run_head_spelling head ++ 32 ∷ P.spelled parts) 10
-        (run_head_spelling head ++ 32 ∷ bytes.now) p.0 p.1.now) }
-    ensures none { IfNone result (BeginsWithNone IsRunLineInRange run_spelling 10 (run_head_spelling head ++ 32 ∷ bytes.now)) }
+fn take_made<O: Operands>(bytes: &[u8]) -> Option<(RunLine, &[u8])>
+    requires { StandsAfter O.head O.Part.fits O.Part.spelled }
+    ensures some { IfSome result (λ p. Begins IsRunLineInRange run_spelling 10 (run_head_spelling O.head ++ 32 ∷ bytes.now) p.0 p.1.now) }
+    ensures none { IfNone result (BeginsWithNone IsRunLineInRange run_spelling 10 (run_head_spelling O.head ++ 32 ∷ bytes.now)) }
 {
-    // No other parts follow this head.
-    let (parts, rest) = P::take(bytes, b'\n')?;
-    Some((parts, rest))
+    // No others follow this head.
+    let Some((operands, rest)) = O::take(bytes, b'\n') else {
+        return None;
+    };
+    Some((operands.into_line(), rest))
 }
 
 // Takes what follows a head and its space, with the line feed.
@@ -132,47 +221,25 @@ fn take_run_operands(head: RunHead, bytes: &[u8]) -> Option<(RunLine, &[u8])>
     ensures none { IfNone result (BeginsWithNone IsRunLineInRange run_spelling 10 (run_head_spelling head ++ 32 ∷ bytes.now)) }
 {
     match head {
-        RunHead::Version => {
-            let (_version, rest) = take_run_parts::<One>(head, bytes)?;
-            Some((RunLine::Version, rest))
-        }
-        RunHead::Root => {
-            let ((place, word), rest) = take_run_parts::<(RunPlace, Word)>(head, bytes)?;
-            Some((RunLine::Root(place, word), rest))
-        }
+        RunHead::Version => take_made::<One>(bytes),
+        RunHead::Root => take_made::<(RunPlace, Word)>(bytes),
         RunHead::Derive => {
-            let (derive, rest) = take_derived(bytes)?;
+            let Some((derive, rest)) = take_derived(bytes) else {
+                return None;
+            };
             Some((RunLine::Run(derive.into_step()), rest))
         }
         RunHead::Exchange => {
-            let (exchange, rest) = take_exchanged(bytes)?;
+            let Some((exchange, rest)) = take_exchanged(bytes) else {
+                return None;
+            };
             Some((RunLine::Run(exchange.into_step()), rest))
         }
-        RunHead::Invoke => take_invoke(bytes),
-        RunHead::Drop => {
-            let (place, rest) = take_run_parts::<RunPlace>(head, bytes)?;
-            Some((RunLine::Run(RunStep::Drop(place)), rest))
-        }
-        RunHead::Fill => {
-            let ((granule, word), rest) = take_run_parts::<(Granule, Word)>(head, bytes)?;
-            Some((RunLine::Run(RunStep::Fill(granule.0, word)), rest))
-        }
-        RunHead::Object => {
-            let (handed, rest) = take_run_parts::<Handed>(head, bytes)?;
-            let step = match handed {
-                Handed::Alone(register) => RunStep::Object(register),
-                Handed::Numbered(register, number) => RunStep::Widen(register, number),
-            };
-            Some((RunLine::Run(step), rest))
-        }
-        RunHead::Free => {
-            let (freed, rest) = take_run_parts::<Freed>(head, bytes)?;
-            let step = match freed {
-                Freed::Owner(register) => RunStep::FreeOwner(register),
-                Freed::Number(number) => RunStep::FreeNumber(number),
-            };
-            Some((RunLine::Run(step), rest))
-        }
+        RunHead::Invoke => take_made::<InvokeParts>(bytes),
+        RunHead::Drop => take_made::<RunPlace>(bytes),
+        RunHead::Fill => take_made::<(Granule, Word)>(bytes),
+        RunHead::Object => take_made::<Handed>(bytes),
+        RunHead::Free => take_made::<Freed>(bytes),
     }
 }
 
@@ -183,10 +250,10 @@ fn take_derived(bytes: &[u8]) -> Option<(DeriveLine, &[u8])>
         (derive_line p.0) p.1.now) }
     ensures none { IfNone result (BeginsWithNone IsRunLineInRange run_spelling 10 (run_head_spelling heads.Derive ++ 32 ∷ bytes.now)) }
 {
-    let Some((parts, rest)) = take_run_parts(RunHead::Derive, bytes) else {
+    let Some((parts, rest)) = DeriveParts::take(bytes, b'\n') else {
         return None;
     };
-    let (target, (source, result)): DeriveParts = parts;
+    let (target, (source, result)) = parts;
     let derive = DeriveLine {
         target: target.0,
         source: source.0,
@@ -202,10 +269,10 @@ fn take_exchanged(bytes: &[u8]) -> Option<(ExchangeLine, &[u8])>
         (exchange_line p.0) p.1.now) }
     ensures none { IfNone result (BeginsWithNone IsRunLineInRange run_spelling 10 (run_head_spelling heads.Exchange ++ 32 ∷ bytes.now)) }
 {
-    let Some((parts, rest)) = take_run_parts(RunHead::Exchange, bytes) else {
+    let Some((parts, rest)) = ExchangeParts::take(bytes, b'\n') else {
         return None;
     };
-    let (target, (source, (special, results))): ExchangeParts = parts;
+    let (target, (source, (special, results))) = parts;
     let exchange = ExchangeLine {
         target: target.number(),
         source: source.number(),
@@ -214,22 +281,4 @@ fn take_exchanged(bytes: &[u8]) -> Option<(ExchangeLine, &[u8])>
         special_result: results.special,
     };
     Some((exchange, rest))
-}
-
-// Takes what follows `invoke` and its space.
-fn take_invoke(bytes: &[u8]) -> Option<(RunLine, &[u8])>
-    ensures some { IfSome result (λ p. Begins IsRunLineInRange run_spelling 10 (run_head_spelling heads.Invoke ++ 32 ∷ bytes.now) p.0 p.1.now) }
-    ensures none { IfNone result (BeginsWithNone IsRunLineInRange run_spelling 10 (run_head_spelling heads.Invoke ++ 32 ∷ bytes.now)) }
-{
-    let Some((parts, rest)) = take_run_parts(RunHead::Invoke, bytes) else {
-        return None;
-    };
-    let (code, (datum, (_equals, (code_word, datum_word)))): InvokeParts = parts;
-    let step = RunStep::Invoke {
-        code: code.number(),
-        datum: datum.number(),
-        code_word,
-        datum_word,
-    };
-    Some((RunLine::Run(step), rest))
 }

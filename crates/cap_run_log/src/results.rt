@@ -4,7 +4,7 @@ ghost use Rattle.std.specs.Prelude.{◌∷◌, ◌++◌, codes};
 ghost use Rattle.cap_word.specs.Digits.{hex_digits};
 ghost use Rattle.cap_log.specs.Lines.{IsWord, tag_spelling};
 
-use crate::parts::{Equals, Tag};
+use crate::parts::{EQUALS, Tag};
 use cap_log::Part;
 use cap_word::{Cap, Word};
 
@@ -32,8 +32,12 @@ impl Part for Results {
         if bytes.len() < RESULTS_LENGTH {
             return None;
         }
-        let (general, others) = Cap::take(bytes, b' ')?;
-        let ((tag, word), rest) = <(Tag, Word)>::take(others, end)?;
+        let Some((general, others)) = Cap::take(bytes, b' ') else {
+            return None;
+        };
+        let Some(((tag, word), rest)) = <(Tag, Word)>::take(others, end) else {
+            return None;
+        };
         let special = Cap { tag: tag.0, word };
         let results = Results { general, special };
         Some((results, rest))
@@ -43,7 +47,7 @@ impl Part for Results {
     fn write(&self, buffer: &mut [u8], at: usize) -> usize {
         let special = (Tag(self.special.tag), self.special.word);
         let words = (
-            Equals,
+            EQUALS,
             (Tag(self.general.tag), (self.general.word, special)),
         );
         words.write(buffer, at)

@@ -10,7 +10,8 @@ ghost use Rattle.cap_run_log.specs.declared.lines.RunStep.TheVariants as steps;
 
 use crate::heads::RunHead;
 use crate::lines::{RunLine, RunRegister, RunStep};
-use crate::parts::{Equals, Freed, Granule, Handed, One, Source, Special, Tag, Written};
+use crate::parts::{EQUALS, Freed, Granule, Handed, ONE, Source, Special, Written};
+use crate::results::Results;
 use cap_log::buffers::put;
 use cap_log::{Line, Part, write_line};
 use cap_word::Cap;
@@ -27,7 +28,7 @@ pub fn write_run_line(line: &RunLine, buffer: &mut [u8; 96]) -> usize
         RunLine::Mode(mode) => write_line(&Line::Mode(mode), buffer),
         RunLine::Step(step) => write_line(&Line::Step(step), buffer),
         RunLine::End(steps) => write_line(&Line::End(steps), buffer),
-        RunLine::Version => end_line(line, RunHead::Version, One, buffer),
+        RunLine::Version => end_line(line, RunHead::Version, ONE, buffer),
         RunLine::Root(place, word) => end_line(line, RunHead::Root, (place, word), buffer),
         RunLine::Run(step) => write_run_step(line, step, buffer),
     }
@@ -54,17 +55,14 @@ pub fn write_exchange(
         result: recorded,
         special_result: special_recorded,
     });
-    let second = (Tag(special_recorded.tag), special_recorded.word);
-    let results = (Tag(recorded.tag), (recorded.word, second));
-    let special = (Special(special), (Equals, results));
+    let results = Results {
+        general: recorded,
+        special: special_recorded,
+    };
     let source = Source(RunRegister::General(source));
     let target = Written(RunRegister::General(target));
-    end_line(
-        &line,
-        RunHead::Exchange,
-        (target, (source, special)),
-        buffer,
-    )
+    let parts = (target, (source, (Special(special), results)));
+    end_line(&line, RunHead::Exchange, parts, buffer)
 }
 
 // Writes a line by its head and the parts after it, with a line feed.
@@ -127,7 +125,7 @@ fn write_run_step(line: &RunLine, step: RunStep, buffer: &mut [u8; 96]) -> usize
             code_word,
             datum_word,
         } => {
-            let words = (Equals, (code_word, datum_word));
+            let words = (EQUALS, (code_word, datum_word));
             let datum = Source(RunRegister::General(datum));
             let code = Source(RunRegister::General(code));
             end_line(line, RunHead::Invoke, (code, (datum, words)), buffer)

@@ -1,6 +1,5 @@
 use Rattle.cap_run_log.proofs.PartLemmas.{no_run_place}
 use Rattle.cap_run_log.proofs.parts.RunPlacePart.take.Goals as goal
 
-pub returns-in_default-take-2-clause-none : goal.returns-in_default-take-2-clause-none
-returns-in_default-take-2-clause-none c =
-    no_run_place c.args.end c.args.bytes.now c.in_default.ensures.none c.in_default-take.ensures.none c.in_default-take-2.ensures.none
+pub returns-in_default-take-clause-none : goal.returns-in_default-take-clause-none
+returns-in_default-take-clause-none c = no_run_place c.args.end c.args.bytes.now c.in_default.ensures.none c.in_default-take.ensures.none

@@ -7,16 +7,15 @@ pub returns-then-bytes-lt-RESULTS_LENGTH-clause-none : goal.returns-then-bytes-l
 returns-then-bytes-lt-RESULTS_LENGTH-clause-none c =
     no_results c.args.end c.args.bytes.now (omega (arith, c.if-bytes-lt-RESULTS_LENGTH.true))
 
-pub returns-in_err-general-clause-none : goal.returns-in_err-general-clause-none
-returns-in_err-general-clause-none c = rw c.from_residual.ensures (no_general c.args.end c.args.bytes.now c.in_err-general.ensures.none)
+pub returns-in_default-clause-none : goal.returns-in_default-clause-none
+returns-in_default-clause-none c = no_general c.args.end c.args.bytes.now c.in_default.ensures.none
 
-pub returns-in_err-tag-clause-none : goal.returns-in_err-tag-clause-none
-returns-in_err-tag-clause-none c =
-    rw c.from_residual-in_err-tag.ensures (no_second c.args.end c.args.bytes.now c.in_ok-general.others.now c.in_ok-general.general
-    c.in_ok-general.ensures.some.1 c.in_err-tag.ensures.none)
+pub returns-in_default-take-clause-none : goal.returns-in_default-take-clause-none
+returns-in_default-take-clause-none c =
+    no_second c.args.end c.args.bytes.now c.in-Some.others.now c.in-Some.general c.in-Some.ensures.some.1 c.in_default-take.ensures.none
 
 pub returns-clause-some : goal.returns-clause-some
 returns-clause-some c =
-    both_read c.args.end c.args.bytes.now c.in_ok-general.others.now c.in_ok-tag.rest.now
-    (record { general = c.in_ok-general.general; special = record { tag = c.in_ok-tag.tag.0; word = c.in_ok-tag.word } })
-    c.in_ok-general.ensures.some c.in_ok-tag.ensures.some
+    both_read c.args.end c.args.bytes.now c.in-Some.others.now c.in-Some-take.rest.now
+    (record { general = c.in-Some.general; special = record { tag = c.in-Some-take.tag.0; word = c.in-Some-take.word } })
+    c.in-Some.ensures.some c.in-Some-take.ensures.some
