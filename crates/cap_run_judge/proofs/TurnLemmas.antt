@@ -1,6 +1,6 @@
 -- What lines lead to, and where a judge of run logs stops.
-use Rattle.std.proofs.Common.{◌≡◌, ◌≢◌, ℕ, ◌+◌, ◌-◌, inl, inr, false, List, [], ◌∷◌, ◌++◌, length, take, drop}
-use Rattle.std.proofs.Common.{refl, sym, ap, subst, ◌∙◌, map, append-nil, append_assoc, Bool, Option, Some, Result, Ok, Err}
+use Rattle.std.proofs.Common.{◌≡◌, ◌≢◌, ◌<◌, ℕ, ◌+◌, ◌-◌, arith, inl, inr, false, List, [], ◌∷◌, ◌++◌, length, take, drop}
+use Rattle.std.proofs.Common.{refl, sym, ap, subst, ◌∙◌, map, append-nil, append_assoc, length-append, Bool, Option, Some, Result, Ok, Err}
 use Rattle.std.proofs.lemmas.{Grind.flat_map-append}
 use Rattle.std.specs.List.{AllByRecursion}
 use Rattle.cap_log.specs.{declared.kinds.Step.Step, Lines.IsStepInRange, Parts.Begins}
@@ -52,6 +52,10 @@ one_goes old new line range takes = record {
   bytes_are = sym (append-nil _);
   reads = (takes.0, sym takes.1);
 }
+
+-- what follows a line is shorter
+pub line_shorter : (bytes rest : List ℕ) (line : RunLine) → Begins IsRunLineInRange run_spelling 10 bytes line rest → length rest < length bytes
+line_shorter bytes rest line begins = rw begins.1 (omega (arith, length-append (run_spelling line) (10 ∷ rest)))
 
 -- one line more
 pub goes_line : (first old new : Stage) (bytes front rest behind : List ℕ) (line : RunLine) → bytes ≡ front ++ rest

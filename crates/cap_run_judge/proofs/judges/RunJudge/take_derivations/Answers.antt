@@ -1,6 +1,6 @@
 use Rattle.std.proofs.Common.{[], refl, subst, sym}
 use Rattle.cap_run_judge.specs.{Readings.stage_of, Turns.{Goes, Stage}}
-use Rattle.cap_run_judge.proofs.TurnLemmas.{goes_line, goes_none}
+use Rattle.cap_run_judge.proofs.TurnLemmas.{goes_line, goes_none, line_shorter}
 use Rattle.cap_run_judge.proofs.judges.RunJudge.take_derivations.Goals as goal
 
 pub lines-init : goal.lines-init
@@ -27,3 +27,12 @@ lines-preserved g c =
           line.0 so_far.1 (subst (λ (stage : Stage). Goes first so_far.0 stage) (sym c.in-None.ensures.none) so_far.2) line.1 line.2;
       body = c.take_derive.ensures.body;
     }
+
+pub lines-smaller-in-Some : goal.lines-smaller-in-Some
+lines-smaller-in-Some g c = let line = c.in-Some.ensures.some in line_shorter _ _ line.0 line.1
+
+pub lines-smaller : goal.lines-smaller
+lines-smaller g c = let line = c.in-Some-take_derive.ensures.some in line_shorter _ _ line.0 line.1
+
+pub returns-in-None-take_derive-clause-taken : goal.returns-in-None-take_derive-clause-taken
+returns-in-None-take_derive-clause-taken g c = rw (c.in-None-take_derive.ensures.none, c.in-None.ensures.none) c.lines.invariant.taken

@@ -21,3 +21,10 @@ returns-in-None-clause-taken g c = rw c.write_run_line-length.ensures.line.writt
 pub returns-in-None-clause-line : goal.returns-in-None-clause-line
 returns-in-None-clause-line g c = λ is.
     line_is_line _ c.requires.range (subst IsNoLine c.write_run_line-length.ensures.line.written (c.take_line.ensures.no_line.0 is))
+
+pub take_end-requires : goal.take_end-requires
+take_end-requires g c =
+    record { ends = (c.args.line.now, (c.requires.range, c.write_run_line-length.ensures.line.written), rw c.in-Some.is at c.requires.ends) }
+
+pub returns-in-None-clause-no_memory : goal.returns-in-None-clause-no_memory
+returns-in-None-clause-no_memory g c = rw c.write_run_line-length.ensures.line.written at c.take_line.ensures.no_memory
