@@ -1,7 +1,9 @@
-use Rattle.std.proofs.Common.{refl, subst, sym}
+use Rattle.std.proofs.Common.{◌++◌, refl, subst, sym}
+use Rattle.cap_streams.specs.Written.{◌⨾◌}
+use Rattle.cap_texts.specs.TextLines.{says_line}
 use Rattle.cap_run_judge.specs.Readings.{run_in}
 use Rattle.cap_run_log.specs.declared.lines.RunLine.{RunLine}
-use Rattle.cap_run_report.specs.LineReports.{AreKnownLines, root_lines}
+use Rattle.cap_run_report.specs.{LineReports.{AreKnownLines, root_lines}, RunSentences.run_sentence}
 use Rattle.cap_run_report.proofs.line_reports.put_known.Goals as goal
 
 pub returns-in-Root-clause-written : goal.returns-in-Root-clause-written
@@ -9,3 +11,18 @@ returns-in-Root-clause-written g c =
     let run = run_in c.args.machine.now in
     let told = root_lines run c.in-Root.place c.in-Root.word c.args.refusal in
     (told, subst (λ (line : RunLine). AreKnownLines run line c.args.refusal told) (sym c.in-Root.is) refl, c.put_root.ensures.written)
+
+pub returns-in-Step-clause-written : goal.returns-in-Step-clause-written
+returns-in-Step-clause-written g c =
+    let told = c.put_usual.ensures.written in
+    (told.0, subst (λ (line : RunLine). AreKnownLines (run_in c.args.machine.now) line c.args.refusal told.0) (sym c.in-Step.is) told.1, told.2)
+
+pub returns-in-Run-clause-written : goal.returns-in-Run-clause-written
+returns-in-Run-clause-written g c =
+    let told = c.put_run_step-at.ensures.written in
+    let says = rw c.run_sentence.ensures.sentence at c.put_says.ensures.written in
+    let all = told.0 ++ says_line (run_sentence c.args.refusal) in (
+      all,
+      subst (λ (line : RunLine). AreKnownLines (run_in c.args.machine.now) line c.args.refusal all) (sym c.in-Run.is) (told.0, told.1, refl),
+      told.2 ⨾ says,
+    )

@@ -1,13 +1,58 @@
-use Rattle.std.proofs.Common.{subst, sym}
+use Rattle.std.proofs.Common.{◌≡◌, ℕ, List, refl, subst, sym}
+use Rattle.cap_streams.specs.Written.{Writes}
+use Rattle.cap_run.specs.{declared.ends.RunRefusal.RunRefusal, Run.Run}
 use Rattle.cap_run_judge.specs.Readings.{run_in}
-use Rattle.cap_run_log.specs.declared.lines.RunStep.{RunStep}
-use Rattle.cap_run_report.specs.StepParts.{AreRunStepLines}
+use Rattle.cap_run_log.specs.declared.lines.{RunRegister.TheVariants.{General, Special}, RunStep.RunStep}
+use Rattle.cap_run_report.specs.StepParts.{AreRunStepLines, derived_lines, exchanged_lines, invoked_lines}
 use Rattle.cap_run_report.proofs.step_parts.put_run_step.Goals as goal
+
+abbrev Tells : Run → RunRefusal → ℕ → List ℕ → List ℕ → ℕ → RunStep → Type 0
+Tells run refusal at old new end step = (told : List ℕ) × AreRunStepLines run step refusal told × Writes at told old new end
+
+-- what is told of a step is told of what its variant says
+by_variant : (run : Run) (refusal : RunRefusal) (at : ℕ) (old new : List ℕ) (end : ℕ) (step it : RunStep) → step ≡ it
+    → Tells run refusal at old new end it → Tells run refusal at old new end step
+by_variant run refusal at old new end step it is = subst (Tells run refusal at old new end) (sym is)
+
+pub returns-in-Derive-clause-written : goal.returns-in-Derive-clause-written
+returns-in-Derive-clause-written g c =
+    let run = run_in c.args.machine.now in
+    by_variant run c.args.refusal c.args.at c.args.buffer.now c.put_derived.new.buffer c.put_derived.result _ _ c.in-Derive.is
+    (derived_lines run c.in-Derive.target c.in-Derive.source c.in-Derive.recorded, refl, c.put_derived.ensures.written)
+
+pub returns-in-Exchange-clause-written : goal.returns-in-Exchange-clause-written
+returns-in-Exchange-clause-written g c =
+    let run = run_in c.args.machine.now in
+    by_variant run c.args.refusal c.args.at c.args.buffer.now c.put_exchanged.new.buffer c.put_exchanged.result _ _ c.in-Exchange.is
+    (exchanged_lines run (General c.in-Exchange.target) (General c.in-Exchange.source) (Special c.in-Exchange.special) c.in-Exchange.recorded c.in-Exchange.special_result,
+    refl, c.put_exchanged.ensures.written)
+
+pub returns-in-Invoke-clause-written : goal.returns-in-Invoke-clause-written
+returns-in-Invoke-clause-written g c =
+    let run = run_in c.args.machine.now in
+    by_variant run c.args.refusal c.args.at c.args.buffer.now c.put_invoked.new.buffer c.put_invoked.result _ _ c.in-Invoke.is
+    (invoked_lines run c.in-Invoke.code c.in-Invoke.datum c.in-Invoke.code_word c.in-Invoke.datum_word c.args.refusal, refl, c.put_invoked.ensures.written)
+
+pub returns-in-Object-clause-written : goal.returns-in-Object-clause-written
+returns-in-Object-clause-written g c =
+    let run = run_in c.args.machine.now in
+    by_variant run c.args.refusal c.args.at c.args.buffer.now c.put_object_step.new.buffer c.put_object_step.result _ _ c.in-Object.is
+    c.put_object_step.ensures.written
 
 pub returns-in-Widen-clause-written : goal.returns-in-Widen-clause-written
 returns-in-Widen-clause-written g c =
-    let told = c.put_object_step-in-Widen.ensures.written in (
-      told.0,
-      subst (λ (s : RunStep). AreRunStepLines (run_in c.args.machine.now) s c.args.refusal told.0) (sym c.in-Widen.is) told.1,
-      told.2,
-    )
+    let run = run_in c.args.machine.now in
+    by_variant run c.args.refusal c.args.at c.args.buffer.now c.put_object_step-in-Widen.new.buffer c.put_object_step-in-Widen.result _ _ c.in-Widen.is
+    c.put_object_step-in-Widen.ensures.written
+
+pub returns-in-FreeOwner-clause-written : goal.returns-in-FreeOwner-clause-written
+returns-in-FreeOwner-clause-written g c =
+    let run = run_in c.args.machine.now in
+    by_variant run c.args.refusal c.args.at c.args.buffer.now c.put_object_step-in-FreeOwner.new.buffer c.put_object_step-in-FreeOwner.result _ _ c.in-FreeOwner.is
+    c.put_object_step-in-FreeOwner.ensures.written
+
+pub returns-in-FreeNumber-clause-written : goal.returns-in-FreeNumber-clause-written
+returns-in-FreeNumber-clause-written g c =
+    let run = run_in c.args.machine.now in
+    by_variant run c.args.refusal c.args.at c.args.buffer.now c.put_free_step.new.buffer c.put_free_step.result _ _ c.in-FreeNumber.is
+    c.put_free_step.ensures.written
