@@ -6,7 +6,7 @@ use Rattle.cap_texts.specs.CapLines.{meaning_lines}
 use Rattle.cap_run_log.specs.declared.lines.{RunPlace.{RunPlace, TheVariants.{General, Special, Granule}}, RunRegister.RunRegister}
 use Rattle.cap_run_log.specs.declared.lines.RunRegister.TheVariants as registers
 use Rattle.cap_run_log.specs.RunLines.{run_place_spelling}
-use Rattle.cap_run.specs.{Run.{Run, register_key}, RunChanges.place_key}
+use Rattle.cap_run.specs.{Run.{Run, register_key}}
 
 -- a place that can be read: c0 too
 abbrev pub IsReadable : RunPlace → Type 0

@@ -23,9 +23,11 @@ returns-in-Derive-clause-written g c =
 pub returns-in-Exchange-clause-written : goal.returns-in-Exchange-clause-written
 returns-in-Exchange-clause-written g c =
     let run = run_in c.args.machine.now in
-    by_variant run c.args.refusal c.args.at c.args.buffer.now c.put_exchanged.new.buffer c.put_exchanged.result _ _ c.in-Exchange.is
-    (exchanged_lines run (General c.in-Exchange.target) (General c.in-Exchange.source) (Special c.in-Exchange.special) c.in-Exchange.recorded c.in-Exchange.special_result,
-    refl, c.put_exchanged.ensures.written)
+    by_variant run c.args.refusal c.args.at c.args.buffer.now c.put_exchanged.new.buffer c.put_exchanged.result _ _ c.in-Exchange.is (
+      exchanged_lines run (General c.in-Exchange.target) (General c.in-Exchange.source) (Special c.in-Exchange.special) c.in-Exchange.recorded c.in-Exchange.special_result,
+      refl,
+      c.put_exchanged.ensures.written,
+    )
 
 pub returns-in-Invoke-clause-written : goal.returns-in-Invoke-clause-written
 returns-in-Invoke-clause-written g c =
