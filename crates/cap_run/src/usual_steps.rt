@@ -136,15 +136,10 @@ impl<M: TaggedStore> RunMachine<M> {
     {
         self.machine.kept();
         let written = kind.written(&self.machine);
-        let from = owner_at(&self.machine, written);
-        if let Err(end) = kind.perform(&mut self.machine) {
-            return Err(usual_ended(end));
+        match self.step_of_kind(kind, written) {
+            Ok(()) => Ok(()),
+            Err(end) => Err(usual_ended(end)),
         }
-        self.machine.kept();
-        disown(&mut self.machine, written);
-        let to = owner_at(&self.machine, written);
-        recount(&mut self.objects, from, to);
-        Ok(())
     }
 
     // Why what is asked refuses a step that its own checks permit: nothing, where nothing is asked.
@@ -227,6 +222,36 @@ impl<M: TaggedStore> RunMachine<M> {
         self.machine.kept();
         let from = owner_at(&self.machine, written);
         if let Err(end) = self.machine.step(step) {
+            return Err(end);
+        }
+        self.machine.kept();
+        disown(&mut self.machine, written);
+        let to = owner_at(&self.machine, written);
+        recount(&mut self.objects, from, to);
+        Ok(())
+    }
+
+    // Makes a step of one kind, which writes this place, if any, as the machine without objects does.
+    #[inline(always)]
+    fn step_of_kind<I: Instruction>(
+        &mut self,
+        kind: I,
+        written: Option<Place>,
+    ) -> Result<(), StepEnd>
+        requires written { written ≡ written_by (state_of self.old.machine) (I.step kind) }
+        requires in_range { IfSome written IsPlace }
+        requires range { IsStepInRange (I.step kind) }
+        ensures outcome { MatchResult result
+            (λ _. MakesUsual self.old.machine (objects_of self.old.objects) (I.step kind) self.new.machine (objects_of self.new.objects))
+            (λ end. EndsStep self.old.machine (I.step kind) end self.new.machine) }
+        ensures specials { self.new.specials ≡ self.old.specials }
+        ensures err { OnErr result (self.new.objects ≡ self.old.objects) }
+        ensures count { self.new.objects.count ≡ self.old.objects.count }
+        ensures asks { self.new.asks ≡ self.old.asks }
+    {
+        self.machine.kept();
+        let from = owner_at(&self.machine, written);
+        if let Err(end) = kind.perform(&mut self.machine) {
             return Err(end);
         }
         self.machine.kept();

@@ -1,94 +1,36 @@
-use Rattle.std.proofs.Common.{option_map, sym, ap, subst, ◌∙◌, arith}
+use Rattle.std.proofs.Common.{◌≡◌, ap, option_map, subst, sym, ◌∙◌}
 use Rattle.std.specs.Prelude.{Err}
-use Rattle.cap_machine.specs.{Accounts.Account, Helds.{Held, account_of, state_of}, Steps.Leads}
-use Rattle.cap_objects.specs.{Counts.CountsAre, Handed.held_of, HandoutsIn.objects_of}
-use Rattle.cap_objects.proofs.BelowLemmas.{counts_few}
 use Rattle.cap_run.specs.declared.ends.{RunEnd.RunEnd, RunRefusal.TheVariants.Usual}
-use Rattle.cap_run.specs.{Numbers.numbered_run, Owned.AreWithin, RunChanges.usual_after, RunChecks.{Answers, usual_end, usual_wants}}
-use Rattle.cap_run.specs.{RunOf.{run_owners, run_state}, UsualSteps.MakesUsual}
-use Rattle.cap_run.proofs.UsualLemmas.{unstepped-account, counts-usual, from-there, to-there, usual-ended, usual-owners, within-usual}
+use Rattle.cap_run.specs.{Numbers.numbered_run, RunChanges.usual_after, RunChecks.{Answers, usual_end, usual_ended, usual_wants}}
+use Rattle.cap_objects.specs.{Counts.CountsAre, Handed.held_of, HandoutsIn.objects_of}
+use Rattle.cap_run.specs.{declared.specials.Specials.Specials, Run.Run, RunOf.run_owners}
+use Rattle.cap_machine.specs.Helds.{state_of}
 use Rattle.cap_run.proofs.UsualNumberLemmas.{asks_nothing, usual-end, usual-numbered, usual-refused, writes-low}
 use Rattle.cap_run.proofs.run_machine.RunMachine.usual_kind.Goals as goal
 
-pub invariant_of-self : goal.invariant_of-self
-invariant_of-self g c =
+pub returns-in-Ok-clause-outcome : goal.returns-in-Ok-clause-outcome
+returns-in-Ok-clause-outcome g c =
     let s = c.args.self.now in
-    let same = usual-ended s.machine (g.I.Operands.step c.args.kind) c.in-Err.end c.perform.new.machine c.in-Err.ensures.outcome in
-    record {
-      counted = subst (λ (h : Held). CountsAre (run_owners h s.specials) (λ n. held_of (objects_of s.objects n))) (sym same) s.counted;
-      within = subst (λ (h : Held). AreWithin (run_state h s.specials) (run_owners h s.specials) (objects_of s.objects)) (sym same) s.within;
-      few = let steps = ap (λ (h : Held). h.steps) same in omega (arith, s.few, steps);
-      asked = s.asked;
-    }
-
-pub recount-requires-clause-from : goal.recount-requires-clause-from
-recount-requires-clause-from g c slot is =
-    let s = c.args.self.now in
-    from-there s.machine c.perform.new.machine c.disown.new.machine s.specials (g.I.Operands.step c.args.kind) c.written-written.result c.requires c.kept.ensures.kept c.kept.ensures.stored
-    c.kept-2.ensures.kept c.in_default.ensures.outcome c.written-written.ensures.place c.written-written.ensures.in_range c.disown.ensures.state c.disown.ensures.owners
-    (objects_of s.objects) s.counted slot (sym c.owner_at-from.ensures ∙ is)
-
-pub recount-requires-clause-to : goal.recount-requires-clause-to
-recount-requires-clause-to g c slot is =
-    let s = c.args.self.now in
-    to-there s.machine c.perform.new.machine c.disown.new.machine s.specials (g.I.Operands.step c.args.kind) c.written-written.result c.requires c.kept.ensures.kept c.kept.ensures.stored
-    c.kept-2.ensures.kept c.in_default.ensures.outcome c.written-written.ensures.place c.written-written.ensures.in_range c.disown.ensures.state c.disown.ensures.owners
-    (objects_of s.objects) s.counted slot (sym c.owner_at-to.ensures ∙ is)
-
-pub recount-requires-clause-few : goal.recount-requires-clause-few
-recount-requires-clause-few g c slot =
-    let s = c.args.self.now in
-    counts_few (run_owners s.machine s.specials) (λ n. held_of (objects_of s.objects n)) slot s.counted
-
-pub invariant_of-self-2 : goal.invariant_of-self-2
-invariant_of-self-2 g c =
-    let s = c.args.self.now in
-    record {
-      counted = counts-usual s.machine c.perform.new.machine c.disown.new.machine s.specials (g.I.Operands.step c.args.kind) c.written-written.result c.requires c.kept.ensures.kept c.kept.ensures.stored
-          c.kept-2.ensures.kept c.in_default.ensures.outcome c.written-written.ensures.place c.written-written.ensures.in_range c.disown.ensures.state c.disown.ensures.owners
-          (objects_of s.objects) s.counted c.owner_at-from.result c.owner_at-to.result (λ n. held_of (objects_of c.recount.new.objects n))
-          c.owner_at-from.ensures c.owner_at-to.ensures c.recount.ensures.moves;
-      within = within-usual s.machine c.perform.new.machine c.disown.new.machine s.specials (g.I.Operands.step c.args.kind) c.written-written.result c.requires c.kept.ensures.kept c.kept.ensures.stored
-          c.kept-2.ensures.kept c.in_default.ensures.outcome c.written-written.ensures.place c.written-written.ensures.in_range c.disown.ensures.state c.disown.ensures.owners
-          (objects_of s.objects) (objects_of c.recount.new.objects) s.within c.recount.ensures.rest;
-      few =
-          let count = c.recount.ensures.same.0 in
-          let made = ap (λ (a : Account). a.steps) c.in_default.ensures.outcome.account in
-          let same = c.disown.ensures.rest.3 in
-          omega (arith, s.few, count, made, same);
-      asked = c.recount.ensures.same.1 ∙ s.asked;
-    }
+    let n = c.step_of_kind.new.self in
+    let step = (g.I.Operands.step c.args.kind) in
+    let makes = c.in-Ok.ensures.outcome in
+    let low = writes-low (state_of s.machine) step c.requires in (
+      usual-end s.machine s.specials s.objects step s.asks c.kept.ensures.stored ∙ ap (option_map Usual) makes.checks,
+      subst (λ (x : Specials). numbered_run n.machine x n.objects ≡ usual_after (numbered_run s.machine s.specials s.objects) step) (sym c.in-Ok.ensures.specials)
+          (usual-numbered s.machine n.machine s.specials s.objects n.objects step c.requires c.kept.ensures.stored s.specials.sized.1
+          (subst (λ (x : Specials). CountsAre (run_owners n.machine x) (λ slot. held_of (objects_of n.objects slot))) c.in-Ok.ensures.specials n.counted)
+          s.objects.kept.numbered n.objects.kept.numbered low c.in-Ok.ensures.count makes),
+    )
 
 pub returns-in-Err-clause-outcome : goal.returns-in-Err-clause-outcome
 returns-in-Err-clause-outcome g c =
     let s = c.args.self.now in
-    let step = g.I.Operands.step c.args.kind in
+    let n = c.step_of_kind.new.self in
+    let step = (g.I.Operands.step c.args.kind) in
     let run = numbered_run s.machine s.specials s.objects in
-    subst (λ (e : RunEnd). Answers (usual_end (asks_nothing s.asks) run step) (usual_after run step) (usual_wants run step) run (Err e)
-    (numbered_run c.perform.new.machine s.specials s.objects)) (sym c.usual_ended.ensures)
-    (usual-refused s.machine c.perform.new.machine s.specials s.objects step s.asks c.in-Err.end c.kept.ensures.stored c.in-Err.ensures.outcome)
-
-pub returns-clause-outcome : goal.returns-clause-outcome
-returns-clause-outcome g c =
-    let s = c.args.self.now in
-    let step = g.I.Operands.step c.args.kind in
-    let made = c.in_default.ensures.outcome in
-    let after = c.recount.new.objects in
-    let makes : MakesUsual s.machine (objects_of s.objects) step c.disown.new.machine (objects_of after) =
-    record {
-      checks = made.checks;
-      account = unstepped-account c.perform.new.machine c.disown.new.machine c.disown.ensures.rest c.disown.ensures.state
-          ∙ ap (λ (a : Account). record a { origin = (account_of c.disown.new.machine).origin }) made.account;
-      leads = subst (Leads s.machine.rules (state_of s.machine) (g.I.Operands.step c.args.kind)) (sym c.disown.ensures.state) made.leads;
-      owners = usual-owners s.machine c.perform.new.machine c.disown.new.machine s.specials (g.I.Operands.step c.args.kind) c.written-written.result c.requires c.kept.ensures.kept c.kept.ensures.stored
-          c.kept-2.ensures.kept c.in_default.ensures.outcome c.written-written.ensures.place c.written-written.ensures.in_range c.disown.ensures.state c.disown.ensures.owners;
-      recounted = c.recount.ensures.rest;
-    } in
-    let counts = counts-usual s.machine c.perform.new.machine c.disown.new.machine s.specials step c.written-written.result c.requires c.kept.ensures.kept c.kept.ensures.stored
-    c.kept-2.ensures.kept c.in_default.ensures.outcome c.written-written.ensures.place c.written-written.ensures.in_range c.disown.ensures.state c.disown.ensures.owners
-    (objects_of s.objects) s.counted c.owner_at-from.result c.owner_at-to.result (λ n. held_of (objects_of after n))
-    c.owner_at-from.ensures c.owner_at-to.ensures c.recount.ensures.moves in (
-      usual-end s.machine s.specials s.objects step s.asks c.kept.ensures.stored ∙ ap (option_map Usual) makes.checks,
-      usual-numbered s.machine c.disown.new.machine s.specials s.objects after step c.requires c.kept.ensures.stored s.specials.sized.1 counts
-          s.objects.kept.numbered after.kept.numbered (writes-low (state_of s.machine) step c.requires) c.recount.ensures.same.0 makes,
-    )
+    let answers : RunEnd → Run → Type 0 = λ e new. Answers (usual_end (asks_nothing s.asks) run step) (usual_after run step) (usual_wants run step) run (Err e) new in
+    subst (λ (e : RunEnd). answers e (numbered_run n.machine n.specials n.objects)) (sym c.usual_ended.ensures)
+    (subst (answers (usual_ended c.in-Err.end))
+    (ap (λ (x : Specials). numbered_run n.machine x s.objects) (sym c.in-Err.ensures.specials)
+    ∙ ap (numbered_run n.machine n.specials) (sym c.in-Err.ensures.err))
+    (usual-refused s.machine n.machine s.specials s.objects step s.asks c.in-Err.end c.kept.ensures.stored c.in-Err.ensures.outcome))
