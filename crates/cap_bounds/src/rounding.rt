@@ -193,8 +193,6 @@ pub fn round(base: u64, length: u64) -> Rounded
 #[inline(always)]
 fn replace_bounds(word: Word, rounded: &Rounded, address: u64) -> Word
     ensures word { result.0 ≡ bounded_word word.0 rounded.now.ie rounded.now.e rounded.now.b rounded.now.t address }
-    ensures kept { result.0 / 2 ^ 91 ≡ word.0 / 2 ^ 91 }
-    ensures address { address_of result.0 ≡ address }
 {
     let e = u64::from(rounded.e);
     let high = ((word.0 >> 91) as u64) << 27;

@@ -1,8 +1,8 @@
-use Rattle.std.proofs.Common.{ap, ◌∙◌, arith}
-use Rattle.cap_word.specs.Fields.{ie_of, e_of, b_of, t_of}
+use Rattle.std.proofs.Common.{◌/◌, ◌^◌, ap, ◌∙◌, arith}
+use Rattle.cap_word.specs.Fields.{address_of, ie_of, e_of, b_of, t_of}
 use Rattle.cap_bounds.specs.declared.rounding.Rounded.{Rounded}
-use Rattle.cap_bounds.proofs.BoundedWords.{AreFields, ie_of-bounded_word, e_of-bounded_word, b_of-bounded_word}
-use Rattle.cap_bounds.proofs.{BoundedWords.t_of-bounded_word, RoundedWords.decodes}
+use Rattle.cap_bounds.proofs.BoundedWords.{AreFields, above-bounded_word, address_of-bounded_word, ie_of-bounded_word}
+use Rattle.cap_bounds.proofs.{BoundedWords.{e_of-bounded_word, b_of-bounded_word, t_of-bounded_word}, RoundedWords.decodes}
 use Rattle.cap_bounds.proofs.rounding.with_bounds.Goals as goal
 
 -- a rounding's fields are fields of a word
@@ -23,8 +23,8 @@ returns c =
     let is = c.replace_bounds.ensures.word in
     record {
       word = is;
-      kept = c.replace_bounds.ensures.kept;
-      address = c.replace_bounds.ensures.address;
+      kept = ap (λ x. x / 2 ^ 91) is ∙ above-bounded_word w r.ie r.e r.b r.t c.args.address (omega arith) (fields r);
+      address = ap address_of is ∙ address_of-bounded_word w r.ie r.e r.b r.t c.args.address (omega arith) (fields r);
       ie = ap ie_of is ∙ ie_of-bounded_word w r.ie r.e r.b r.t c.args.address (omega arith) (fields r);
       e = ap e_of is ∙ e_of-bounded_word w r.ie r.e r.b r.t c.args.address (omega arith) (fields r);
       b = ap b_of is ∙ b_of-bounded_word w r.ie r.e r.b r.t c.args.address (omega arith) (fields r);
