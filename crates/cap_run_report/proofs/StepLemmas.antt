@@ -1,16 +1,18 @@
 -- What is told of a line for its refusal.
-use Rattle.std.proofs.Common.{◌≡◌, ℕ, List, [], ◌++◌, Option, refl, subst}
+use Rattle.std.proofs.Common.{◌≡◌, ℕ, List, [], ◌++◌, codes, Option, refl, subst}
+use Rattle.cap_word.specs.declared.word.Word.{Word}
 use Rattle.cap_ops.specs.declared.refusal.Refusal.{Refusal, TheVariants.{BadHeader, BadLine, BadMode, LimitPassed, LineTooLong, Misplaced}}
-use Rattle.cap_ops.specs.declared.refusal.Refusal.TheVariants.{Truncated, WrongCount}
+use Rattle.cap_ops.specs.declared.refusal.Refusal.TheVariants.{Truncated, WrongCount, WrongResult}
 use Rattle.cap_log.specs.declared.kinds.Step.{Step}
 use Rattle.cap_machine.specs.{Accounts.Account, Shown.shown_of}
 use Rattle.cap_report.specs.{Parts.lines_of_parts, StepLines.asked_parts}
 use Rattle.cap_texts.specs.TextLines.{says_line}
+use Rattle.cap_run_log.specs.declared.lines.RunRegister.TheVariants.{General}
 use Rattle.cap_run.specs.declared.ends.RunRefusal.{RunRefusal}
 use Rattle.cap_run.specs.declared.ends.RunRefusal.TheVariants.{AlreadyFreed, HasOwner, NoObject, Overlaps, StillHeld, Usual}
 use Rattle.cap_run.specs.{Run.Run, RunChanges.account_in}
-use Rattle.cap_run_report.specs.{LineReports.{AreLineDetails, AreRunDetails, AreUsualDetails}, RunSentences.run_sentence}
-use Rattle.cap_run_report.specs.StepParts.{AreAccessLines, AreLifeLines, AreUsualLines}
+use Rattle.cap_run_report.specs.{CapParts.register_lines, LineReports.{AreLineDetails, AreRunDetails, AreUsualDetails}, RunSentences.run_sentence}
+use Rattle.cap_run_report.specs.StepParts.{AreAccessLines, AreLifeLines, AreUsualLines, invoked_lines}
 
 -- a step of version 2 that is refused for its owner
 pub usual_other : (run : Run) (step : Step) (refusal : RunRefusal) (access : List ℕ) → ((usual : Refusal) → refusal ≡ Usual usual → ⊥)
@@ -54,3 +56,16 @@ pub run_details : (run : Run) (text : List ℕ) (refusal : RunRefusal) (told : L
     → AreLineDetails run text refusal told → AreRunDetails run text refusal told
 run_details run text (Usual usual) told other is = absurd (other usual refl)
 run_details run text refusal told other is = is
+
+-- a pair is invoked in vain for another reason than a recorded word
+pub invoked_other : (run : Run) (code : ℕ) (datum : ℕ) (code_word : Word) (datum_word : Word) (refusal : RunRefusal)
+    → ((usual : Refusal) → refusal ≡ Usual usual → ⊥) → invoked_lines run code datum code_word datum_word refusal
+    ≡ register_lines (codes "code") run (General code) ++ (register_lines (codes "data") run (General datum) ++ [])
+invoked_other run code datum code_word datum_word (Usual usual) other = absurd (other usual refl)
+invoked_other run code datum code_word datum_word refusal other = refl
+
+pub invoked_usual : (run : Run) (code : ℕ) (datum : ℕ) (code_word : Word) (datum_word : Word) (refusal : Refusal)
+    → (refusal ≡ WrongResult → ⊥) → invoked_lines run code datum code_word datum_word (Usual refusal)
+    ≡ register_lines (codes "code") run (General code) ++ (register_lines (codes "data") run (General datum) ++ [])
+invoked_usual run code datum code_word datum_word WrongResult other = absurd (other refl)
+invoked_usual run code datum code_word datum_word refusal other = refl

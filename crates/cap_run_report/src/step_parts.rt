@@ -181,8 +181,11 @@ fn put_invoked<M: TaggedStore>(
     let (code, datum) = (RunRegister::General(code), RunRegister::General(datum));
     let at = put_register(machine, buffer, at, b"code", code);
     let at = put_register(machine, buffer, at, b"data", datum);
-    match refusal {
-        RunRefusal::Usual(Refusal::WrongResult) => {
+    let RunRefusal::Usual(fault) = refusal else {
+        return at;
+    };
+    match fault {
+        Refusal::WrongResult => {
             let code = machine.register(code).word;
             if is_opened(code, code_word) {
                 let datum = machine.register(datum).word;

@@ -1,7 +1,8 @@
-use Rattle.std.proofs.Common.{sym, ◌∙◌}
+use Rattle.std.proofs.Common.{sym, refl, ◌∙◌}
 use Rattle.cap_run_log.specs.declared.lines.RunRegister.TheVariants.{General, Special}
+use Rattle.cap_run.specs.declared.ends.RunEnd.TheVariants.{Refused}
 use Rattle.cap_run.specs.{Numbers.numbered_run, Run.register_key, RunOf.{run_owners, run_state}, RunSteps.{derived_refusal, or_later, step_limit}}
-use Rattle.cap_run.proofs.{EndLemmas.neither, RunNumberLemmas.both-numbered}
+use Rattle.cap_run.proofs.{EndLemmas.{first, later, neither}, RunNumberLemmas.both-numbered}
 use Rattle.cap_run.proofs.run_machine.RunMachine.exchange_apart.Goals as goal
 
 pub returns-clause-outcome : goal.returns-clause-outcome
@@ -18,3 +19,30 @@ returns-clause-outcome g c =
       both-numbered s.machine n.machine s.specials n.specials s.objects n.objects n.specials.sized.1 n.counted s.objects.kept.numbered n.objects.kept.numbered
           c.args.target key (owners key) (owners c.args.source) c.args.recorded c.args.special_recorded c.write_both.ensures.writes,
     )
+
+pub returns-in-Some-clause-outcome : goal.returns-in-Some-clause-outcome
+returns-in-Some-clause-outcome g c = (first _ _ c.in-Some.refusal (sym c.refusal_of_derived.ensures.value ∙ c.in-Some.is), refl)
+
+pub returns-in-Some-step_limit-clause-outcome : goal.returns-in-Some-step_limit-clause-outcome
+returns-in-Some-step_limit-clause-outcome g c =
+    let limit = sym c.step_limit.ensures.value ∙ c.in-Some-step_limit.is in
+    let end = Refused c.in-Some-step_limit.refusal in
+    let second = later _ _ end (sym c.refusal_of_derived-2.ensures.value ∙ c.in_default-refusal_of_derived.is) limit in
+    (later _ _ end (sym c.refusal_of_derived.ensures.value ∙ c.in_default.is) second, refl)
+
+pub write_both-requires-clause-sound : goal.write_both-requires-clause-sound
+write_both-requires-clause-sound g c =
+    let first = c.refusal_of_derived.ensures.within c.in_default.is in
+    let second = c.refusal_of_derived-2.ensures.within c.in_default-refusal_of_derived.is in (
+      λ tag. let within = first tag in within.sound tag (c.refusal_of_derived.ensures.sound (within.from_tagged tag)),
+      λ tag. let within = second tag in within.sound tag (c.refusal_of_derived-2.ensures.sound (within.from_tagged tag)),
+    )
+
+pub write_both-requires-clause-first_within : goal.write_both-requires-clause-first_within
+write_both-requires-clause-first_within g c = c.refusal_of_derived.ensures.within c.in_default.is
+
+pub write_both-requires-clause-source_sound : goal.write_both-requires-clause-source_sound
+write_both-requires-clause-source_sound g c = (c.refusal_of_derived.ensures.sound, c.refusal_of_derived-2.ensures.sound)
+
+pub write_both-requires-clause-second_within : goal.write_both-requires-clause-second_within
+write_both-requires-clause-second_within g c = c.refusal_of_derived-2.ensures.within c.in_default-refusal_of_derived.is

@@ -1,7 +1,7 @@
-use Rattle.std.proofs.Common.{sym, ◌∙◌}
+use Rattle.std.proofs.Common.{sym, refl, ◌∙◌}
 use Rattle.cap_machine.specs.States.{tagged}
 use Rattle.cap_run.specs.{Numbers.numbered_run, Run.first_special, RunOf.{run_owners, run_state}, RunSteps.{invoked_refusal, step_limit}}
-use Rattle.cap_run.proofs.{EndLemmas.neither, RunNumberLemmas.both-numbered}
+use Rattle.cap_run.proofs.{EndLemmas.{first, neither}, RunNumberLemmas.both-numbered}
 use Rattle.cap_run.proofs.run_machine.RunMachine.invoke.Goals as goal
 
 pub returns-clause-outcome : goal.returns-clause-outcome
@@ -15,3 +15,8 @@ returns-clause-outcome g c =
       both-numbered s.machine n.machine s.specials n.specials s.objects n.objects n.specials.sized.1 n.counted s.objects.kept.numbered n.objects.kept.numbered
           first_special 31 (owners c.args.code) (owners c.args.data_register) (tagged c.args.code_word) (tagged c.args.data_word) c.write_both.ensures.writes,
     )
+
+pub returns-in-Some-clause-outcome : goal.returns-in-Some-clause-outcome
+returns-in-Some-clause-outcome g c =
+    let value = rw (c.register.ensures.value, c.register-2.ensures.value) at c.invoked_refusal.ensures.value in
+    (first _ _ c.in-Some.refusal (sym value ∙ c.in-Some.is), refl)
