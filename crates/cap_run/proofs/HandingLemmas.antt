@@ -1,13 +1,13 @@
 -- Steps that hand out objects.
 use Rattle.std.specs.FinMap as map
-use Rattle.std.proofs.{Common.{◌≡◌, ◌==◌, ◌+◌, ◌-◌, ◌<◌, ◌≤◌, ◌&&◌, not, nat_le, nat_lt, ℕ, Bool, true, false, Some, None, Option, inl, inr}, Math.Path.fun_ext}
+use Rattle.std.proofs.{Common.{◌≡◌, ◌==◌, ◌+◌, ◌-◌, ◌<◌, ◌≤◌, ◌^◌, ◌&&◌, not, nat_le, nat_lt, ℕ, Bool, true, false, Some, None, Option, inl, inr}, Math.Path.fun_ext}
 use Rattle.std.proofs.Common.{if◌then◌else◌, is_some, MatchOption, le-ltb, lt-ltb, refl, sym, ap, subst, ◌∙◌, arith}
 use Rattle.std.proofs.lemmas.{Bool.{and_parts, cases_Bool, cases_lt, cond-true, cond-false, false≢true, lt-leb, Decides.{eqb_tells, nat_tests}}, Option.{none-some}}
 use Rattle.cap_word.specs.declared.word.Cap.{Cap}
 use Rattle.cap_bounds.specs.Bounds.{base_of, top_of}
 use Rattle.cap_ops.specs.Permissions.{is_sealed}
 use Rattle.tagmem.specs.Granules.{Granules}
-use Rattle.cap_machine.specs.{Helds.Held}
+use Rattle.cap_machine.specs.{Helds.Held, Parents.IsSoundCap}
 use Rattle.cap_objects.specs.{Counts.{Owners, at_key}, declared.{handouts.Handouts.Handouts, objects.Object.Object}, Extents.{Objects, Sets}, HandoutsIn.objects_of}
 use Rattle.cap_objects.specs.declared.handouts.HandOutFault.{HandOutFault, TheVariants.{Overlaps, StillHeld, NoMemory}}
 use Rattle.cap_objects.specs.{Handed.{AddsObject, RefusesExtent, handed_out, last_below, with_held}, Objects.top_of_extent}
@@ -66,6 +66,13 @@ within-new cap number step base top capable base_is top_is holds =
       from = omega (arith, base_is);
       until = omega (arith, top_is, end);
     }
+
+-- the bounds of a capability that can be handed out
+pub long-sound : (cap held : Cap) → cap ≡ held → is_capability held ≡ true → IsSoundCap cap → (base top : ℕ) → base ≡ base_of cap.word.0
+    → top ≡ top_of cap.word.0 → (base ≤ top) × (top ≤ 2 ^ 64)
+long-sound cap held is capable sound base top base_is top_is =
+    let s = sound (and_parts cap.tag (not (is_sealed cap.word.0)) (ap is_capability is ∙ capable)).0 in
+    (omega (arith, s.0, base_is, top_is), omega (arith, s.1, top_is))
 
 -- how handing out ends
 pub extent-ended : (old : Run) (keeps : Bool) (left_out : Option ℕ) (base top : ℕ) (fault : HandOutFault) → step_limit old ≡ None

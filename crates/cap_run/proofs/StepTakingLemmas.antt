@@ -1,5 +1,5 @@
 -- Lines of steps of version 2 that are taken one after another.
-use Rattle.std.proofs.Common.{◌≡◌, ℕ, List, [], ◌∷◌, ◌++◌, None, refl, sym, ap, subst, ◌∙◌, append-nil, append_assoc}
+use Rattle.std.proofs.Common.{◌≡◌, ◌+◌, ◌<◌, ℕ, List, [], ◌∷◌, ◌++◌, length, length-append, arith, None, refl, sym, ap, subst, ◌∙◌, append-nil, append_assoc}
 use Rattle.std.proofs.lemmas.{Grind.flat_map-append}
 use Rattle.cap_log.specs.{declared.{kinds.Step.Step, lines.Line.Line}, Lines.{IsInRange, IsStepInRange, spelling}, Parts.Begins}
 use Rattle.cap_log.proofs.ElementLemmas.{AllByRecursion-append}
@@ -13,6 +13,10 @@ LeadBy-append : (asks : Asks) (from middle to : Run) (steps more : List Step) �
 LeadBy-append asks from middle to [] more h k = subst (λ (run : Run). LeadBy asks run more to) (sym h) k
 LeadBy-append asks from middle to (step ∷ steps) more h k =
     (h.0, LeadBy-append asks (usual_after from step) middle to steps more h.1 k)
+
+-- a line shortens what is left
+pub line_shorter : (bytes rest : List ℕ) (line : RunLine) → Begins IsRunLineInRange run_spelling 10 bytes line rest → length rest < length bytes
+line_shorter bytes rest line begins = rw begins.1 (omega (arith, length-append (run_spelling line) (10 ∷ rest)))
 
 -- one line more
 pub makes_step : (asks : Asks) (first old new : Run) (bytes front rest behind : List ℕ) (step : Step) → bytes ≡ front ++ rest

@@ -1,4 +1,4 @@
-use Rattle.std.proofs.Common.{◌≡◌, ◌+◌, ℕ, None, ap, refl, sym, subst, ◌∙◌, arith}
+use Rattle.std.proofs.Common.{◌≡◌, ◌+◌, ℕ, None, is_some, ap, refl, sym, subst, ◌∙◌, arith}
 use Rattle.cap_word.specs.declared.word.Cap.{Cap}
 use Rattle.cap_bounds.specs.Bounds.{base_of, top_of}
 use Rattle.cap_machine.specs.{States.State}
@@ -7,7 +7,7 @@ use Rattle.cap_run.specs.ObjectSteps.{ExtentEnds, object_refusal}
 use Rattle.cap_run.specs.{Numbers.numbered_run, Owned.IsWithin, RunChecks.extent_end, RunOf.run_of, RunSteps.{or_later, step_limit}}
 use Rattle.cap_run.proofs.AnswerLemmas.{hand-out-err, hand-out-ok}
 use Rattle.cap_run.proofs.EndLemmas.{first, refusal-number}
-use Rattle.cap_run.proofs.HandingLemmas.{extent-ended, hands-out-empty, hands-out-long, match_none, mid-owners, mid-state, none_of, refusal-none, run-same, within-new}
+use Rattle.cap_run.proofs.HandingLemmas.{extent-ended, hands-out-empty, hands-out-long, limit-some, long-sound, match_none, mid-owners, mid-state, none_of, refusal-none, run-same, within-new}
 use Rattle.cap_run.proofs.ObjectLemmas.{to_some_and}
 use Rattle.cap_run.proofs.run_machine.RunMachine.hand_out.Goals as goal
 
@@ -20,6 +20,35 @@ returns-in-Some-clause-outcome g c =
           (refusal-number s.machine s.specials s.objects s.specials.sized.1 s.counted s.asks s.asked c.args.register ∙ sym c.object_refusal.ensures ∙ c.in-Some.is),
       refl,
     )
+
+pub late_end-requires-clause-late : goal.late_end-requires-clause-late
+late_end-requires-clause-late g c =
+    let s = c.args.self.now in
+    limit-some (run_of s.machine s.specials s.objects) (ap is_some (sym c.step_limit.ensures.value) ∙ sym c.if-is_some.ensures)
+
+pub late_end-requires-clause-in_memory : goal.late_end-requires-clause-in_memory
+late_end-requires-clause-in_memory g c =
+    let s = c.args.self.now in
+    let old = run_of s.machine s.specials s.objects in
+    (long-sound c.register.result (old.state c.args.register) c.register.ensures.value (refusal-none old c.args.register (sym c.object_refusal.ensures ∙ c.in_default.is)).0
+    c.register.ensures.sound c.bounds-bounds.result.base c.bounds-bounds.result.top c.bounds-bounds.ensures.base c.bounds-bounds.ensures.top).1
+
+pub add_object-requires-clause-long : goal.add_object-requires-clause-long
+add_object-requires-clause-long g c =
+    let s = c.args.self.now in
+    let old = run_of s.machine s.specials s.objects in
+    (long-sound c.register.result (old.state c.args.register) c.register.ensures.value (refusal-none old c.args.register (sym c.object_refusal.ensures ∙ c.in_default.is)).0
+    c.register.ensures.sound c.bounds-bounds.result.base c.bounds-bounds.result.top c.bounds-bounds.ensures.base c.bounds-bounds.ensures.top).0
+
+pub add_object-requires-clause-in_memory : goal.add_object-requires-clause-in_memory
+add_object-requires-clause-in_memory g c =
+    let s = c.args.self.now in
+    let old = run_of s.machine s.specials s.objects in
+    (long-sound c.register.result (old.state c.args.register) c.register.ensures.value (refusal-none old c.args.register (sym c.object_refusal.ensures ∙ c.in_default.is)).0
+    c.register.ensures.sound c.bounds-bounds.result.base c.bounds-bounds.result.top c.bounds-bounds.ensures.base c.bounds-bounds.ensures.top).1
+
+pub add_object-requires-clause-few : goal.add_object-requires-clause-few
+add_object-requires-clause-few g c = c.step_limit.ensures.few (none_of c.step_limit.result (sym c.if-is_some.ensures))
 
 pub returns-then-is_some-clause-outcome : goal.returns-then-is_some-clause-outcome
 returns-then-is_some-clause-outcome g c =

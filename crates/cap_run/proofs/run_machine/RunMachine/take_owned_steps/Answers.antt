@@ -1,6 +1,6 @@
 use Rattle.std.proofs.Common.{[], ◌≡◌, None, refl, subst, sym, ◌∙◌}
 use Rattle.cap_run.specs.{declared.asks.Asks.Asks, Numbers.numbered_run, RunChecks.usual_end, StepLines.MakesUsualSteps}
-use Rattle.cap_run.proofs.{StepLineLemmas.makes-none, StepTakingLemmas.makes_step}
+use Rattle.cap_run.proofs.{StepLineLemmas.makes-none, StepTakingLemmas.{line_shorter, makes_step}}
 use Rattle.cap_run.proofs.run_machine.RunMachine.take_owned_steps.Goals as goal
 
 pub steps-init : goal.steps-init
@@ -22,6 +22,9 @@ steps-preserved g c =
           (subst (λ (a : Asks). usual_end a run made.0 ≡ None) c.steps.invariant.asks made.2) made.3;
       asks = made.4 ∙ c.steps.invariant.asks;
     }
+
+pub steps-smaller : goal.steps-smaller
+steps-smaller g c = line_shorter _ _ _ c.in-Some.ensures.1
 
 pub returns-in-None-clause-taken : goal.returns-in-None-clause-taken
 returns-in-None-clause-taken g c =

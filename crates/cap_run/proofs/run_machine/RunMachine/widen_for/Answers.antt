@@ -1,12 +1,41 @@
-use Rattle.std.proofs.Common.{◌≡◌, ℕ, Some, None, min, max, ap, sym, subst, ◌∙◌, arith}
+use Rattle.std.proofs.Common.{◌≡◌, ℕ, Some, None, is_some, min, max, ap, sym, subst, ◌∙◌, arith}
 use Rattle.cap_word.specs.declared.word.Cap.{Cap}
 use Rattle.cap_bounds.specs.Bounds.{base_of, top_of}
 use Rattle.cap_machine.specs.States.{State}
 use Rattle.cap_objects.specs.{Counts.Owners, declared.objects.Object.Object, Handed.{HasRoom, RefusesExtent, widened}, HandoutsIn.objects_of, Objects.top_of_extent}
 use Rattle.cap_run.specs.{ObjectSteps.ExtentEnds, Owned.IsWithin, RunOf.run_of, RunSteps.step_limit}
-use Rattle.cap_run.proofs.HandingLemmas.{extent-ended, none_of, refusal-none, run-same}
+use Rattle.cap_run.proofs.HandingLemmas.{extent-ended, limit-some, long-sound, none_of, refusal-none, run-same}
 use Rattle.cap_run.proofs.{ObjectLemmas.{some_and, to_some_and, widened-grows}, WideningLemmas.{wide-owners, wide-state, widens-empty, widens-long, within-wide}}
 use Rattle.cap_run.proofs.run_machine.RunMachine.widen_for.Goals as goal
+
+pub late_widening-requires-clause-late : goal.late_widening-requires-clause-late
+late_widening-requires-clause-late g c =
+    let s = c.args.self.now in
+    limit-some (run_of s.machine s.specials s.objects) (ap is_some (sym c.step_limit.ensures.value) ∙ sym c.if-is_some.ensures)
+
+pub late_widening-requires-clause-in_memory : goal.late_widening-requires-clause-in_memory
+late_widening-requires-clause-in_memory g c =
+    let s = c.args.self.now in
+    let old = run_of s.machine s.specials s.objects in
+    (long-sound c.register.result (old.state c.args.register) c.register.ensures.value (refusal-none old c.args.register c.requires.can).0
+    c.register.ensures.sound c.bounds-bounds.result.base c.bounds-bounds.result.top c.bounds-bounds.ensures.base c.bounds-bounds.ensures.top).1
+
+pub widen_object-requires-clause-long : goal.widen_object-requires-clause-long
+widen_object-requires-clause-long g c =
+    let s = c.args.self.now in
+    let old = run_of s.machine s.specials s.objects in
+    (long-sound c.register.result (old.state c.args.register) c.register.ensures.value (refusal-none old c.args.register c.requires.can).0
+    c.register.ensures.sound c.bounds-bounds.result.base c.bounds-bounds.result.top c.bounds-bounds.ensures.base c.bounds-bounds.ensures.top).0
+
+pub widen_object-requires-clause-in_memory : goal.widen_object-requires-clause-in_memory
+widen_object-requires-clause-in_memory g c =
+    let s = c.args.self.now in
+    let old = run_of s.machine s.specials s.objects in
+    (long-sound c.register.result (old.state c.args.register) c.register.ensures.value (refusal-none old c.args.register c.requires.can).0
+    c.register.ensures.sound c.bounds-bounds.result.base c.bounds-bounds.result.top c.bounds-bounds.ensures.base c.bounds-bounds.ensures.top).1
+
+pub widen_object-requires-clause-few : goal.widen_object-requires-clause-few
+widen_object-requires-clause-few g c = c.step_limit.ensures.few (none_of c.step_limit.result (sym c.if-is_some.ensures))
 
 pub returns-then-is_some-clause-end : goal.returns-then-is_some-clause-end
 returns-then-is_some-clause-end g c o there =
