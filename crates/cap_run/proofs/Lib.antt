@@ -39,4 +39,4 @@ mod AloneLemmas
 mod StepLineLemmas
 mod ToldLemmas
 mod DerivationLemmas
-mod StepTakingLemmas
+pub mod StepTakingLemmas

@@ -1,6 +1,6 @@
 -- What bytes lead to that a judge of run logs was handed, also past a faulty line.
 use Rattle.std.proofs.Common.{inl, inr, ◌≡◌, ◌≢◌, ◌∙◌, ℕ, List, [], ◌∷◌, ◌++◌, ap, append-nil, append_assoc, arith}
-use Rattle.std.proofs.Common.{length, length-append, refl, subst, sym, Bool, true, false, None, Some, Ok}
+use Rattle.std.proofs.Common.{length, length-append, refl, subst, sym, Bool, true, false, None, Some, Option, Result, Ok, Err}
 use Rattle.std.proofs.lemmas.{List.Elements.All-nil, Option.none-some}
 use Rattle.cap_ops.specs.declared.refusal.Refusal.TheVariants.{Misplaced}
 use Rattle.cap_streams.specs.Front.{IsLine}
@@ -8,14 +8,17 @@ use Rattle.cap_streams.proofs.FrontLemmas.{IsLine-more, IsLine-not_too_long, IsL
 use Rattle.cap_log.specs.Parts.{Begins}
 use Rattle.cap_run_log.specs.{declared.lines.RunLine.RunLine, RunLines.{IsRunLineInRange, run_spelling}}
 use Rattle.cap_judge.specs.declared.judges.Stop.TheVariants.{Fault}
-use Rattle.cap_judge.proofs.TurnLemmas.{IsWhole, front_more}
-use Rattle.cap_run.specs.declared.{asks.Asks.Asks, ends.RunRefusal.{RunRefusal, TheVariants.Usual}}
+use Rattle.cap_judge.specs.{Readings.IsNoLine, declared.verdict.TakeFault.{TakeFault, TheVariants.{NoLine, NoMemory}}}
+use Rattle.cap_judge.proofs.TurnLemmas.{IsWhole, front_more, whole_some}
+use Rattle.cap_run.specs.declared.{asks.Asks.Asks, ends.{RunEnd.RunEnd, RunRefusal.{RunRefusal, TheVariants.Usual}}}
 use Rattle.cap_run.specs.{Run.Run, RunChanges.line_after, RunChecks.{Answers, line_end, line_wants}}
 use Rattle.cap_run_judge.specs.declared.verdict.RunVerdict.{RunVerdict, TheVariants.{No}}
+use Rattle.cap_run_judge.specs.declared.judges.NextRunLine as code
+use Rattle.cap_run_judge.specs.declared.judges.NextRunLine.TheVariants as stages
 use Rattle.cap_run_judge.specs.Turns.{Body, Due, Goes, Reads, Refused, Stage, next_due, refusal_by, text_of, unread}
-use Rattle.cap_run_judge.specs.Readings.{VerdictAtEnd, VerdictWith, Faults, Follows, IsAtFault, RefusesNext, StopsAt, Takes, due_at_end}
+use Rattle.cap_run_judge.specs.Readings.{VerdictAtEnd, VerdictWith, Faults, Follows, IsAtFault, IsUnmade, RefusesNext, StopsAt, Takes, due_at_end, due_of}
 use Rattle.cap_run_judge.specs.Verdicts.{IsRunVerdict, Lacks, Refuses}
-use Rattle.cap_run_judge.proofs.{CountLemmas.goes_clear, EndLemmas.{end_told, fault_told, refuses_next}, TurnLemmas.{body, body_answers, goes_on, line_is, one_goes}}
+use Rattle.cap_run_judge.proofs.{CountLemmas.goes_clear, EndLemmas.{end_told, fault_told, refuses_next}, TurnLemmas.{body, body_answers, err_same, goes_on, line_is, one_goes}}
 use Rattle.cap_run_judge.proofs.OneVerdict.{Stops, one_reading, refused_stops}
 
 -- no line follows a faulty one
@@ -196,3 +199,42 @@ pub step_follows : (asks_are : Asks) (old new : Run) (due : Due) (line : RunLine
 step_follows asks_are old new due line is range next answers =
     let takes = body_answers asks_are old new line (Ok tt) (ap (λ (d : Due). record { asks = asks_are; run = line_after old line; due = d }) next) answers in
     rw is (inl (one_goes (body asks_are old) (body asks_are new) line range takes))
+
+-- one that was not
+pub step_unmade : (asks_are : Asks) (old new : Run) (due : Due) (line : RunLine) (end : RunEnd) → due ≡ Body
+    → Answers (line_end asks_are old line) (line_after old line) (line_wants old line) old (Err end) new
+    → IsUnmade (record { asks = asks_are; run = old; due = due }) line end
+step_unmade asks_are old new due line (RunEnd.Refused refusal) is answers = (is, rw is answers.0)
+step_unmade asks_are old new due line RunEnd.NoMemory is answers = (is, rw is (answers.0, answers.1))
+
+-- whose run stays
+pub stage_stays : (asks_are asks_then : Asks) (old new : Run) (due_is : Due) (line : RunLine) (end : RunEnd) → asks_then ≡ asks_are
+    → Answers (line_end asks_are old line) (line_after old line) (line_wants old line) old (Err end) new
+    → (let stage : Stage = record { asks = asks_then; run = new; due = due_is } in stage) ≡ record { asks = asks_are; run = old; due = due_is }
+stage_stays asks_are asks_then old new due_is line end same answers =
+    let stays = err_same (line_end asks_are old line) (line_after old line) (line_wants old line) old end new answers in
+    rw (same, stays) refl
+
+-- one that was not tried
+pub no_body : (stage : code.NextRunLine) → (stage ≡ stages.Body → ⊥) → due_of stage ≢ Body
+no_body stages.Body other is = other refl
+no_body stages.Version other is = cc
+no_body stages.Mode other is = cc
+no_body stages.Ended other is = cc
+no_body (stages.Refused fault) other is = cc
+
+-- Answers that are not these
+
+pub ok_no_err : {T E : Type 0} (done : T) (fault : E) → Ok done ≡ Err fault → ⊥
+ok_no_err done fault is = cc
+
+pub tried : {T E : Type 0} (end : E) → ◌≡◌ {A = Result T (Option E)} (Err (Some end)) (Err None) → ⊥
+tried end is = cc
+
+pub memory_no_line : {T : Type 0} → ◌≡◌ {A = Result T TakeFault} (Err NoMemory) (Err NoLine) → ⊥
+memory_no_line is = cc
+
+-- bytes that are whole are not answered as no line
+pub whole_is_line : (line : List ℕ) (result : Result (Unit {0}) TakeFault) → (result ≡ Err NoLine → ⊥) → IsWhole line
+    → (result ≡ Err NoLine → IsNoLine line) × (IsNoLine line → result ≡ Err NoLine)
+whole_is_line line result other whole = (λ is. absurd (other is), λ none. absurd (whole_some line whole none))

@@ -1,15 +1,17 @@
 -- The report of a machine's run is that of the log that led to it.
 use Rattle.std.specs.BTreeMap as tree
 use Rattle.std.specs.{List.slice_get, Ordering.nat_cmp}
-use Rattle.std.proofs.Common.{◌≡◌, ℕ, ◌≤◌, ◌++◌, List, [], Bool, true, Option, Some, None, Err, option_and_then}
+use Rattle.std.proofs.Common.{◌≡◌, ℕ, ◌≤◌, ◌++◌, List, [], Bool, true, false, Option, Some, None, Result, Ok, Err, option_and_then}
 use Rattle.std.proofs.Common.{refl, sym, ap, ◌∙◌, inl, inr, arith}
 use Rattle.std.proofs.lemmas.{Bool.{cases_Bool, cond-true, cond-false}, Option.{none-some, same_Some}}
 use Rattle.cap_streams.specs.{FaultLines.told_fault, declared.judging.judge_faults.JudgeFault.{JudgeFault, TheVariants.{NoMemory, Pull}}}
+use Rattle.cap_streams.specs.{declared.judging.judge_faults.JudgeToFault.JudgeToFault, Streams.{CountsOnly, next_count}}
+use Rattle.cap_streams.specs.declared.judging.judge_faults.JudgeToFault.TheVariants as told
 use Rattle.cap_machine.specs.Helds.{Held}
 use Rattle.cap_objects.specs.{declared.{handouts.Handouts.Handouts, objects.Object.Object}, Extents.{Objects, is_present}}
 use Rattle.cap_objects.specs.{HandoutsIn.objects_of, Indexes.{kept, number_key}}
 use Rattle.cap_run_log.specs.declared.lines.RunPlace.{RunPlace}
-use Rattle.cap_run.specs.{declared.{asks.Asks.Asks, specials.Specials.Specials}, Numbers.{by_number, numbered_run}, Run.Run}
+use Rattle.cap_run.specs.{declared.{asks.Asks.Asks, ends.RunRefusal.RunRefusal, specials.Specials.Specials}, Numbers.{by_number, numbered_run}, Run.Run}
 use Rattle.cap_run.specs.{RunChanges.place_key, Safety.IsSafe}
 use Rattle.cap_run_judge.specs.declared.verdict.RunVerdict.{RunVerdict, TheVariants.{Yes, No}}
 use Rattle.cap_run_judge.specs.{Judgings.{IsAnswerOf, StopsIn}, OwnerLists.{line_of_object, line_of_place, numbered_line, object_line, place_line}}
@@ -83,8 +85,51 @@ asked_text owners run verdict steps roots objects asked is =
     ap (λ (v : RunVerdict). run_verdict_line v ++ (object_lines run ++ owner_lines run)) is
     ∙ sym (ap (λ (b : Bool). run_report_text b run verdict) asked ∙ ap (run_report_text true run) is)
 
+-- the text where they are not asked for
+pub plain_text : (owners : Bool) (run : Run) (verdict : RunVerdict) → owners ≡ false → run_verdict_line verdict ≡ run_report_text owners run verdict
+plain_text owners run verdict asked = sym (ap (λ (b : Bool). run_report_text b run verdict) asked)
+
+-- and after a no
+pub no_text : (owners : Bool) (run : Run) (verdict : RunVerdict) (line : ℕ) (refusal : RunRefusal) → verdict ≡ No line refusal
+    → run_verdict_line verdict ≡ run_report_text owners run verdict
+no_text true run verdict line refusal is = rw is refl
+no_text false run verdict line refusal is = refl
+
 -- without a verdict nothing is pushed
 pub pushed_nothing : (asks : Asks) (tells : RunVerdict → List ℕ → Type 0) (bytes : List ℕ) (ended : Bool) (took : List ℕ → Type 0) (fault : JudgeFault)
     → IsAnswerOf asks bytes ended (Err fault) → took [] → IsRunPushed asks tells bytes ended took (Err (told_fault fault))
 pushed_nothing asks tells bytes ended took Pull answer nothing = (answer, nothing)
 pushed_nothing asks tells bytes ended took NoMemory answer nothing = (answer, nothing)
+
+-- How faults are counted
+
+-- a fault of the judging, as the fault that is told of it
+pub fault_counted : (fault : JudgeFault) (answer : Result RunVerdict JudgeFault) (result : Result RunVerdict JudgeToFault) (before after : ℕ)
+    → answer ≡ Err fault → result ≡ Err (told_fault fault) → CountsOnly (Err Pull) before after answer → CountsOnly (Err told.Pull) before after result
+fault_counted Pull answer result before after was is counted = (λ differs. absurd (differs is), λ _. counted.1 was)
+fault_counted NoMemory answer result before after was is counted = (λ _. counted.0 (λ same. cc), λ same. cc)
+
+-- it is none of the sink
+pub no_push : (fault : JudgeFault) (result : Result RunVerdict JudgeToFault) (count : ℕ) → result ≡ Err (told_fault fault)
+    → CountsOnly (Err told.Push) count count result
+no_push Pull result count is = (λ _. refl, λ same. cc)
+no_push NoMemory result count is = (λ _. refl, λ same. cc)
+
+-- with a verdict the source counts none
+pub none_pulled : (verdict : RunVerdict) (answer : Result RunVerdict JudgeFault) (before after : ℕ) → answer ≡ Ok verdict
+    → CountsOnly (Err Pull) before after answer → after ≡ before
+none_pulled verdict answer before after was counted = counted.0 (λ same. cc)
+
+-- a fault of the sink is none of the source
+pub no_pull : (result : Result RunVerdict JudgeToFault) (before after : ℕ) → result ≡ Err told.Push → after ≡ before
+    → CountsOnly (Err told.Pull) before after result
+no_pull result before after is counted = (λ _. counted, λ same. cc)
+
+pub push_counted : (result : Result RunVerdict JudgeToFault) (before after : ℕ) → result ≡ Err told.Push → after ≡ next_count before
+    → CountsOnly (Err told.Push) before after result
+push_counted result before after is counted = (λ differs. absurd (differs is), λ _. counted)
+
+-- a verdict is no fault
+pub none_counted : (fault : JudgeToFault) (verdict : RunVerdict) (before after : ℕ) → after ≡ before
+    → CountsOnly {R = Result RunVerdict JudgeToFault} (Err fault) before after (Ok verdict)
+none_counted fault verdict before after counted = (λ _. counted, λ same. cc)

@@ -2,7 +2,7 @@
 use Rattle.std.proofs.Common.{◌≡◌, ◌≢◌, ℕ, ◌+◌, ◌≤◌, Bool, true, false, List, [], ◌∷◌, ◌++◌, length, refl, sym, ap}
 use Rattle.std.proofs.Common.{subst, ◌∙◌, append-nil, append_assoc, arith, Result, Ok, Err, IfOk, IfErr, ◌-◌, ◌*◌, ◌<◌}
 use Rattle.std.proofs.Common.{length-append}
-use Rattle.cap_streams.specs.{declared.judging.judge_faults.JudgeFault.{JudgeFault, TheVariants.{Pull, NoMemory}}, Front.IsCut}
+use Rattle.cap_streams.specs.{declared.judging.judge_faults.JudgeFault.{JudgeFault, TheVariants.{Pull, NoMemory}}, Front.IsCut, Streams.CountsOnly}
 use Rattle.cap_run_log.specs.declared.lines.RunLine.{RunLine}
 use Rattle.cap_run.specs.{declared.asks.Asks.Asks, Run.Run}
 use Rattle.cap_run_judge.specs.declared.{faults.RefusedRunLine.RefusedRunLine, verdict.RunVerdict.{RunVerdict, TheVariants.{Yes, No}}}
@@ -61,6 +61,16 @@ ended_answer stage rest text (Ok (Yes steps roots objects)) answer is ends = (Ye
 ended_answer stage rest text (Ok (No line refusal)) answer is ends = absurd ends
 ended_answer stage rest text (Err fault) answer is ends =
     (No fault.line fault.refusal, is.0, subst (VerdictAtEnd stage rest (No fault.line fault.refusal)) (sym is.1) ends)
+
+-- a verdict counts no fault of the source
+pub answered_counts : (end : Result RunVerdict RefusedRunLine) (answer : Result RunVerdict JudgeFault) (text : List ℕ) (before after : ℕ)
+    → IsAnswered end answer text → after ≡ before → CountsOnly (Err Pull) before after answer
+answered_counts (Ok verdict) answer text before after is same = (λ _. same, λ pull. cc)
+answered_counts (Err fault) answer text before after is same = (λ _. same, λ pull. cc (is.0))
+
+-- nor does want of memory
+pub lacking_counts : (before after : ℕ) → after ≡ before → CountsOnly {R = Result RunVerdict JudgeFault} (Err Pull) before after (Err NoMemory)
+lacking_counts before after same = (λ _. same, λ pull. cc)
 
 module _ {S : Type 0} (asks_are : Asks) (gave : S → S → List ℕ → Type 0) (ended : S → Bool) (old new : S) (run_is : Run) (text given : List ℕ) where
   -- the answer of a verdict

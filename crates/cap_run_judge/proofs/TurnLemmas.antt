@@ -1,6 +1,6 @@
 -- What lines lead to, and where a judge of run logs stops.
-use Rattle.std.proofs.Common.{◌≡◌, ◌≢◌, ◌<◌, ℕ, ◌+◌, ◌-◌, arith, inl, inr, false, List, [], ◌∷◌, ◌++◌, length, take, drop}
-use Rattle.std.proofs.Common.{refl, sym, ap, subst, ◌∙◌, map, append-nil, append_assoc, length-append, Bool, Option, Some, Result, Ok, Err}
+use Rattle.std.proofs.Common.{◌≡◌, ◌≢◌, ◌<◌, ◌≤◌, ℕ, ◌+◌, ◌-◌, arith, inl, inr, false, List, [], ◌∷◌, ◌++◌, length, take, drop}
+use Rattle.std.proofs.Common.{refl, sym, ap, subst, ◌∙◌, map, append-nil, append_assoc, length-append, Bool, Option, None, Some, Result, Ok, Err}
 use Rattle.std.proofs.lemmas.{Grind.flat_map-append}
 use Rattle.std.specs.List.{AllByRecursion}
 use Rattle.cap_log.specs.{declared.kinds.Step.Step, Lines.IsStepInRange, Parts.Begins}
@@ -17,11 +17,12 @@ use Rattle.cap_run.specs.StepLines.{LeadBy, MakesUsualSteps, text_of_steps}
 use Rattle.cap_run.specs.{Run.Run, RunChanges.{line_after, usual_after}}
 use Rattle.cap_run.specs.RunChecks.{Answers, line_end, line_wants}
 use Rattle.cap_ops.specs.declared.refusal.Refusal.TheVariants.{Misplaced, Truncated}
+use Rattle.cap_run.proofs.StepTakingLemmas.{line_shorter}
 use Rattle.cap_run_judge.specs.declared.{faults.RefusedRunLine.RefusedRunLine}
 use Rattle.cap_run_judge.specs.declared.judges.NextRunLine as code
 use Rattle.cap_run_judge.specs.declared.judges.NextRunLine.TheVariants as stages
 use Rattle.cap_run_judge.specs.Turns.{Body, Ended, Goes, Reads, Refused, Stage}
-use Rattle.cap_run_judge.specs.Turns.{stage_after, text_of}
+use Rattle.cap_run_judge.specs.Turns.{refusal_at, stage_after, text_of}
 use Rattle.cap_run_judge.specs.Readings.{AnswersLine, AnswerAtEnd, EndsBytes, EndsLine, IsAtFault, RefusesNext, StopsAt, Takes, due_at_end}
 use Rattle.cap_run_judge.specs.Readings.{due_of, lines_by, lines_read}
 
@@ -53,9 +54,21 @@ one_goes old new line range takes = record {
   reads = (takes.0, sym takes.1);
 }
 
--- what follows a line is shorter
-pub line_shorter : (bytes rest : List ℕ) (line : RunLine) → Begins IsRunLineInRange run_spelling 10 bytes line rest → length rest < length bytes
-line_shorter bytes rest line begins = rw begins.1 (omega (arith, length-append (run_spelling line) (10 ∷ rest)))
+-- what follows a line is shorter than what stands before it
+pub later_shorter : (bytes more here rest : List ℕ) (line : RunLine) → bytes ≡ more ++ here → Begins IsRunLineInRange run_spelling 10 here line rest
+    → length rest < length bytes
+later_shorter bytes more here rest line is begins =
+    rw is (omega (arith, length-append more here, line_shorter here rest line begins))
+
+-- what follows two fronts is no longer than the bytes
+pub later_fits : (bytes front here more rest : List ℕ) → bytes ≡ front ++ here → here ≡ more ++ rest → length rest ≤ length bytes
+later_fits bytes front here more rest is next = rw (is, next) (omega (arith, length-append front (more ++ rest), length-append more rest))
+
+-- and shorter where it is not what stood before
+pub later_smaller : (bytes front here more rest : List ℕ) → bytes ≡ front ++ here → here ≡ more ++ rest → length rest ≢ length here
+    → length rest < length bytes
+later_smaller bytes front here more rest is next differs =
+    rw is (omega (arith, length-append front here, ap length next ∙ length-append more rest, differs))
 
 -- one line more
 pub goes_line : (first old new : Stage) (bytes front rest behind : List ℕ) (line : RunLine) → bytes ≡ front ++ rest
@@ -157,6 +170,14 @@ ends_at stage bytes rest line (RunEnd.Refused refusal) is refused =
     inl (run_spelling line, rest, line_is line bytes rest is, (Some line, (is.0, refl), refused))
 ends_at stage bytes rest line RunEnd.NoMemory is names = (rest, record { line = line; begins = is; allowed = names.0; wants = names.1 })
 
+-- a line that has no form
+pub formless : (stage : Stage) (bytes : List ℕ) (n : ℕ) (refusal : RunRefusal) → IsLine bytes (take n bytes) (drop (n + 1) bytes)
+    → ((line : RunLine) (rest : List ℕ) → Begins IsRunLineInRange run_spelling 10 bytes line rest → ⊥) → refusal_at stage None ≡ Some refusal
+    → RefusesNext stage bytes refusal
+formless stage bytes n refusal is none refused =
+    let rest = drop (n + 1) bytes in
+    inl (take n bytes, rest, is, (None, (λ line range same. none line rest (range, is.whole ∙ ap (λ (t : List ℕ). t ++ 10 ∷ rest) same)), refused))
+
 -- no line is faulty
 pub clear_of : (stage : code.NextRunLine) → ((fault : RefusedRunLine) → stage ≡ stages.Refused fault → ⊥) → IsAtFault (due_of stage) → ⊥
 clear_of (stages.Refused fault) clear is = clear fault refl
@@ -191,3 +212,7 @@ pub unended : (stage : code.NextRunLine) (run_is : Run) (rest : List ℕ) → (s
 unended stages.Ended run_is rest goes clear = absurd (goes refl)
 unended (stages.Refused fault) run_is rest goes clear = absurd (clear fault refl)
 unended stage run_is rest goes clear = refl
+
+-- no line is faulty where the end line has come
+pub ended_clear : (stage : code.NextRunLine) (fault : RefusedRunLine) → stage ≡ stages.Ended → stage ≡ stages.Refused fault → ⊥
+ended_clear stage fault ended refused = cc

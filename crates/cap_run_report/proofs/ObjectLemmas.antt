@@ -1,5 +1,5 @@
 -- Which place holds an object first, and which object an interval meets first.
-use Rattle.std.proofs.Common.{◌≡◌, ◌⊎◌, ℕ, ◌+◌, ◌<◌, ◌≤◌, Bool, true, false, nat_lt, Option, Some, None, MatchOption, IfSome, inl, inr, sym, ap, subst, ◌∙◌, arith}
+use Rattle.std.proofs.Common.{◌≡◌, ◌⊎◌, ℕ, ◌+◌, ◌<◌, ◌≤◌, Bool, true, false, nat_lt, Option, Some, None, MatchOption, IfSome, IfNone, inl, inr, sym, ap, subst, ◌∙◌, arith}
 use Rattle.std.proofs.Common.{lt-ltb, le-ltb}
 use Rattle.std.proofs.lemmas.{Bool.{cases_lt, cond-true, cond-false, false≢true}, Option.{none-some, same_Some}}
 use Rattle.cap_objects.specs.declared.objects.Object.{Object}
@@ -120,3 +120,28 @@ all_found run left_out freed base top below less (Some found) fits is = record {
   meets = is.meets;
   least = λ other it at. is.least other it (omega (arith, at, fits));
 }
+
+-- where no object has a number from this one on, what is found is found among all
+module _ (run : Run) (left_out : Option ℕ) (freed : Bool) (base top from to : ℕ) (absent : (n : ℕ) → from ≤ n → run.objects n ≡ None) where
+  pub none_left : (found : Option Object)
+      → MatchOption found (MeetsNone run left_out freed base top from) (IsLeastMet run left_out freed base top from)
+      → IfNone found (MeetsNone run left_out freed base top to)
+  none_left None is = λ other it below at. elim (cases_lt other from) [
+    | inl before ↦ is other it before at
+    | inr behind ↦ absurd (none-some it (sym (absent other behind) ∙ at))
+  ]
+  none_left (Some found) is = tt
+
+  pub least_left : (found : Option Object)
+      → MatchOption found (MeetsNone run left_out freed base top from) (IsLeastMet run left_out freed base top from)
+      → IfSome found (IsLeastMet run left_out freed base top to)
+  least_left None is = tt
+  least_left (Some found) is = record {
+    number = is.number;
+    there = is.there;
+    meets = is.meets;
+    least = λ other it below at met. elim (cases_lt other from) [
+      | inl before ↦ is.least other it before at met
+      | inr behind ↦ absurd (none-some it (sym (absent other behind) ∙ at))
+    ];
+  }

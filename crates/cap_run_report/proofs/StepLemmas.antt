@@ -1,18 +1,19 @@
 -- What is told of a line for its refusal.
 use Rattle.std.proofs.Common.{◌≡◌, ℕ, List, [], ◌++◌, codes, Option, refl, subst}
-use Rattle.cap_word.specs.declared.word.Word.{Word}
+use Rattle.cap_word.specs.{declared.word.Word.Word, Digits.hex_digits}
+use Rattle.cap_bounds.specs.Bounds.{length_of}
 use Rattle.cap_ops.specs.declared.refusal.Refusal.{Refusal, TheVariants.{BadHeader, BadLine, BadMode, LimitPassed, LineTooLong, Misplaced}}
-use Rattle.cap_ops.specs.declared.refusal.Refusal.TheVariants.{Truncated, WrongCount, WrongResult}
+use Rattle.cap_ops.specs.declared.refusal.Refusal.TheVariants.{PlaceTaken, Truncated, WrongCount, WrongResult}
 use Rattle.cap_log.specs.declared.kinds.Step.{Step}
-use Rattle.cap_machine.specs.{Accounts.Account, Shown.shown_of}
-use Rattle.cap_report.specs.{Parts.lines_of_parts, StepLines.asked_parts}
-use Rattle.cap_texts.specs.TextLines.{says_line}
-use Rattle.cap_run_log.specs.declared.lines.RunRegister.TheVariants.{General}
+use Rattle.cap_machine.specs.{Accounts.Account, declared.shown.Reached.Reached, Shown.shown_of, States.tagged}
+use Rattle.cap_report.specs.{Parts.lines_of_parts, Says.unsound_text, StepLines.asked_parts}
+use Rattle.cap_texts.specs.TextLines.{says_line, text_line}
+use Rattle.cap_run_log.specs.declared.lines.{RunPlace.RunPlace, RunRegister.TheVariants.General}
 use Rattle.cap_run.specs.declared.ends.RunRefusal.{RunRefusal}
-use Rattle.cap_run.specs.declared.ends.RunRefusal.TheVariants.{AlreadyFreed, HasOwner, NoObject, Overlaps, StillHeld, Usual}
+use Rattle.cap_run.specs.declared.ends.RunRefusal.TheVariants.{AlreadyFreed, HasOwner, NoObject, NotOwned, Overlaps, OwnerFreed, StillHeld, Usual}
 use Rattle.cap_run.specs.{Run.Run, RunChanges.account_in}
-use Rattle.cap_run_report.specs.{CapParts.register_lines, LineReports.{AreLineDetails, AreRunDetails, AreUsualDetails}, RunSentences.run_sentence}
-use Rattle.cap_run_report.specs.StepParts.{AreAccessLines, AreLifeLines, AreUsualLines, invoked_lines}
+use Rattle.cap_run_report.specs.{CapParts.{held_lines, register_lines}, LineReports.{AreLineDetails, AreRunDetails, AreUsualDetails, root_lines}, RunSentences.run_sentence}
+use Rattle.cap_run_report.specs.StepParts.{AreAccessLines, AreFreeLines, AreLifeLines, AreReachedLines, AreUsualLines, invoked_lines}
 
 -- a step of version 2 that is refused for its owner
 pub usual_other : (run : Run) (step : Step) (refusal : RunRefusal) (access : List ℕ) → ((usual : Refusal) → refusal ≡ Usual usual → ⊥)
@@ -37,6 +38,27 @@ life_other run register number NoObject n0 n1 n2 n3 n4 = absurd (n2 refl)
 life_other run register number Overlaps n0 n1 n2 n3 n4 = absurd (n3 refl)
 life_other run register number StillHeld n0 n1 n2 n3 n4 = absurd (n4 refl)
 life_other run register number refusal n0 n1 n2 n3 n4 = refl
+
+-- an object is freed in vain by its number for another reason
+pub free_other : (run : Run) (number : ℕ) (refusal : RunRefusal) → (refusal ≡ AlreadyFreed → ⊥) → (refusal ≡ NoObject → ⊥)
+    → AreFreeLines run number refusal []
+free_other run number AlreadyFreed n0 n1 = absurd (n0 refl)
+free_other run number NoObject n0 n1 = absurd (n1 refl)
+free_other run number refusal n0 n1 = refl
+
+-- an access is refused for another reason than its owner
+pub reached_other : (run : Run) (access : Reached) (refusal : RunRefusal) → (refusal ≡ OwnerFreed → ⊥) → (refusal ≡ NotOwned → ⊥)
+    → AreReachedLines run access refusal []
+reached_other run access OwnerFreed n0 n1 = absurd (n0 refl)
+reached_other run access NotOwned n0 n1 = absurd (n1 refl)
+reached_other run access refusal n0 n1 = refl
+
+-- a root is refused for another reason than its place
+pub root_other : (run : Run) (place : RunPlace) (word : Word) (refusal : RunRefusal) → (refusal ≡ Usual PlaceTaken → ⊥)
+    → root_lines run place word refusal ≡ held_lines (codes "root") place (tagged word) ++ text_line (codes "length") (hex_digits 17 (length_of word.0))
+    ++ says_line (unsound_text word.0)
+root_other run place word (Usual PlaceTaken) other = absurd (other refl)
+root_other run place word refusal other = refl
 
 -- a line that is refused for what its checks saw
 pub details_other : (run : Run) (text : List ℕ) (refusal : Refusal) (told : List ℕ) → (refusal ≡ BadHeader → ⊥) → (refusal ≡ LineTooLong → ⊥)

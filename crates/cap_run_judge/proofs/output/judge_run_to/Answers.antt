@@ -1,7 +1,7 @@
-use Rattle.std.proofs.{Common.{refl, subst}, lemmas.Result.err_from_is_err_and}
-use Rattle.cap_streams.specs.FaultLines.{bytes_of}
+use Rattle.std.proofs.{Common.{Err, ap, refl, subst, ◌∙◌}, lemmas.Result.err_from_is_err_and}
+use Rattle.cap_streams.specs.{FaultLines.bytes_of, declared.judging.judge_faults.JudgeToFault.TheVariants.{Pull, Push}}
 use Rattle.cap_run_judge.specs.{Judgings.JudgedBy, OwnerLists.run_report_text, Readings.run_in, Reports.TellsRun}
-use Rattle.cap_run_judge.proofs.RunReportLemmas.{are_numbered, leads, pushed_nothing}
+use Rattle.cap_run_judge.proofs.RunReportLemmas.{are_numbered, fault_counted, leads, no_pull, no_push, none_counted, none_pulled, push_counted, pushed_nothing}
 use Rattle.cap_run_judge.proofs.output.judge_run_to.Goals as goal
 
 pub returns-in_err-verdict-clause-reported : goal.returns-in_err-verdict-clause-reported
@@ -67,3 +67,42 @@ returns-in_err-push_run_report-clause-reported g c =
         part.1,
       );
     })
+
+pub returns-in_err-verdict-clause-pulls_counted : goal.returns-in_err-verdict-clause-pulls_counted
+returns-in_err-verdict-clause-pulls_counted g c =
+    let failed = err_from_is_err_and c.from_residual.result c.from_residual.ensures.1 in
+    fault_counted c.in_err-verdict.field-0.0 c.judge_run_keeping-answer.result.answer c.from_residual.result (g.S.Source.faults c.args.source.now)
+    (g.S.Source.faults c.judge_run_keeping-answer.new.source) c.in_err-verdict.was (failed.1 ∙ ap Err failed.2) c.judge_run_keeping-answer.ensures.counted
+
+pub returns-in_err-verdict-clause-pushes_counted : goal.returns-in_err-verdict-clause-pushes_counted
+returns-in_err-verdict-clause-pushes_counted g c =
+    let failed = err_from_is_err_and c.from_residual.result c.from_residual.ensures.1 in
+    no_push c.in_err-verdict.field-0.0 c.from_residual.result (g.K.Sink.faults c.args.sink.now) (failed.1 ∙ ap Err failed.2)
+
+pub returns-in_err-push_run_report-clause-pulls_counted : goal.returns-in_err-push_run_report-clause-pulls_counted
+returns-in_err-push_run_report-clause-pulls_counted g c =
+    let before = g.S.Source.faults c.args.source.now in
+    let after = g.S.Source.faults c.judge_run_keeping-answer.new.source in
+    let result = c.from_residual-in_err-push_run_report.result in
+    let failed = err_from_is_err_and result c.from_residual-in_err-push_run_report.ensures.1 in
+    no_pull result before after (failed.1 ∙ ap Err failed.2)
+    (none_pulled c.in_ok-verdict.verdict c.judge_run_keeping-answer.result.answer before after c.in_ok-verdict.was c.judge_run_keeping-answer.ensures.counted)
+
+pub returns-in_err-push_run_report-clause-pushes_counted : goal.returns-in_err-push_run_report-clause-pushes_counted
+returns-in_err-push_run_report-clause-pushes_counted g c =
+    let result = c.from_residual-in_err-push_run_report.result in
+    let failed = err_from_is_err_and result c.from_residual-in_err-push_run_report.ensures.1 in
+    push_counted result (g.K.Sink.faults c.args.sink.now) (g.K.Sink.faults c.push_run_report.new.sink) (failed.1 ∙ ap Err failed.2)
+    c.in_err-push_run_report.ensures.counted
+
+pub returns-clause-pulls_counted : goal.returns-clause-pulls_counted
+returns-clause-pulls_counted g c =
+    let before = g.S.Source.faults c.args.source.now in
+    let after = g.S.Source.faults c.judge_run_keeping-answer.new.source in
+    none_counted Pull c.in_ok-verdict.verdict before after
+    (none_pulled c.in_ok-verdict.verdict c.judge_run_keeping-answer.result.answer before after c.in_ok-verdict.was c.judge_run_keeping-answer.ensures.counted)
+
+pub returns-clause-pushes_counted : goal.returns-clause-pushes_counted
+returns-clause-pushes_counted g c =
+    none_counted Push c.in_ok-verdict.verdict (g.K.Sink.faults c.args.sink.now) (g.K.Sink.faults c.push_run_report.new.sink)
+    c.in_ok-push_run_report.ensures.counted

@@ -1,6 +1,8 @@
-use Rattle.std.proofs.{Common.{◌+◌, arith, decimal}, lemmas.Grind.common_steps}
+use Rattle.std.proofs.Common.{◌+◌, arith, decimal}
+use Rattle.cap_log.proofs.ElementLemmas.{short_decimal}
 use Rattle.cap_streams.specs.Written.{Writes, ◌⨾◌}
 use Rattle.cap_run_judge.specs.OwnerLists.{object_line}
+use Rattle.cap_run_judge.proofs.TextLemmas.{front_ends, front_rest}
 use Rattle.cap_run_judge.proofs.owners.object_text.Goals as goal
 
 -- the whole line
@@ -8,16 +10,33 @@ wrote : (c : goal.After-put) → Writes 0 (object_line c.args.roots c.args.objec
 wrote c =
     let number : Writes _ (decimal c.args.object.number) _ _ _ = rw c.from.ensures at c.put_decimal-at.ensures.text in
     let line : Writes _ (decimal (2 + c.args.roots + c.args.object.handed_at)) _ _ _ = rw (c.from-2.ensures, c.from-3.ensures) at c.put_decimal-at-2.ensures.text in
-    let held : Writes c.put-at-5.result (decimal c.args.object.held) c.put-at-5.new.buffer c.put_decimal-at-3.new.buffer c.put_decimal-at-3.result = grind (arith, common_steps) in
     c.put-at.ensures.written ⨾ number ⨾ c.put-at-2.ensures.written ⨾ line ⨾ c.put-at-3.ensures.written
     ⨾ c.put_extent-at.ensures.text ⨾ c.put-at-4.ensures.written ⨾ c.put_life-at.ensures.text
-    ⨾ c.put-at-5.ensures.written ⨾ held ⨾ c.put.ensures.written
+    ⨾ c.put-at-5.ensures.written ⨾ c.put_decimal-at-3.ensures.text ⨾ c.put.ensures.written
 
 pub returns-clause-line : goal.returns-clause-line
 returns-clause-line c = (wrote c).written
 
 pub returns-clause-length : goal.returns-clause-length
-returns-clause-length c = omega (arith, (wrote c).ends)
+returns-clause-length c = front_ends _ _ _ _ (wrote c)
 
 pub returns-clause-rest : goal.returns-clause-rest
-returns-clause-rest c = (wrote c).rest c.put.result (omega arith)
+returns-clause-rest c = front_rest _ _ _ _ (wrote c)
+
+pub put_decimal-at-requires : goal.put_decimal-at-requires
+put_decimal-at-requires c = omega (arith, short_decimal)
+
+pub put_decimal-at-requires-2 : goal.put_decimal-at-requires-2
+put_decimal-at-requires-2 c = omega (arith, short_decimal)
+
+pub put_decimal-at-requires-3 : goal.put_decimal-at-requires-3
+put_decimal-at-requires-3 c = omega (arith, short_decimal)
+
+pub overflow_add-from : goal.overflow_add-from
+overflow_add-from c = omega arith
+
+pub overflow_add-from-2 : goal.overflow_add-from-2
+overflow_add-from-2 c = omega arith
+
+pub returns-clause-fits : goal.returns-clause-fits
+returns-clause-fits c = omega arith

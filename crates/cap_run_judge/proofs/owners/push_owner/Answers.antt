@@ -5,3 +5,6 @@ returns-in-Some-clause-ok g c = rw (← c.in-Some.ensures.value, ← c.owner_tex
 
 pub returns-in-Some-clause-err : goal.returns-in-Some-clause-err
 returns-in-Some-clause-err g c = rw (← c.in-Some.ensures.value, ← c.owner_text-length.ensures.line) c.push_all.ensures.err
+
+pub returns-in-None-clause-ok : goal.returns-in-None-clause-ok
+returns-in-None-clause-ok g c = rw (← c.in-None.ensures.value) (g.met.K.Sink.nothing c.args.sink.now)

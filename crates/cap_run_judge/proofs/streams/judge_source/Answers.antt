@@ -1,9 +1,9 @@
-use Rattle.std.proofs.Common.{◌≡◌, ◌≢◌, ◌++◌, [], ℕ, List, append-nil, append_assoc, arith, length, refl, rules}
-use Rattle.std.proofs.{Common.{subst, sym, true, ◌∙◌}, lemmas.List.Elements.All-nil}
-use Rattle.cap_streams.specs.{FaultLines.bytes_of, Front.IsCut, ReadBuffers.items}
+use Rattle.std.proofs.Common.{◌≢◌, ◌++◌, [], ℕ, List, ap, append-nil, append_assoc, arith, eq-eqb, length, refl}
+use Rattle.std.proofs.{Common.{subst, sym, ◌∙◌}, lemmas.List.Elements.All-nil}
+use Rattle.cap_streams.specs.{FaultLines.bytes_of, Front.IsCut, ReadBuffers.items, Streams.next_count}
 use Rattle.cap_judge.proofs.SourceLemmas.{given_more, nothing_more}
 use Rattle.cap_run_judge.specs.{Readings.{AnswerAtEnd, VerdictWith, run_in, stage_of}, Turns.unread}
-use Rattle.cap_run_judge.proofs.SourceLemmas.{closer, ended_answer, lacking_judged, pull_judged, verdict_judged}
+use Rattle.cap_run_judge.proofs.SourceLemmas.{answered_counts, closer, ended_answer, lacking_counts, lacking_judged, pull_judged, verdict_judged}
 use Rattle.cap_run_judge.proofs.{EndLemmas.{end_told, fault_told, lacks_memory}, TurnLemmas.{goes_none, goes_on}}
 use Rattle.cap_run_judge.proofs.streams.judge_source.Goals as goal
 
@@ -26,8 +26,8 @@ returns-in-Ok-eq0-clause-judged g c =
     let asks = c.args.judge.now.machine.asks in
     let here = c.pieces.invariant.here in
     let ok = c.in-Ok-eq0.ensures.ok in
-    let none : length ok.0 ≡ 0 = search rules in
-    let end : g.S.Source.ended c.fill.new.source ≡ true = search rules in
+    let none = ok.1 ∙ c.in-Ok-eq0.field-0-test in
+    let end = ok.4 ∙ eq-eqb c.in-Ok-eq0.field-0 0 c.in-Ok-eq0.field-0-test in
     let stage = stage_of c.pieces.judge in
     let now = items c.fill.new.self in
     let text = bytes_of c.answered.result.1 in
@@ -54,18 +54,17 @@ pub pieces-preserved : goal.pieces-preserved
 pieces-preserved g c =
     let here = c.pieces.invariant.here in
     let ok = c.in-Ok.ensures.ok in
-    let taken = c.take_pulled.ensures.taken in
+    let taken = c.in-Cut.ensures.taken in
     let rest = items c.take_pulled.new.pulled in
-    let stop = rw c.in-Cut.is at taken.2 in
     let gives = given_more g.S.Source.gave here.0 (items c.pieces.pulled) (taken.0 ++ rest) g.met.S.Source.joined here.1 ok.3
     (sym taken.1 ∙ ok.2) in
     record {
       here = (
         here.0 ++ taken.0,
         subst (g.S.Source.gave c.args.source.now c.fill.new.source) (sym (append_assoc here.0 taken.0 rest)) gives,
-        goes_on (unread c.args.judge.now.machine.asks) (stage_of c.pieces.judge) (stage_of c.take_pulled.new.judge) here.0 taken.0 here.2 stop.0,
+        goes_on (unread c.args.judge.now.machine.asks) (stage_of c.pieces.judge) (stage_of c.take_pulled.new.judge) here.0 taken.0 here.2 taken.2.0,
       );
-      cut = stop.1;
+      cut = taken.2.1;
       counted = c.in-Ok.ensures.counted ∙ c.pieces.invariant.counted;
     }
 
@@ -73,11 +72,10 @@ pub pieces-smaller : goal.pieces-smaller
 pieces-smaller g c =
     let here = c.pieces.invariant.here in
     let ok = c.in-Ok.ensures.ok in
-    let taken = c.take_pulled.ensures.taken in
-    let stop = rw c.in-Cut.is at taken.2 in
-    let some : length ok.0 ≢ 0 = search rules in
+    let taken = c.in-Cut.ensures.taken in
+    let some : length ok.0 ≢ 0 = λ none. c.in-Ok.field-0-test.1 (sym ok.1 ∙ none) in
     closer c.args.judge.now.machine.asks (stage_of c.pieces.judge) (stage_of c.take_pulled.new.judge) here.0 taken.0 (items c.pieces.pulled) ok.0
-    (items c.take_pulled.new.pulled) here.2 stop.0 (sym ok.2 ∙ taken.1) c.pieces.invariant.cut stop.1 some c.take_pulled.ensures.few
+    (items c.take_pulled.new.pulled) here.2 taken.2.0 (sym ok.2 ∙ taken.1) c.pieces.invariant.cut taken.2.1 some c.take_pulled.ensures.few
 
 pub returns-in-Fault-clause-judged : goal.returns-in-Fault-clause-judged
 returns-in-Fault-clause-judged g c =
@@ -85,18 +83,17 @@ returns-in-Fault-clause-judged g c =
     let here = c.pieces.invariant.here in
     let ok = c.in-Ok.ensures.ok in
     let new = stage_of c.take_pulled.new.judge in
-    let taken = c.take_pulled.ensures.taken in
+    let taken = c.in-Fault.ensures.taken in
     let rest = items c.take_pulled.new.pulled in
     let text = bytes_of c.answered-in-Fault.result.1 in
-    let stop = rw c.in-Fault.is at taken.2 in
-    let goes = goes_on (unread asks) (stage_of c.pieces.judge) stop.0 here.0 taken.0 here.2 stop.1 in
+    let goes = goes_on (unread asks) (stage_of c.pieces.judge) taken.2.0 here.0 taken.0 here.2 taken.2.1 in
     let ends = c.ending-in-Fault.ensures.ends (omega arith, All-nil (λ b. b ≢ 10)) in
     let answer = ended_answer new [] text c.ending-in-Fault.result c.answered-in-Fault.result.0 c.answered-in-Fault.ensures ends in
     let ended = g.S.Source.ended c.fill.new.source in
     verdict_judged asks g.S.Source.gave g.S.Source.ended c.args.source.now c.fill.new.source new.run text (here.0 ++ (taken.0 ++ rest))
     c.answered-in-Fault.result.0 answer.0 answer.1
     (subst (λ (b : List ℕ). VerdictWith asks b ended new.run answer.0 text) (append_assoc here.0 taken.0 rest)
-    (fault_told asks (here.0 ++ taken.0) rest stop.0 goes new ended answer.0 text stop.2 answer.2))
+    (fault_told asks (here.0 ++ taken.0) rest taken.2.0 goes new ended answer.0 text taken.2.2 answer.2))
     (given_more g.S.Source.gave here.0 (items c.pieces.pulled) (taken.0 ++ rest) g.met.S.Source.joined here.1 ok.3 (sym taken.1 ∙ ok.2))
 
 pub returns-in-NoMemory-clause-judged : goal.returns-in-NoMemory-clause-judged
@@ -104,13 +101,32 @@ returns-in-NoMemory-clause-judged g c =
     let asks = c.args.judge.now.machine.asks in
     let here = c.pieces.invariant.here in
     let ok = c.in-Ok.ensures.ok in
-    let taken = c.take_pulled.ensures.taken in
+    let taken = c.in-NoMemory.ensures.taken in
     let rest = items c.take_pulled.new.pulled in
     let new = stage_of c.take_pulled.new.judge in
-    let stop = rw c.in-NoMemory.is at taken.2 in
-    let goes = goes_on (unread asks) (stage_of c.pieces.judge) new here.0 taken.0 here.2 stop.0 in
+    let goes = goes_on (unread asks) (stage_of c.pieces.judge) new here.0 taken.0 here.2 taken.2.0 in
     let gives = given_more g.S.Source.gave here.0 (items c.pieces.pulled) (taken.0 ++ rest) g.met.S.Source.joined here.1 ok.3
     (sym taken.1 ∙ ok.2) in
-    lacking_judged asks g.S.Source.gave g.S.Source.ended c.args.source.now c.fill.new.source new.run _ ((here.0 ++ taken.0) ++ rest) stop.1
-    (lacks_memory asks (here.0 ++ taken.0) rest new goes stop.1 stop.2)
+    lacking_judged asks g.S.Source.gave g.S.Source.ended c.args.source.now c.fill.new.source new.run _ ((here.0 ++ taken.0) ++ rest) taken.2.1
+    (lacks_memory asks (here.0 ++ taken.0) rest new goes taken.2.1 taken.2.2)
     (subst (g.S.Source.gave c.args.source.now c.fill.new.source) (sym (append_assoc here.0 taken.0 rest)) gives)
+
+pub returns-in-Ok-eq0-clause-counted : goal.returns-in-Ok-eq0-clause-counted
+returns-in-Ok-eq0-clause-counted g c =
+    answered_counts c.ending.result c.answered.result.0 (bytes_of c.answered.result.1) (g.S.Source.faults c.args.source.now)
+    (g.S.Source.faults c.fill.new.source) c.answered.ensures (c.in-Ok-eq0.ensures.counted ∙ c.pieces.invariant.counted)
+
+pub returns-in-Err-clause-counted : goal.returns-in-Err-clause-counted
+returns-in-Err-clause-counted g c =
+    (λ differs. absurd (differs refl), λ _. c.in-Err.ensures.err.3 ∙ ap next_count c.pieces.invariant.counted)
+
+pub returns-in-Fault-clause-counted : goal.returns-in-Fault-clause-counted
+returns-in-Fault-clause-counted g c =
+    answered_counts c.ending-in-Fault.result c.answered-in-Fault.result.0 (bytes_of c.answered-in-Fault.result.1)
+    (g.S.Source.faults c.args.source.now) (g.S.Source.faults c.fill.new.source) c.answered-in-Fault.ensures
+    (c.in-Ok.ensures.counted ∙ c.pieces.invariant.counted)
+
+pub returns-in-NoMemory-clause-counted : goal.returns-in-NoMemory-clause-counted
+returns-in-NoMemory-clause-counted g c =
+    lacking_counts (g.S.Source.faults c.args.source.now) (g.S.Source.faults c.fill.new.source)
+    (c.in-Ok.ensures.counted ∙ c.pieces.invariant.counted)

@@ -1,4 +1,4 @@
-use Rattle.std.proofs.Common.{refl}
+use Rattle.std.proofs.Common.{inl, inr, refl}
 use Rattle.cap_streams.specs.Written.{◌⨾◌}
 use Rattle.cap_run_judge.specs.Readings.{run_in}
 use Rattle.cap_run_report.proofs.StepLemmas.{details_other}
@@ -23,3 +23,21 @@ pub returns-in-Truncated-clause-written : goal.returns-in-Truncated-clause-writt
 returns-in-Truncated-clause-written g c =
     let hint = rw c.cut_hint.ensures.text at c.put_hint_line-in-Truncated.ensures.written in
     rw c.in-Truncated.is (_, refl, c.put_counts-at-in-Truncated.ensures.written ⨾ hint)
+
+pub returns-in-BadHeader-clause-written : goal.returns-in-BadHeader-clause-written
+returns-in-BadHeader-clause-written g c = rw c.in-BadHeader.is c.put_bad_run_header.ensures.written
+
+pub returns-in-LineTooLong-clause-written : goal.returns-in-LineTooLong-clause-written
+returns-in-LineTooLong-clause-written g c = rw c.in-LineTooLong.is (_, refl, c.put_line.ensures.written)
+
+pub returns-in-BadLine-clause-written : goal.returns-in-BadLine-clause-written
+returns-in-BadLine-clause-written g c = rw c.in-BadLine.is c.put_bad_run_line.ensures.written
+
+pub returns-in-BadMode-clause-written : goal.returns-in-BadMode-clause-written
+returns-in-BadMode-clause-written g c = rw c.in-BadMode.is (_, refl, c.put_header_lines.ensures.written)
+
+pub returns-in-WrongCount-clause-written : goal.returns-in-WrongCount-clause-written
+returns-in-WrongCount-clause-written g c = elim c.in-WrongCount.is [
+  | inl is ↦ rw is (_, refl, rw is at c.put_counts.ensures.written)
+  | inr is ↦ rw is (_, refl, rw is at c.put_counts.ensures.written)
+]

@@ -21,3 +21,36 @@ loop-granule-preserved g c =
       ];
       inside = omega (arith, inside);
     }
+
+pub loop-granule-init : goal.loop-granule-init
+loop-granule-init g c = record { none = λ n least below owned. absurd (omega (arith, below)); inside = omega arith }
+
+pub loop-granule-smaller : goal.loop-granule-smaller
+loop-granule-smaller g c = omega (arith, c.in-Some.ensures.some.0, c.in-Some.ensures.some.1)
+
+pub owns-requires : goal.owns-requires
+owns-requires g c = c.in-Some.ensures.some.1
+
+pub returns-then-owns-clause-some : goal.returns-then-owns-clause-some
+returns-then-owns-clause-some g c = (
+  c.owns.ensures.yes c.if-owns.true,
+  c.requires.general,
+  c.requires.special,
+  λ n least below owned. elim (cases_lt n c.loop-granule.from) [
+    | inl before ↦ c.loop-granule.invariant.none n least before owned
+    | inr behind ↦ none-some c.args.number (sym (c.in-Some.ensures.some.2 n behind below) ∙ owned)
+  ],
+)
+
+pub returns-then-owns-clause-place : goal.returns-then-owns-clause-place
+returns-then-owns-clause-place g c = c.in-Some.ensures.some.1
+
+pub returns-clause-none : goal.returns-clause-none
+returns-clause-none g c = (
+  c.requires.general,
+  c.requires.special,
+  λ n least below owned. elim (cases_lt n c.loop-granule.from) [
+    | inl before ↦ c.loop-granule.invariant.none n least before owned
+    | inr behind ↦ none-some c.args.number (sym (c.in_default.ensures.none n behind below) ∙ owned)
+  ],
+)

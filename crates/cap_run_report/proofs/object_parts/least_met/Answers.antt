@@ -2,7 +2,7 @@ use Rattle.std.proofs.Common.{◌+◌, MatchOption, Option, arith, subst, sym}
 use Rattle.cap_objects.specs.declared.objects.Object.{Object}
 use Rattle.cap_run_judge.specs.Readings.{run_in}
 use Rattle.cap_run_report.specs.ObjectParts.{IsLeastMet, MeetsNone}
-use Rattle.cap_run_report.proofs.ObjectLemmas.{all_found, found_more}
+use Rattle.cap_run_report.proofs.ObjectLemmas.{all_found, found_more, least_left, none_left}
 use Rattle.cap_run_report.proofs.object_parts.least_met.Goals as goal
 
 pub loop-object-preserved : goal.loop-object-preserved
@@ -35,3 +35,18 @@ returns-then-object-last-clause-some g c =
     (sym c.lesser-found.ensures)
     (found_more run a.left_out a.freed a.base a.top c.loop-object.from c.in-Some.object next.0 next.1 next.2 c.loop-object.found c.is_met.result
     c.is_met.ensures c.loop-object.invariant.least))
+
+pub loop-object-init : goal.loop-object-init
+loop-object-init g c = record { least = λ other it below. absurd (omega (arith, below)); few = omega arith }
+
+pub returns-clause-some : goal.returns-clause-some
+returns-clause-some g c =
+    let a = c.args in
+    let run = run_in a.machine.now in
+    least_left run a.left_out a.freed a.base a.top c.loop-object.from (run.count + 1) c.in_default.ensures.none c.loop-object.found c.loop-object.invariant.least
+
+pub returns-clause-none : goal.returns-clause-none
+returns-clause-none g c =
+    let a = c.args in
+    let run = run_in a.machine.now in
+    none_left run a.left_out a.freed a.base a.top c.loop-object.from (run.count + 1) c.in_default.ensures.none c.loop-object.found c.loop-object.invariant.least

@@ -12,3 +12,12 @@ loop-register-preserved g c = λ n least below owned. elim (cases_lt n c.loop-re
       let same : n ≡ c.loop-register.register = omega (arith, below, here) in
       c.owns.ensures.no c.if-owns.false (subst (λ (k : ℕ). Owns (run_in c.args.machine.now) c.args.number (Special k)) same owned)
 ]
+
+pub loop-register-init : goal.loop-register-init
+loop-register-init g c = λ n least below owned. absurd (omega (arith, below))
+
+pub returns-then-owns-clause-some : goal.returns-then-owns-clause-some
+returns-then-owns-clause-some g c = (c.owns.ensures.yes c.if-owns.true, c.requires, c.loop-register.invariant)
+
+pub returns-clause-none : goal.returns-clause-none
+returns-clause-none g c = λ n least below owned. c.loop-register.invariant n least (omega (arith, below)) owned

@@ -27,3 +27,6 @@ returns-in_default g c =
       );
       fits = omega arith;
     }
+
+pub returns-in-Overlaps-clause-written : goal.returns-in-Overlaps-clause-written
+returns-in-Overlaps-clause-written g c = rw c.in-Overlaps.is c.put_asked.ensures.written

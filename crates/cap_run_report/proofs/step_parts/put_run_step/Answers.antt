@@ -1,8 +1,9 @@
-use Rattle.std.proofs.Common.{◌≡◌, ℕ, List, refl, subst, sym}
-use Rattle.cap_streams.specs.Written.{Writes}
-use Rattle.cap_run.specs.{declared.ends.RunRefusal.RunRefusal, Run.Run}
+use Rattle.std.proofs.Common.{◌≡◌, ℕ, List, [], inl, inr, refl, subst, sym}
+use Rattle.cap_streams.specs.Written.{Writes, Writes-nothing}
+use Rattle.cap_run.specs.{declared.ends.RunRefusal.RunRefusal, Run.{IsSource, Run}}
 use Rattle.cap_run_judge.specs.Readings.{run_in}
-use Rattle.cap_run_log.specs.declared.lines.{RunRegister.TheVariants.{General, Special}, RunStep.RunStep}
+use Rattle.cap_run_log.specs.declared.lines.{RunRegister.{RunRegister, TheVariants.{General, Special}}, RunStep.RunStep}
+use Rattle.cap_run_log.specs.RunLines.{IsRunRegister}
 use Rattle.cap_run_report.specs.StepParts.{AreRunStepLines, derived_lines, exchanged_lines, invoked_lines}
 use Rattle.cap_run_report.proofs.step_parts.put_run_step.Goals as goal
 
@@ -13,6 +14,53 @@ Tells run refusal at old new end step = (told : List ℕ) × AreRunStepLines run
 by_variant : (run : Run) (refusal : RunRefusal) (at : ℕ) (old new : List ℕ) (end : ℕ) (step it : RunStep) → step ≡ it
     → Tells run refusal at old new end it → Tells run refusal at old new end step
 by_variant run refusal at old new end step it is = subst (Tells run refusal at old new end) (sym is)
+
+-- a register of a line can be read
+target_read : (register : RunRegister) → IsRunRegister 1 register → IsSource register
+target_read (General number) is = is.1
+target_read (Special number) is = is
+
+source_read : (register : RunRegister) → IsRunRegister 0 register → IsSource register
+source_read (General number) is = is
+source_read (Special number) is = is
+
+pub put_derived-requires-clause-target : goal.put_derived-requires-clause-target
+put_derived-requires-clause-target g c = target_read c.in-Derive.target (rw c.in-Derive.is at c.requires.step).0
+
+pub put_derived-requires-clause-source : goal.put_derived-requires-clause-source
+put_derived-requires-clause-source g c = source_read c.in-Derive.source (rw c.in-Derive.is at c.requires.step).1
+
+pub put_exchanged-requires-clause-target : goal.put_exchanged-requires-clause-target
+put_exchanged-requires-clause-target g c = (rw c.in-Exchange.is at c.requires.step).0.1
+
+pub put_exchanged-requires-clause-source : goal.put_exchanged-requires-clause-source
+put_exchanged-requires-clause-source g c = (rw c.in-Exchange.is at c.requires.step).1
+
+pub put_exchanged-requires-clause-special : goal.put_exchanged-requires-clause-special
+put_exchanged-requires-clause-special g c = (rw c.in-Exchange.is at c.requires.step).2
+
+pub put_invoked-requires-clause-code : goal.put_invoked-requires-clause-code
+put_invoked-requires-clause-code g c = (rw c.in-Invoke.is at c.requires.step).0
+
+pub put_invoked-requires-clause-datum : goal.put_invoked-requires-clause-datum
+put_invoked-requires-clause-datum g c = (rw c.in-Invoke.is at c.requires.step).1
+
+pub put_object_step-requires-clause-register : goal.put_object_step-requires-clause-register
+put_object_step-requires-clause-register g c = rw c.in-Object.is at c.requires.step
+
+pub put_object_step-requires-in-Widen-clause-register : goal.put_object_step-requires-in-Widen-clause-register
+put_object_step-requires-in-Widen-clause-register g c = (rw c.in-Widen.is at c.requires.step).0
+
+pub put_object_step-requires-in-FreeOwner-clause-register : goal.put_object_step-requires-in-FreeOwner-clause-register
+put_object_step-requires-in-FreeOwner-clause-register g c = rw c.in-FreeOwner.is at c.requires.step
+
+pub returns-in-Drop-clause-written : goal.returns-in-Drop-clause-written
+returns-in-Drop-clause-written g c =
+    let none = elim c.in-Drop.is as (λ x. AreRunStepLines (run_in c.args.machine.now) c.args.step.now c.args.refusal []) [
+      | inl is ↦ rw is.1 refl
+      | inr is ↦ rw is.2 refl
+    ] in
+    ([], none, Writes-nothing)
 
 pub returns-in-Derive-clause-written : goal.returns-in-Derive-clause-written
 returns-in-Derive-clause-written g c =

@@ -1,6 +1,6 @@
 use Rattle.std.proofs.{Common.{◌≡◌, ◌≢◌, [], refl, rules}, lemmas.List.nil_from_length}
 use Rattle.cap_run_judge.specs.Readings.{run_in, stage_of}
-use Rattle.cap_run_judge.proofs.TurnLemmas.{ended_some, ends_refused, unended}
+use Rattle.cap_run_judge.proofs.TurnLemmas.{ended_clear, ended_some, ends_refused, unended}
 use Rattle.cap_run_judge.proofs.judges.RunJudge.ending.Goals as goal
 
 pub returns-else-is_empty-clause-ends : goal.returns-else-is_empty-clause-ends
@@ -21,3 +21,12 @@ pub returns-then-is_empty-clause-ends : goal.returns-then-is_empty-clause-ends
 returns-then-is_empty-clause-ends g c = λ cut.
     let none : c.args.rest.now ≡ [] = nil_from_length _ (search rules) in
     rw (c.in-Ended.is, none) (refl, c.steps.ensures.value, c.roots.ensures.value, c.count.ensures.value)
+
+pub returns-else-is_empty-clause-fault : goal.returns-else-is_empty-clause-fault
+returns-else-is_empty-clause-fault g c = λ fault is. absurd (ended_clear c.args.self.now.stage fault c.in-Ended.is is)
+
+pub returns-then-is_empty-clause-fault : goal.returns-then-is_empty-clause-fault
+returns-then-is_empty-clause-fault g c = λ fault is. absurd (ended_clear c.args.self.now.stage fault c.in-Ended.is is)
+
+pub returns-in_default-clause-fault : goal.returns-in_default-clause-fault
+returns-in_default-clause-fault g c = λ fault is. absurd (c.in_default.not-Refused fault is)

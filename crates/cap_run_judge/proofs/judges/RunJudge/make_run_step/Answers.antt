@@ -1,8 +1,7 @@
-use Rattle.std.proofs.Common.{ap, refl}
-use Rattle.cap_run.specs.{RunChanges.run_after, RunChecks.{run_end, run_wants}}
+use Rattle.std.proofs.Common.{None, ap, refl}
 use Rattle.cap_run_log.specs.declared.lines.RunLine.TheVariants as lines
 use Rattle.cap_run_judge.specs.Readings.{due_of, run_in}
-use Rattle.cap_run_judge.proofs.{FollowLemmas.step_follows, TurnLemmas.err_same}
+use Rattle.cap_run_judge.proofs.{FollowLemmas.{no_body, ok_no_err, stage_stays, step_follows, step_unmade, tried}}
 use Rattle.cap_run_judge.proofs.judges.RunJudge.make_run_step.Goals as goal
 
 pub returns-in-Ok-clause-taken : goal.returns-in-Ok-clause-taken
@@ -15,9 +14,24 @@ returns-in-Ok-clause-taken g c =
 
 pub returns-in-Err-clause-same : goal.returns-in-Err-clause-same
 returns-in-Err-clause-same g c =
-    let machine = c.args.self.now.machine in
-    let old = run_in machine in
-    let step = c.args.step.now in
-    let same = err_same (run_end machine.asks old step) (run_after old step) (run_wants old step) old c.in-Err.end
-    (run_in c.make.new.self) c.in-Err.ensures.outcome in
-    cc (c.make.ensures.asks, same)
+    let s = c.args.self.now in
+    stage_stays s.machine.asks c.make.new.self.asks (run_in s.machine) (run_in c.make.new.self) (due_of s.stage) (lines.Run c.args.step.now)
+    c.in-Err.end c.make.ensures.asks c.in-Err.ensures.outcome
+
+pub returns-in-Ok-clause-goes_on : goal.returns-in-Ok-clause-goes_on
+returns-in-Ok-clause-goes_on g c = rw c.in-Body.is (λ is. is)
+
+pub returns-in-Ok-clause-untried : goal.returns-in-Ok-clause-untried
+returns-in-Ok-clause-untried g c = λ is. absurd (ok_no_err tt None is)
+
+pub returns-in-Err-clause-unmade : goal.returns-in-Err-clause-unmade
+returns-in-Err-clause-unmade g c =
+    let s = c.args.self.now in
+    step_unmade s.machine.asks (run_in s.machine) (run_in c.make.new.self) (due_of s.stage) (lines.Run c.args.step.now)
+    c.in-Err.end (ap due_of c.in-Body.is) c.in-Err.ensures.outcome
+
+pub returns-in-Err-clause-untried : goal.returns-in-Err-clause-untried
+returns-in-Err-clause-untried g c = λ is. absurd (tried c.in-Err.end is)
+
+pub returns : goal.returns
+returns g c = record { taken = tt; goes_on = tt; same = refl; unmade = tt; untried = λ _. no_body c.args.self.now.stage c.in_default.not-Body }

@@ -1,6 +1,6 @@
-use Rattle.std.proofs.Common.{[], refl}
+use Rattle.std.proofs.{Common.{[], length, refl}, Math.Nat.sub-le}
 use Rattle.cap_run_judge.specs.Readings.{stage_of}
-use Rattle.cap_run_judge.proofs.TurnLemmas.{goes_line, goes_more, goes_none, stops_here}
+use Rattle.cap_run_judge.proofs.TurnLemmas.{goes_line, goes_more, goes_none, later_fits, later_shorter, stops_here}
 use Rattle.cap_run_judge.proofs.judges.RunJudge.take.Goals as goal
 
 pub lines-init : goal.lines-init
@@ -31,3 +31,18 @@ returns-in-Err-clause-stops g c =
     let on = goes_more first (stage_of c.lines.self) middle c.args.bytes.now so_far.0 c.lines.rest.now steps.0 here
     so_far.1 so_far.2 steps.1 steps.2 in
     stops_here first middle (stage_of c.take_next.new.self) c.args.bytes.now on.0 here c.in-Err.stop on.1 on.2 c.in-Err.ensures.err
+
+pub lines-smaller : goal.lines-smaller
+lines-smaller g c =
+    let steps = c.take_front-before.ensures in
+    let line = c.in-Ok.ensures.ok in
+    later_shorter c.lines.rest.now steps.0 c.take_front-before.result.now c.in-Ok.behind.now line.0 steps.1 line.1
+
+pub overflow_sub-count : goal.overflow_sub-count
+overflow_sub-count g c =
+    let so_far = c.lines.invariant.taken in
+    let steps = c.take_front-before.ensures in
+    later_fits c.args.bytes.now so_far.0 c.lines.rest.now steps.0 c.take_front-before.result.now so_far.1 steps.1
+
+pub returns-in-Err-clause-count : goal.returns-in-Err-clause-count
+returns-in-Err-clause-count g c = sub-le (length c.args.bytes.now) (length c.take_front-before.result.now)

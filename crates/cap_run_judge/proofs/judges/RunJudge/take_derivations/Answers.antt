@@ -1,6 +1,7 @@
 use Rattle.std.proofs.Common.{[], refl, subst, sym}
+use Rattle.cap_run.proofs.StepTakingLemmas.{line_shorter}
 use Rattle.cap_run_judge.specs.{Readings.stage_of, Turns.{Goes, Stage}}
-use Rattle.cap_run_judge.proofs.TurnLemmas.{goes_line, goes_none, line_shorter}
+use Rattle.cap_run_judge.proofs.TurnLemmas.{goes_line, goes_none}
 use Rattle.cap_run_judge.proofs.judges.RunJudge.take_derivations.Goals as goal
 
 pub lines-init : goal.lines-init

@@ -1,8 +1,8 @@
 use Rattle.std.proofs.Common.{[], ◌≡◌, ◌≢◌, ◌⊎◌, inl, inr, subst}
-use Rattle.cap_judge.specs.declared.judges.Stop.{Stop, TheVariants.{Cut, Fault}}
+use Rattle.cap_judge.specs.declared.{judges.Stop.{Stop, TheVariants.{Cut, Fault}}, verdict.TakeFault.TheVariants.{NoLine, NoMemory}}
 use Rattle.cap_judge.proofs.TurnLemmas.{whole_uncut}
 use Rattle.cap_run_judge.specs.{Readings.{StopsAt, stage_of}, Turns.Stage, Verdicts.Lacks}
-use Rattle.cap_run_judge.proofs.FollowLemmas.{line_whole, nothing_goes, stop_follows, whole_lacks}
+use Rattle.cap_run_judge.proofs.FollowLemmas.{line_whole, nothing_goes, ok_no_err, stop_follows, whole_lacks}
 use Rattle.cap_run_judge.proofs.TurnLemmas.{ends_at}
 use Rattle.cap_run_judge.proofs.judges.RunJudge.take_end.Goals as goal
 
@@ -37,4 +37,4 @@ returns-in-Fault g c =
     let stop = subst (λ (s : Stop). StopsAt old [] text s new) cut c.stop.ensures.stops in
     whole_uncut text (line_whole text ends.0 ends.1) stop.1 in
     let stop = subst (λ (s : Stop). StopsAt old [] text s new) (fault_only c.stop.result c.in-Fault.is uncut) c.stop.ensures.stops in
-    record { taken = stop_follows old new [] text stop; unchanged = tt; line = λ e. cc; no_memory = λ e. cc }
+    record { taken = stop_follows old new [] text stop; unchanged = tt; line = ok_no_err tt NoLine; no_memory = λ e. absurd (ok_no_err tt NoMemory e) }

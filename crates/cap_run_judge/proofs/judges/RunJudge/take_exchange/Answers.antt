@@ -1,8 +1,7 @@
 use Rattle.std.proofs.Common.{Ok, refl}
-use Rattle.cap_run_log.specs.RunLines.{exchange_line, exchange_step}
-use Rattle.cap_run.specs.{RunChanges.run_after, RunChecks.{run_end, run_wants}}
-use Rattle.cap_run_judge.specs.Readings.{run_in}
-use Rattle.cap_run_judge.proofs.TurnLemmas.{body_answers, err_same}
+use Rattle.cap_run_log.specs.RunLines.{exchange_line}
+use Rattle.cap_run_judge.specs.Readings.{due_of, run_in}
+use Rattle.cap_run_judge.proofs.{FollowLemmas.stage_stays, TurnLemmas.body_answers}
 use Rattle.cap_run_judge.proofs.judges.RunJudge.take_exchange.Goals as goal
 
 pub returns-in-Ok-clause-some : goal.returns-in-Ok-clause-some
@@ -17,9 +16,6 @@ returns-in-Ok-clause-some g c =
 
 pub returns-in-Err-clause-none : goal.returns-in-Err-clause-none
 returns-in-Err-clause-none g c =
-    let asks = c.args.self.now.machine.asks in
-    let old = run_in c.args.self.now.machine in
-    let step = exchange_step c.in-Some.exchange in
-    let same = err_same (run_end asks old step) (run_after old step) (run_wants old step) old c.in-Err.field-0 (run_in c.make_exchange.new.self)
-    c.in-Err.ensures.outcome in
-    cc (c.make_exchange.ensures.asks, same)
+    let s = c.args.self.now in
+    stage_stays s.machine.asks c.make_exchange.new.self.asks (run_in s.machine) (run_in c.make_exchange.new.self) (due_of s.stage) (exchange_line c.in-Some.exchange)
+    c.in-Err.field-0 c.make_exchange.ensures.asks c.in-Err.ensures.outcome

@@ -1,9 +1,10 @@
-use Rattle.std.proofs.Common.{◌≡◌, ◌∙◌, [], Some, Result, Ok, Err, OnOk, IfErr, ap, refl, subst, sym}
-use Rattle.cap_judge.specs.declared.verdict.TakeFault.TheVariants.{NoMemory}
-use Rattle.cap_run.specs.{declared.{asks.Asks.Asks, ends.RunEnd.RunEnd}, Run.Run, RunChanges.usual_after, RunChecks.{usual_end, usual_wants}, StepLines.TakesAlone}
-use Rattle.cap_run_log.specs.declared.lines.RunLine.{RunLine}
-use Rattle.cap_run_judge.specs.{Readings.{EndsLine, Follows, due_of, run_in, stage_of}, Turns.{Body, Due, Stage}, Verdicts.Lacks}
-use Rattle.cap_run_judge.proofs.{FollowLemmas.{line_whole, whole_taken}, TurnLemmas.{body_answers, err_same, line_is}}
+use Rattle.std.proofs.Common.{◌≡◌, ◌∙◌, ℕ, List, [], Some, Result, Ok, Err, OnOk, IfErr, ap, refl, subst, sym}
+use Rattle.cap_judge.specs.declared.verdict.TakeFault.TheVariants.{NoLine, NoMemory}
+use Rattle.cap_log.specs.declared.kinds.Step.{Step}
+use Rattle.cap_run.specs.{declared.{asks.Asks.Asks, ends.RunEnd.RunEnd}, Run.Run, RunChanges.usual_after, RunChecks.{Answers, usual_end, usual_wants}, StepLines.TakesAlone}
+use Rattle.cap_run_log.specs.{declared.lines.RunLine.RunLine, RunLines.run_spelling}
+use Rattle.cap_run_judge.specs.{Readings.{AnswersLine, EndsLine, Follows, due_of, run_in, stage_of}, Turns.{Body, Due, Stage}, Verdicts.Lacks}
+use Rattle.cap_run_judge.proofs.{FollowLemmas.{line_whole, ok_no_err, whole_taken}, TurnLemmas.{body, body_answers, err_same, line_is}}
 use Rattle.cap_run_judge.proofs.judges.RunJudge.take_line.Goals as goal
 
 -- a machine that changed nothing leads to the same stage
@@ -15,6 +16,18 @@ same_stage : (asks_are asks_then : Asks) (old new : Run) (due_is : Due) → asks
 same_stage asks_are asks_then old new due_is asked same =
     ap (λ (a : Asks). stage_by a new due_is) asked ∙ ap (λ (r : Run). stage_by asks_are r due_is) same
 
+alone_same : (asks_are asks_then : Asks) (old new : Run) (due_is : Due) (line : List ℕ) (end : RunEnd)
+    → TakesAlone asks_are old line (Some (Err end)) asks_then new → stage_by asks_then new due_is ≡ stage_by asks_are old due_is
+alone_same asks_are asks_then old new due_is line end taken =
+    same_stage asks_are asks_then old new due_is taken.3
+    (err_same (usual_end asks_are old taken.0) (usual_after old taken.0) (usual_wants old taken.0) old end new taken.2)
+
+-- a machine's answer to a step
+step_answers : (asks_are : Asks) (old new : Run) (step : Step) (result : Result (Unit {0}) RunEnd)
+    → Answers (usual_end asks_are old step) (usual_after old step) (usual_wants old step) old result new
+    → AnswersLine (body asks_are old) (RunLine.Step step) result (body asks_are new)
+step_answers asks_are old new step result answers = body_answers asks_are old new (RunLine.Step step) result refl answers
+
 pub take_end-requires : goal.take_end-requires
 take_end-requires g c =
     let s = c.args.self.now in
@@ -23,14 +36,13 @@ take_end-requires g c =
     let taken = subst (λ (r : Result (Unit {0}) RunEnd). TakesAlone s.machine.asks (run_in s.machine) c.args.line.now (Some r) n.asks (run_in n))
     c.in-Some-Err.field-0-is c.in-Some-Err.ensures.taken in
     let line = RunLine.Step taken.0 in
-    let answer = body_answers s.machine.asks old (run_in n) line (Err c.in-Some-Err.end) refl taken.2 in
-    let same = err_same (usual_end s.machine.asks old taken.0) (usual_after old taken.0) (usual_wants old taken.0) old c.in-Some-Err.end (run_in n) taken.2 in
+    let answer = step_answers s.machine.asks old (run_in n) taken.0 (Err c.in-Some-Err.end) taken.2 in
     record {
       ends = (
         line,
         taken.1,
         rw c.in-Body.is
-            (refl, subst (λ (st : Stage). EndsLine st line c.in-Some-Err.end) (sym (same_stage s.machine.asks n.asks old (run_in n) Body taken.3 same)) answer.0),
+            (refl, subst (λ (st : Stage). EndsLine st line c.in-Some-Err.end) (sym (alone_same s.machine.asks n.asks old (run_in n) Body c.args.line.now c.in-Some-Err.end taken)) answer.0),
       );
     }
 
@@ -41,14 +53,14 @@ returns-in-Some-Ok-clause-taken g c =
     let taken = rw (c.in-Some-Ok.is ∙ ap Some c.in-Some-Ok.field-0-is) at c.take_alone.ensures.taken in
     let line = RunLine.Step taken.0 in
     rw (c.in-Body.is, taken.3)
-    (whole_taken _ _ c.args.line.now [] line (line_whole c.args.line.now line taken.1) taken.1
-    (body_answers s.machine.asks (run_in s.machine) (run_in n) line (Ok tt) refl taken.2))
+    (whole_taken (body s.machine.asks (run_in s.machine)) (body s.machine.asks (run_in n)) c.args.line.now [] line (line_whole c.args.line.now line taken.1) taken.1
+    (step_answers s.machine.asks (run_in s.machine) (run_in n) taken.0 (Ok tt) taken.2))
 
 pub returns-in-Some-Ok-clause-no_line : goal.returns-in-Some-Ok-clause-no_line
 returns-in-Some-Ok-clause-no_line g c =
     let taken = rw (c.in-Some-Ok.is ∙ ap Some c.in-Some-Ok.field-0-is) at c.take_alone.ensures.taken in (
-      λ e. absurd (let never : ⊥ = cc in never),
-      λ none. absurd (none.0 _ (line_is (RunLine.Step taken.0) c.args.line.now [] taken.1)),
+      λ e. absurd (ok_no_err tt NoLine e),
+      λ none. absurd (none.0 (run_spelling (RunLine.Step taken.0)) (line_is (RunLine.Step taken.0) c.args.line.now [] taken.1)),
     )
 
 pub returns-in-Some-Err-clause-taken : goal.returns-in-Some-Err-clause-taken
@@ -58,9 +70,8 @@ returns-in-Some-Err-clause-taken g c =
     let old = run_in s.machine in
     let taken = subst (λ (r : Result (Unit {0}) RunEnd). TakesAlone s.machine.asks (run_in s.machine) c.args.line.now (Some r) n.asks (run_in n))
     c.in-Some-Err.field-0-is c.in-Some-Err.ensures.taken in
-    let same = err_same (usual_end s.machine.asks old taken.0) (usual_after old taken.0) (usual_wants old taken.0) old c.in-Some-Err.end (run_in n) taken.2 in
     subst (λ (st : Stage). OnOk c.take_end.result (Follows st c.args.line.now (stage_of c.take_end.new.self)))
-    (same_stage s.machine.asks n.asks old (run_in n) (due_of s.stage) taken.3 same) c.take_end.ensures.taken
+    (alone_same s.machine.asks n.asks old (run_in n) (due_of s.stage) c.args.line.now c.in-Some-Err.end taken) c.take_end.ensures.taken
 
 pub returns-in-Some-Err-clause-unchanged : goal.returns-in-Some-Err-clause-unchanged
 returns-in-Some-Err-clause-unchanged g c =
@@ -69,15 +80,14 @@ returns-in-Some-Err-clause-unchanged g c =
     let old = run_in s.machine in
     let taken = subst (λ (r : Result (Unit {0}) RunEnd). TakesAlone s.machine.asks (run_in s.machine) c.args.line.now (Some r) n.asks (run_in n))
     c.in-Some-Err.field-0-is c.in-Some-Err.ensures.taken in
-    let same = err_same (usual_end s.machine.asks old taken.0) (usual_after old taken.0) (usual_wants old taken.0) old c.in-Some-Err.end (run_in n) taken.2 in
     subst (λ (st : Stage). IfErr c.take_end.result (λ _. stage_of c.take_end.new.self ≡ st))
-    (same_stage s.machine.asks n.asks old (run_in n) (due_of s.stage) taken.3 same) c.take_end.ensures.unchanged
+    (alone_same s.machine.asks n.asks old (run_in n) (due_of s.stage) c.args.line.now c.in-Some-Err.end taken) c.take_end.ensures.unchanged
 
 pub returns-in-Some-Err-clause-no_line : goal.returns-in-Some-Err-clause-no_line
 returns-in-Some-Err-clause-no_line g c =
     let taken = rw (c.in-Some-Err.is ∙ ap Some c.in-Some-Err.field-0-is) at c.take_alone.ensures.taken in (
       λ e. absurd (c.take_end.ensures.line e),
-      λ none. absurd (none.0 _ (line_is (RunLine.Step taken.0) c.args.line.now [] taken.1)),
+      λ none. absurd (none.0 (run_spelling (RunLine.Step taken.0)) (line_is (RunLine.Step taken.0) c.args.line.now [] taken.1)),
     )
 
 pub returns-in-Some-Err-clause-no_memory : goal.returns-in-Some-Err-clause-no_memory
@@ -87,9 +97,8 @@ returns-in-Some-Err-clause-no_memory g c =
     let old = run_in s.machine in
     let taken = subst (λ (r : Result (Unit {0}) RunEnd). TakesAlone s.machine.asks (run_in s.machine) c.args.line.now (Some r) n.asks (run_in n))
     c.in-Some-Err.field-0-is c.in-Some-Err.ensures.taken in
-    let same = err_same (usual_end s.machine.asks old taken.0) (usual_after old taken.0) (usual_wants old taken.0) old c.in-Some-Err.end (run_in n) taken.2 in
     subst (λ (st : Stage). c.take_end.result ≡ Err NoMemory → Lacks st c.args.line.now [])
-    (same_stage s.machine.asks n.asks old (run_in n) (due_of s.stage) taken.3 same) c.take_end.ensures.no_memory
+    (alone_same s.machine.asks n.asks old (run_in n) (due_of s.stage) c.args.line.now c.in-Some-Err.end taken) c.take_end.ensures.no_memory
 
 pub returns-in-None-clause-taken : goal.returns-in-None-clause-taken
 returns-in-None-clause-taken g c =

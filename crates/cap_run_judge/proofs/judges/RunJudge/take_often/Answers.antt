@@ -1,7 +1,7 @@
-use Rattle.std.proofs.Common.{[], ap, arith, length, length-append, refl, subst, sym}
+use Rattle.std.proofs.Common.{[], refl, subst, sym}
 use Rattle.cap_run.specs.declared.asks.Asks.{Asks}
 use Rattle.cap_run_judge.specs.{Readings.{run_in, stage_of}, Turns.Goes}
-use Rattle.cap_run_judge.proofs.TurnLemmas.{body, goes_more, goes_none, steps_go}
+use Rattle.cap_run_judge.proofs.TurnLemmas.{body, goes_more, goes_none, later_smaller, steps_go}
 use Rattle.cap_run_judge.proofs.judges.RunJudge.take_often.Goals as goal
 
 pub lines-init : goal.lines-init
@@ -47,3 +47,10 @@ returns-then-behind-before g c =
           (goes_more first (body middle.machine.asks (run_in middle.machine)) (body new.asks (run_in new)) c.args.bytes.now on.0 here taken.0
           c.take_steps-behind.result.now on.1 on.2 taken.1 steps);
     }
+
+pub lines-smaller : goal.lines-smaller
+lines-smaller g c =
+    let derived = c.take_derivations-before.ensures.taken in
+    let taken = c.take_steps-behind.ensures.taken in
+    later_smaller c.lines.rest.now derived.0 c.take_derivations-before.result.now taken.0 c.take_steps-behind.result.now derived.1 taken.1
+    c.if-behind-before.false
