@@ -8,7 +8,7 @@ ghost use Rattle.cap_run_log.specs.declared.lines.RunRegister.TheVariants.{Gener
 ghost use Rattle.cap_run_log.specs.declared.lines.RunStep.TheVariants.{Derive, Exchange, Invoke};
 ghost use Rattle.cap_run.specs.{Numbers.numbered_run, Run.{IsSource, IsTargetOf, register_key}, RunOf.{run_of, run_state}};
 ghost use Rattle.cap_run.specs.{RunChanges.{run_after, stepped, with_place}, RunChecks.{Answers, run_end, run_wants}};
-ghost use Rattle.cap_run.specs.RunSteps.{derived_refusal, invoked_refusal, step_limit};
+ghost use Rattle.cap_run.specs.RunSteps.{derived_refusal, invoked_refusal, is_pcc, step_limit};
 
 use crate::derivations::is_plainly_derived;
 use crate::ends::{RunEnd, RunRefusal};
@@ -30,6 +30,15 @@ fn anew(cap: Cap) -> Cap
     }
 }
 
+// Whether a register is PCC: there alone a sentry opens.
+#[inline(always)]
+fn is_pcc(register: RunRegister) -> bool
+    requires { IsTargetOf register }
+    ensures { result ≡ is_pcc register }
+{
+    matches!(register, RunRegister::Special(0))
+}
+
 // Why a register can't get what is derived from a source.
 #[inline(never)]
 fn derived_refusal(target: RunRegister, source: Cap, recorded: Cap) -> Option<RunRefusal>
@@ -40,8 +49,7 @@ fn derived_refusal(target: RunRegister, source: Cap, recorded: Cap) -> Option<Ru
     if !recorded.tag {
         return None;
     }
-    let opens = matches!(target, RunRegister::Special(0));
-    match derive_fault(source, recorded.word, opens) {
+    match derive_fault(source, recorded.word, is_pcc(target)) {
         None => None,
         Some(fault) => Some(match fault {
             DeriveFault::SourceUntagged => RunRefusal::Usual(Refusal::SourceUntagged),
@@ -103,8 +111,7 @@ impl<M: TaggedStore> RunMachine<M> {
         ensures sound { IsSoundCap (run_state self.now.machine self.now.specials (register_key source)) }
     {
         let cap = self.register(source);
-        let is_pcc = matches!(target, RunRegister::Special(0));
-        if is_plainly_derived::<true>(cap, recorded.word, is_pcc) {
+        if is_plainly_derived::<true>(cap, recorded.word, is_pcc(target)) {
             return None;
         }
         derived_refusal(target, cap, recorded)
@@ -122,8 +129,7 @@ impl<M: TaggedStore> RunMachine<M> {
         ensures sound { IsSoundCap (run_state self.now.machine self.now.specials (register_key source)) }
     {
         let cap = self.register(source);
-        let is_pcc = matches!(target, RunRegister::Special(0));
-        !recorded.tag || is_plainly_derived::<FAR>(cap, recorded.word, is_pcc)
+        !recorded.tag || is_plainly_derived::<FAR>(cap, recorded.word, is_pcc(target))
     }
 
     /// A register gets what is derived from another one, with its owner, or without a tag from any. It is refused for the

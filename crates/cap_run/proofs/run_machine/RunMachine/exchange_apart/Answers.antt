@@ -15,7 +15,7 @@ returns-clause-outcome g c =
     let key = register_key (Special c.args.number) in
     let second = derived_refusal (Special c.args.number) (state c.args.source) c.args.special_recorded in (
       neither (derived_refusal (General c.args.target) (state key) c.args.recorded) (or_later second limit)
-          (cc) (neither second limit (cc) (sym c.step_limit.ensures.value ∙ c.in_default-step_limit.is)),
+          (sym c.refusal_of_derived.ensures.value ∙ c.in_default.is) (neither second limit (cc) (sym c.step_limit.ensures.value ∙ c.in_default-step_limit.is)),
       both-numbered s.machine n.machine s.specials n.specials s.objects n.objects n.specials.sized.1 n.counted s.objects.kept.numbered n.objects.kept.numbered
           c.args.target key (owners key) (owners c.args.source) c.args.recorded c.args.special_recorded c.write_both.ensures.writes,
     )

@@ -1,4 +1,6 @@
-use Rattle.std.proofs.Common.{refl}
+use Rattle.std.proofs.{Common.{◌==◌, ◌∙◌, None, Some, eq-eqb, refl}, lemmas.Bool.cond-true}
+use Rattle.cap_ops.specs.declared.refusal.Refusal.TheVariants.{WrongCount}
+use Rattle.cap_run.specs.declared.ends.RunRefusal.TheVariants.{Usual}
 use Rattle.cap_run_log.specs.declared.lines.RunLine.{RunLine}
 use Rattle.cap_run_judge.specs.Readings.{run_in}
 use Rattle.cap_run_judge.proofs.TurnLemmas.{body_answers}
@@ -21,3 +23,10 @@ returns-in-Run g c =
     rw (c.requires.body, c.in-Run.is, c.make.ensures.asks)
     (body_answers c.args.self.now.machine.asks (run_in c.args.self.now.machine) (run_in c.make.new.self) (RunLine.Run c.in-Run.step) c.make.result refl
     c.make.ensures.outcome)
+
+pub returns-else-count-steps : goal.returns-else-count-steps
+returns-else-count-steps g c =
+    let count = c.in-End.count in
+    let steps = c.args.self.now.machine.machine.steps in
+    rw (c.requires.body, c.in-End.is)
+    (cond-true (count == steps) None (Some (Usual WrongCount)) (eq-eqb count steps (c.if-count-steps.false ∙ c.steps.ensures.value)), refl)

@@ -60,3 +60,6 @@ returns-in-Err-NoMemory-clause-no_line g c = whole_is_line c.args.line.now (Err 
 
 pub returns-in-Err-Cut-clause-no_memory : goal.returns-in-Err-Cut-clause-no_memory
 returns-in-Err-Cut-clause-no_memory g c = λ is. absurd (memory_no_line (sym is))
+
+pub returns-in-Err-NoMemory-clause-taken : goal.returns-in-Err-NoMemory-clause-taken
+returns-in-Err-NoMemory-clause-taken g c = tt
