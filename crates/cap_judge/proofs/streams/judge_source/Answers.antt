@@ -1,7 +1,9 @@
-use Rattle.std.proofs.Common.{◌≡◌, ◌≢◌, ◌++◌, [], ℕ, List, append-nil, append_assoc, arith, inl, length, refl, rules}
-use Rattle.std.proofs.{Common.{subst, sym, true, ◌∙◌}, lemmas.List.Elements.All-nil}
-use Rattle.cap_streams.specs.{FaultLines.bytes_of, Front.IsCut, ReadBuffers.items}
-use Rattle.cap_judge.specs.{Readings.{AnswerAtEnd, stage_of}, Turns.unread}
+use Rattle.std.proofs.Common.{◌≡◌, ◌≢◌, ◌++◌, [], ℕ, List, ap, append-nil, append_assoc, arith, inl, length, refl, rules}
+use Rattle.std.proofs.{Common.{Result, Ok, Err, subst, sym, true, ◌∙◌}, lemmas.List.Elements.All-nil}
+use Rattle.cap_streams.specs.{FaultLines.bytes_of, Front.IsCut, ReadBuffers.items, Streams.next_count}
+use Rattle.cap_streams.specs.declared.judging.judge_faults.JudgeFault.{JudgeFault}
+use Rattle.cap_judge.specs.{Readings.{AnswerAtEnd, IsAnswered, stage_of}, Turns.unread}
+use Rattle.cap_judge.specs.declared.{faults.RefusedLine.RefusedLine, verdict.Verdict.Verdict}
 use Rattle.cap_judge.proofs.SourceLemmas.{closer, ended_answer, given_more, lacking_judged, nothing_more, pull_judged}
 use Rattle.cap_judge.proofs.{SourceLemmas.verdict_judged, TurnLaws.{lacks_memory, reached, refused_told, told}}
 use Rattle.cap_judge.proofs.TurnLemmas.{faults_at, follows_on, goes_none, goes_on, stop_follows}
@@ -114,3 +116,34 @@ returns-in-NoMemory-clause-judged g c =
     ((here.0 ++ taken.0) ++ rest) stop.1
     (lacks_memory (here.0 ++ taken.0) rest stop.1 new (inl goes) stop.2)
     (subst (g.S.Source.gave c.args.source.now c.fill.new.source) (sym (append_assoc here.0 taken.0 rest)) gives)
+
+-- the answers that are no fault of the source
+memory_no_pull : ◌≢◌ {A = Result Verdict JudgeFault} (Err JudgeFault.NoMemory) (Err JudgeFault.Pull)
+memory_no_pull is = cc
+
+answered_no_pull : (end : Result Verdict RefusedLine) (answer : Result Verdict JudgeFault) (text : List ℕ) → IsAnswered end answer text
+    → answer ≢ Err JudgeFault.Pull
+answered_no_pull (Ok verdict) answer text is pull = cc
+answered_no_pull (Err fault) answer text is pull = cc (is.0)
+
+-- what the faults count: named, so that another answer or another source is refused at once
+pub returns-in-Err-clause-counted : goal.returns-in-Err-clause-counted
+returns-in-Err-clause-counted g c =
+    (λ other. absurd (other refl), λ _. c.in-Err.ensures.err.3 ∙ ap next_count c.pieces.invariant.counted)
+
+pub returns-in-Ok-eq0-clause-counted : goal.returns-in-Ok-eq0-clause-counted
+returns-in-Ok-eq0-clause-counted g c = (
+  λ _. c.in-Ok-eq0.ensures.counted ∙ c.pieces.invariant.counted,
+  λ pull. absurd (answered_no_pull c.ending.result c.answered.result.0 (bytes_of c.answered.result.1) c.answered.ensures pull),
+)
+
+pub returns-in-Fault-clause-counted : goal.returns-in-Fault-clause-counted
+returns-in-Fault-clause-counted g c = (
+  λ _. c.in-Ok.ensures.counted ∙ c.pieces.invariant.counted,
+  λ pull. absurd (answered_no_pull c.ending-in-Fault.result c.answered-in-Fault.result.0 (bytes_of c.answered-in-Fault.result.1)
+  c.answered-in-Fault.ensures pull),
+)
+
+pub returns-in-NoMemory-clause-counted : goal.returns-in-NoMemory-clause-counted
+returns-in-NoMemory-clause-counted g c =
+    (λ _. c.in-Ok.ensures.counted ∙ c.pieces.invariant.counted, λ pull. absurd (memory_no_pull pull))

@@ -44,3 +44,6 @@ returns-clause-stops c = λ room.
       | else-loop-count-test w ↦ absurd (omega (arith, room, w.loop-count-test.false))
       | then-loop-count-test+then-line-eq-NO_LINE w ↦ none_read _ _ w.capcheck_read_line-line.ensures.read w.if-line-eq-NO_LINE.true
     ])
+
+pub returns-clause-tags : goal.returns-clause-tags
+returns-clause-tags c = c.loop-count.invariant.tags

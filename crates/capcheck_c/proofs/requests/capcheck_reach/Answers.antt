@@ -1,5 +1,5 @@
 use Rattle.std.proofs.Common.{ℕ, ◌≡◌, ◌<◌, ◌≤◌, ◌+◌, ◌-◌, ◌*◌, ◌%◌, ◌^◌, ◌↔◌, refl, subst}
-use Rattle.cap_bounds.specs.{Bounds.{IsWindow, base_of, top_of, unit_of}, Range.{KeepsBounds, window_start}}
+use Rattle.cap_bounds.specs.{Bounds.{IsWindow, base_of, top_of, unit_of, window_size}, Range.{KeepsBounds, window_start}}
 use Rattle.capcheck_c.proofs.requests.capcheck_reach.Goals as goal
 
 -- What `capcheck_reach` says of a word as it says it of every address.
@@ -33,3 +33,10 @@ returns-in-Some-clause-margins c = subst Margins c.word_of.ensures.value c.in-So
 
 pub returns-in-Some-clause-exact : goal.returns-in-Some-clause-exact
 returns-in-Some-clause-exact c = λ _. subst (Exact c.in-Some.start c.in-Some.size) c.word_of.ensures.value c.in-Some.ensures.exact
+
+pub returns-in-Some-clause-start : goal.returns-in-Some-clause-start
+returns-in-Some-clause-start c = λ _.
+    subst (λ (w : ℕ). c.in-Some.start ≡ window_start w % 2 ^ 64) c.word_of.ensures.value c.in-Some.ensures.start
+
+pub returns-in-Some-clause-size : goal.returns-in-Some-clause-size
+returns-in-Some-clause-size c = λ _. subst (λ (w : ℕ). c.in-Some.size ≡ window_size w) c.word_of.ensures.value c.in-Some.ensures.size

@@ -1,4 +1,4 @@
-use Rattle.std.proofs.Common.{◌≡◌, ◌∙◌, ap, sym, Some}
+use Rattle.std.proofs.Common.{◌≡◌, ◌∙◌, ap, refl, sym, Some}
 use Rattle.capcheck_judge.proofs.HandleLemmas.{HandsLine, line_handed}
 use Rattle.capcheck_judge.proofs.lines.capcheck_judge_line.Goals as goal
 
@@ -23,3 +23,6 @@ returns-in-Some-clause-still_holds c = (handed c).still_holds
 
 pub returns-in-Some-clause-no_memory : goal.returns-in-Some-clause-no_memory
 returns-in-Some-clause-no_memory c = (handed c).no_memory
+
+pub returns-in-None-clause-no_judge : goal.returns-in-None-clause-no_judge
+returns-in-None-clause-no_judge c = (λ four. c.in-None.ensures.taken, λ none. refl)

@@ -1,4 +1,4 @@
-use Rattle.std.proofs.Common.{◌≡◌, inl, rules}
+use Rattle.std.proofs.Common.{◌≡◌, ℕ, arith, inl, rules}
 use Rattle.cap_judge.specs.Turns.{unread}
 use Rattle.cap_judge.proofs.TurnLemmas.{goes_none}
 use Rattle.capcheck_judge.proofs.lines.capcheck_judge_open.Goals as goal
@@ -11,3 +11,13 @@ returns-in-Ok-clause-opened c = λ _.
       held_is = c.put.ensures;
       taken = inl (rw (same, c.over_pages.ensures.read) (goes_none unread));
     }
+
+pub put-requires : goal.put-requires
+put-requires c = record { empty = cc }
+
+-- a refusal isn't told as 0
+three : ◌≡◌ {A = ℕ} 3 0 → ⊥
+three zero = omega arith
+
+pub returns-clause-opened : goal.returns-clause-opened
+returns-clause-opened c = λ zero. absurd (three zero)

@@ -10,3 +10,6 @@ returns-in-Ok-clause-taken g c =
     let step = g.I.Operands.step c.args.step in
     step_follows c.args.self.now.due old new (spelling (Line.Step step) ++ 10 ∷ []) c.in-Body.is
     (step, (c.perform.ensures.range, refl), makes_takes old new step c.in-Ok.ensures.outcome, c.in-Ok.ensures.outcome.same_room)
+
+pub returns-in-Err-clause-taken : goal.returns-in-Err-clause-taken
+returns-in-Err-clause-taken g c = tt

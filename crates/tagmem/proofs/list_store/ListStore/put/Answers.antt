@@ -47,3 +47,9 @@ returns-in-Err-clause-ok c =
 pub returns-in-Err-clause-only_new : goal.returns-in-Err-clause-only_new
 returns-in-Err-clause-only_new c =
     OnErr-from _ _ (get_in_gap c.args.self.now.entries.items c.args.granule c.in-Err.index c.in-Err.ensures.absent)
+
+pub returns-in-Ok-clause-err : goal.returns-in-Ok-clause-err
+returns-in-Ok-clause-err c = tt
+
+pub returns-in-Ok-clause-only_new : goal.returns-in-Ok-clause-only_new
+returns-in-Ok-clause-only_new c = tt
