@@ -141,7 +141,7 @@ pub returns-in-Fault-clause-counted : goal.returns-in-Fault-clause-counted
 returns-in-Fault-clause-counted g c = (
   λ _. c.in-Ok.ensures.counted ∙ c.pieces.invariant.counted,
   λ pull. absurd (answered_no_pull c.ending-in-Fault.result c.answered-in-Fault.result.0 (bytes_of c.answered-in-Fault.result.1)
-  c.answered-in-Fault.ensures pull),
+      c.answered-in-Fault.ensures pull),
 )
 
 pub returns-in-NoMemory-clause-counted : goal.returns-in-NoMemory-clause-counted

@@ -27,8 +27,11 @@ wrong_later : (fields : List Field) (field : Field) (more : List Field) (size af
 wrong_later fields field more size after end bytes rest are ends stands after_is None is = tt
 wrong_later fields field more size after end bytes rest are ends stands after_is (Some wrong) is =
     subst (λ (f : List Field). IsFirstWrong f size bytes wrong.field wrong.end wrong.rest.now) (sym are)
-    (inr (rest, subst (λ (e : ℕ). Stands field size e bytes rest) ends stands,
-    subst (λ (s : ℕ). IsFirstWrong more s rest wrong.field wrong.end wrong.rest.now) after_is is))
+    (inr (
+      rest,
+      subst (λ (e : ℕ). Stands field size e bytes rest) ends stands,
+      subst (λ (s : ℕ). IsFirstWrong more s rest wrong.field wrong.end wrong.rest.now) after_is is,
+    ))
 
 all_stand : (fields : List Field) (field : Field) (more : List Field) (size after end : ℕ) (bytes rest : List ℕ) → fields ≡ field ∷ more
     → end ≡ end_of more → Stands field size end bytes rest → after ≡ size_after field size bytes → AllStand more after rest → AllStand fields size bytes
@@ -43,7 +46,7 @@ returns-in-Some-clause-wrong n c =
       | else-is_empty w ↦ other_end more c.if-is_empty.end w.if-is_empty.ensures w.end-is
     ] in
     wrong_later c.args.fields.now c.in_ok-field.field.now more c.args.size c.size_after.result c.if-is_empty.end c.args.bytes.now c.in-Some.rest.now
-        c.in_ok-field.ensures.cases.0 ends c.in-Some.ensures.some c.size_after.ensures c.first_wrong.result c.first_wrong.ensures.wrong
+    c.in_ok-field.ensures.cases.0 ends c.in-Some.ensures.some c.size_after.ensures c.first_wrong.result c.first_wrong.ensures.wrong
 
 pub returns-in-Some-clause-none : goal.returns-in-Some-clause-none
 returns-in-Some-clause-none n c =
@@ -63,4 +66,4 @@ returns-in-None-clause-wrong n c =
       | else-is_empty w ↦ other_end more c.if-is_empty.end w.if-is_empty.ensures w.end-is
     ] in
     wrong_here c.args.fields.now c.in_ok-field.field.now more c.args.size c.if-is_empty.end c.args.bytes.now c.in_ok-field.ensures.cases.0 ends
-        c.in-None.ensures.none
+    c.in-None.ensures.none

@@ -11,6 +11,6 @@ returns-in-Judge-Why-default-default-default c =
     at.is ∙ ap (λ (j : Judging). Judge j at.form at.file at.files) (rw at.is at at.field-0-is) in
     record {
       value =
-        ap (λ (b : Bool). if b then Judge (Run None false at.origins true) at.form at.file at.files else Judge (Why at.origins) at.form at.file at.files) run
-        ∙ sym (ap (λ (order : Order). order_on order c.args.front.now) is);
+          ap (λ (b : Bool). if b then Judge (Run None false at.origins true) at.form at.file at.files else Judge (Why at.origins) at.form at.file at.files) run
+          ∙ sym (ap (λ (order : Order). order_on order c.args.front.now) is);
     }
