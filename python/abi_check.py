@@ -21,8 +21,8 @@ from capcheck import _abi, judges, lines, runs, words  # noqa: E402
 
 # The headers, and the libraries in which the package calls what they declare.
 HEADERS = {"capcheck": [_abi.words], "capcheck_answer": [], "capcheck_judge": [_abi.judges, _abi.whole_logs],
-           "capcheck_freestanding": [_abi.freestanding]}
-LIBRARIES = {"capcheck": "capcheck_c", "capcheck_judge": "capcheck_judge", "capcheck_freestanding": "capcheck_freestanding"}
+           "capcheck_freestanding": [_abi.freestanding], "capcheck_recorder": [_abi.recorders]}
+LIBRARIES = {"capcheck": "capcheck_c", **{it: it for it in ("capcheck_judge", "capcheck_freestanding", "capcheck_recorder")}}
 # What the package doesn't need, and why.
 LEFT_OUT = {
     "capcheck_text_of": "Python writes the digits", "capcheck_word_text": "capcheck_text_of",
@@ -31,6 +31,8 @@ LEFT_OUT = {
     "CAPCHECK_VERSION": "capcheck_version", "CAPCHECK_NOT_REFUSED": "no Refusal", "CAPCHECK_KIND_NONE": "no Kind",
     "CAPCHECK_EXPECTS_NOTHING": "None", "CAPCHECK_OTYPE_GREATEST": "capcheck_seal",
     "capcheck_run_judge_report": "capcheck_run_judge_end_report",
+    "capcheck_recorder_to_file": "a file's write",
+    **dict.fromkeys(("capcheck_c", "capcheck_scr", "capcheck_granule", "capcheck_nowhere"), "places are strings"),
     **dict.fromkeys(("CAPCHECK_ADDRESS_TAKEN", "CAPCHECK_OUTSIDE_HEAP", "CAPCHECK_NOT_LIVE"), "HeapVerdict has names"),
 }
 NUMBERS = {"uint64_t": c.c_uint64, "int64_t": c.c_int64, "uint32_t": c.c_uint32, "uint16_t": c.c_uint16, "size_t": c.c_size_t,
@@ -123,7 +125,7 @@ def compare_layouts(headers, compared):
         f'    printf(" %zu", offsetof({name}, {field}));\n' for field, *_ in struct_of(name)._fields_) + '    puts("");\n'
         for name in structs)
     with tempfile.TemporaryDirectory() as work:
-        Path(f"{work}/layout.c").write_text("#include <capcheck_judge.h>\n#include <capcheck_freestanding.h>\n"
+        Path(f"{work}/layout.c").write_text("#include <capcheck_recorder.h>\n#include <capcheck_freestanding.h>\n"
                                             f"#include <stdio.h>\nint main(void) {{\n{prints}}}\n")
         subprocess.run([os.environ.get("CC", "cc"), f"-I{PREFIX}/include", f"{work}/layout.c", "-o", f"{work}/layout"], check=True)
         told = subprocess.run([f"{work}/layout"], capture_output=True, text=True, check=True).stdout

@@ -51,6 +51,8 @@ def word_call():
     fields = it.fields
     base, top = it.bounds
     reach = it.representable
+    made = DRAW.choice((other, it, it.set_bounds_clear(n), it.and_permissions_clear(m), Capability(it.word ^ 1 << 91, True)))
+    opens = DRAW.getrandbits(1) == 1
     rounded = capcheck.round_bounds(n, m)
     calls = (
         lambda: (f"read {cap(it)}", f"{base:x} {top:x} {it.length:x} {int(it.sound)} {int(it.sealed)} {it.permissions:x} {it.mantissa:x} "
@@ -68,6 +70,7 @@ def word_call():
         lambda: (f"and_permissions {cap(it)} {n:x}", tried(lambda: it.and_permissions(n)) + " / " + cap(it.and_permissions_clear(n))),
         lambda: (f"seal {cap(it)} {cap(other)}", tried(lambda: it.seal(other)) + " / " + cap(it.seal_clear(other))),
         lambda: (f"unseal {cap(it)} {cap(other)}", tried(lambda: it.unseal(other)) + " / " + cap(it.unseal_clear(other))),
+        lambda: (f"derive {cap(it)} {cap(made)} {int(opens)}", str(int(it.derive_fault(made, opens) or 0))),
         lambda: (f"may_load {cap(it)} {offset} {size}", tried(lambda: it.may_load(offset, size), "{:x}".format)),
         lambda: (f"may_store {cap(it)} {offset} {size}", tried(lambda: it.may_store(offset, size), "{:x}".format)),
         lambda: (f"may_load_capability {cap(it)} {offset}", tried(lambda: it.may_load_capability(offset), "{:x}".format)),

@@ -123,6 +123,15 @@ class HeapWhy(c.Structure):
     _fields_ = [("answer", HeapAnswer), ("length", u64)]
 
 
+RecorderWrite = c.PYFUNCTYPE(flag, pointer, pointer, size)
+
+
+class Recorder(c.Structure):
+    _fields_ = [("error", c.c_char * 192), ("lines", u64), ("spare", u64), ("state", u8), ("phase", u8), ("unread", u32), ("steps", u64),
+                ("integers", u64 * 32), ("logged", Cap * 64), ("judge", c.POINTER(RunJudge)), ("write", RecorderWrite), ("to", pointer),
+                ("waiting", size), ("queue", c.c_char * 96 * 7)]
+
+
 class Slot(c.Structure):
     _fields_ = [("fields", u64 * 4)]
 
@@ -182,7 +191,7 @@ WORDS: dict[str, tuple] = {
     "set_bounds": (Made, Cap, u64, u8), "set_addr": (Made, Cap, u64), "and_perm": (Made, Cap, u64),
     "seal": (Made, Cap, Cap), "unseal": (Made, Cap, Cap),
     "set_bounds_clear": (Cap, Cap, u64, u8), "set_addr_clear": (Cap, Cap, u64), "and_perm_clear": (Cap, Cap, u64),
-    "seal_clear": (Cap, Cap, Cap), "unseal_clear": (Cap, Cap, Cap), "clear_tag": (Cap, Cap),
+    "seal_clear": (Cap, Cap, Cap), "unseal_clear": (Cap, Cap, Cap), "clear_tag": (Cap, Cap), "derive_fault": (u8, Cap, Wide, u8),
     "may_load": (Access, Cap, i64, u64), "may_store": (Access, Cap, i64, u64), "may_load_cap": (Access, Cap, i64),
     "may_store_cap": (Access, Cap, i64, Cap), "loaded": (Cap, Cap, Cap),
     "read_line": (Line, pointer, size), "read_lines": (Read, pointer, size, c.POINTER(Line), size),
@@ -201,6 +210,17 @@ RUN_JUDGE: dict[str, tuple] = {
     "answer": (RunAnswer, _run_judge), "end": (RunAnswer, _run_judge), "held": (OptionalCap, _run_judge, Place),
     "owner": (u32, _run_judge, Place), "object": (Object, _run_judge, u32), "next_object": (u32, _run_judge, u32),
     "holder": (Place, _run_judge, u32), "end_report": (u64, _run_judge, text, size), "close": (None, _run_judge),
+}
+_recorder = c.POINTER(Recorder)
+RECORDER: dict[str, tuple] = {
+    "start": (flag, _recorder, _run_judge, RecorderWrite, pointer, u8), "root": (flag, _recorder, Place, Wide),
+    "end": (flag, _recorder), "again": (flag, _recorder), "did": (flag, _recorder, u8, u64, u64, u64, u64, Cap),
+    "wrote": (flag, _recorder, Place, Place, Cap), "overwrote": (flag, _recorder, u64, u64), "dropped": (flag, _recorder, Place),
+    "exchanged": (flag, _recorder, u64, Place, u64, Cap, Cap), "invoked": (flag, _recorder, u64, u64, Wide, Wide),
+    "trapped": (flag, _recorder, Place, Cap, u64, Cap), "loaded_cap": (flag, _recorder, u64, Place, i64, Cap),
+    "stored_cap": (flag, _recorder, u64, Place, i64), "loaded": (flag, _recorder, Place, i64, u64, u64),
+    "stored": (flag, _recorder, Place, i64, u64, u64), "filled": (flag, _recorder, u64, text), "object": (flag, _recorder, u64, u64),
+    "freed": (flag, _recorder, u64, u64), "line": (flag, _recorder, text, size),
 }
 
 
@@ -231,6 +251,7 @@ judges = _load("libcapcheck_judge", c.PyDLL)
 # A CDLL releases it: for calls that judge a whole log and have no state.
 whole_logs = _load("libcapcheck_judge", c.CDLL)
 freestanding = _load("libcapcheck_freestanding", c.CDLL)
+recorders = _load("libcapcheck_recorder", c.PyDLL)
 
 
 def shown(number: int) -> str:
@@ -266,6 +287,7 @@ _declare(judges, "capcheck_judge_", JUDGE)
 _declare(judges, "capcheck_judge_", {name: (u8, _judge, *numbers) for name, numbers in STEPS.items()})
 _declare(judges, "capcheck_run_judge_", RUN_JUDGE)
 _declare(judges, "capcheck_run_step_", {name: (u8, _run_judge, *numbers) for name, numbers in (STEPS | RUN_STEPS).items()})
+_declare(recorders, "capcheck_recorder_", RECORDER)
 _declare(whole_logs, "capcheck_judge_", {"bytes": (Answer, pointer, size)})
 _declare(whole_logs, "capcheck_run_judge_", {"bytes": (RunAnswer, pointer, size, Asks)})
 _declare(whole_logs, "capcheck_heap_judge_", {"why": (HeapWhy, pointer, size, text, size)})

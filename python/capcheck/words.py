@@ -455,6 +455,12 @@ class Capability:
         """Unseals it by an authority whose address is its object type."""
         return _made(_c.capcheck_unseal(self._cap, _passed(authority, "authority")))
 
+    def derive_fault(self, made: Capability, into_pcc: bool = False) -> Refusal | None:
+        """Why a run log's `derive` of a word from this capability is refused; None if it isn't. Only into PCC a sentry opens. An
+        untagged word is never refused."""
+        number = _c.capcheck_derive_fault(self._cap, _passed(made, "made").word, bool(into_pcc)) if made.tag else 0
+        return Refusal(number) if number else None
+
     def set_bounds_clear(self, length: int, exact: bool = False) -> Capability:
         """As `set_bounds`, on a machine that clears the tag if a check fails."""
         return _capability(_c.capcheck_set_bounds_clear(self._cap, _length(length), bool(exact)))

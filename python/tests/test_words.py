@@ -157,6 +157,9 @@ class Words(unittest.TestCase):
         self.assertEqual(cap.and_permissions(~8), cap.and_permissions(~Permissions.STORE))
         sealing = Capability.root().set_address(5)
         self.assertEqual((cap.seal(sealing).otype, cap.seal(sealing).unseal(sealing)), (5, cap))
+        self.assertEqual((Capability.root().derive_fault(cap), cap.derive_fault(Capability.root()), cap.derive_fault(NULL)),
+                         (None, Refusal.BEYOND_SOURCE, None))
+        self.assertEqual((cap.derive_fault(cap.seal(sealing)), cap.derive_fault(cap.seal(sealing), True)), (Refusal.SEAL_CHANGED,) * 2)
         self.assertEqual(str(cap.seal(sealing)), "0x1000 [rwxRW,0x1000-0x1020] (sealed)")
         self.assertEqual(str(NULL), "0x0 [,0x0-0x10000000000000000] (untagged)")
 

@@ -260,6 +260,7 @@ extern "C" {
     pub fn capcheck_seal_clear(source: Cap, authority: Cap) -> Cap;
     pub fn capcheck_unseal_clear(source: Cap, authority: Cap) -> Cap;
     pub fn capcheck_clear_tag(source: Cap) -> Cap;
+    pub fn capcheck_derive_fault(source: Cap, word: Word, opens: u8) -> u8;
     pub fn capcheck_may_load(authority: Cap, offset: i64, size: u64) -> Access;
     pub fn capcheck_may_store(authority: Cap, offset: i64, size: u64) -> Access;
     pub fn capcheck_may_load_cap(authority: Cap, offset: i64) -> Access;

@@ -247,6 +247,14 @@ impl Capability {
         made(unsafe { abi::capcheck_unseal(self.into(), authority.into()) })
     }
 
+    /// Why a run log's `derive` of a word from this capability is refused; none if it isn't. Only into PCC a sentry opens. An
+    /// untagged word is never refused.
+    pub fn derive_fault(self, made: Capability, into_pcc: bool) -> Option<Refusal> {
+        let made: abi::Cap = made.into();
+        let number = unsafe { abi::capcheck_derive_fault(self.into(), made.word, into_pcc as u8) };
+        if made.tag == 0 { None } else { Refusal::of(number) }
+    }
+
     /// As [`Capability::set_bounds`], on a machine that clears the tag if a check fails.
     pub fn set_bounds_clear(self, length: u64) -> Capability {
         unsafe { abi::capcheck_set_bounds_clear(self.into(), length, 0) }.into()

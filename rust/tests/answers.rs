@@ -156,6 +156,11 @@ fn answer(call: &str) -> String {
             let authority = words.cap();
             both(it.unseal(authority), it.unseal_clear(authority))
         }
+        "derive" => {
+            let made = words.cap();
+            let fault = it.derive_fault(made, words.decimal() != 0);
+            fault.map_or(0, |it| it as u8).to_string()
+        }
         "may_load" => accessed(it.may_load(words.decimal(), words.decimal() as u64)),
         "may_store" => accessed(it.may_store(words.decimal(), words.decimal() as u64)),
         "may_load_capability" => accessed(it.may_load_capability(words.decimal())),

@@ -2,6 +2,7 @@
 use Rattle.std.specs.Prelude.{◌≡◌, ◌↔◌, ℕ, ◌+◌, ◌%◌, ◌≤◌, Bool, ℤ, pos, neg_ℤ, ◌≤ℤ◌, List, MatchOption, IsTrue}
 use Rattle.cap_word.specs.declared.word.Cap.{Cap}
 use Rattle.cap_ops.specs.declared.{kinds.Kind.Kind, refusal.Refusal.Refusal}
+use Rattle.cap_ops.specs.declared.derived_words.DeriveFault.{DeriveFault, TheVariants.{SourceUntagged, UnsoundResult, BeyondSource, SealChanged}}
 use Rattle.cap_ops.specs.{Accesses.{IsAllowed, access_address, access_checks, permission_for}, Checks.first_of}
 use Rattle.cap_ops.specs.{Refusals.refusal_number, Sizes.size_fits}
 use Rattle.cap_halves.specs.Passed.{cap_of, no_cap}
@@ -14,6 +15,13 @@ IsMadeBy checks result made =
     MatchOption (first_of checks)
     ((made.refusal ≡ 0) × (cap_of made.cap ≡ result))
     (λ refusal. (made.refusal ≡ refusal_number refusal) × (cap_of made.cap ≡ no_cap))
+
+-- the number of the refusal that a failed check of a `derive` is
+abbrev pub derive_number : DeriveFault → ℕ
+derive_number SourceUntagged = 9
+derive_number UnsoundResult = 30
+derive_number BeyondSource = 31
+derive_number SealChanged = 32
 
 -- an access of a kind has such offsets and sizes
 abbrev pub IsAccess : Kind → ℤ → ℕ → Type 0

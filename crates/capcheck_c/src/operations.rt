@@ -1,18 +1,18 @@
 //! The operations on capabilities, each with the number of its refusal.
 
-ghost use Rattle.std.specs.Prelude.{◌≡◌, ◌≢◌, ◌≤◌, ◌+◌, ◌&&◌, ◌↔◌, MatchResult, IsFalse, IsTrue, bit_and};
+ghost use Rattle.std.specs.Prelude.{◌≡◌, ◌≢◌, ◌≤◌, ◌+◌, ◌&&◌, ◌↔◌, true, MatchOption, MatchResult, IsFalse, IsTrue, bit_and};
 ghost use Rattle.cap_word.specs.Fields.{address_of, otype_of};
 ghost use Rattle.cap_bounds.specs.{Bounds.{IsInside, IsSound, base_of, top_of}, Range.IsRepresentable};
-ghost use Rattle.cap_ops.specs.{Authority.StaysWithin, Refusals.fault_number};
+ghost use Rattle.cap_ops.specs.{Authority.StaysWithin, Checks.first_of, DerivedWords.derive_checks, Refusals.fault_number};
 ghost use Rattle.cap_ops.specs.Permissions.{permit_global, has_permission, is_sealed, perm_view_of};
 ghost use Rattle.cap_ops.specs.Operations as ops;
 ghost use Rattle.cap_halves.specs.Passed.{cap_of, is_set, no_cap, whole_of};
-ghost use Rattle.capcheck_c.specs.Answers.{IsMadeBy};
+ghost use Rattle.capcheck_c.specs.Answers.{IsMadeBy, derive_number};
 
 use crate::values::Made;
-use cap_halves::halves::{from_c, no_capability, to_c};
-use cap_halves::values::Capability;
-use cap_ops::{OpFault, and_perm, seal, set_addr, set_bounds, unseal};
+use cap_halves::halves::{from_c, no_capability, to_c, word_of};
+use cap_halves::values::{Capability, Halves};
+use cap_ops::{DeriveFault, OpFault, and_perm, derive_fault, seal, set_addr, set_bounds, unseal};
 use cap_word::Cap;
 
 /// An operation's outcome as C gets it.
@@ -112,4 +112,24 @@ pub extern "C" fn capcheck_unseal(source: Capability, authority: Capability) -> 
     ensures stays_within { StaysWithin (cap_of result.cap) (cap_of source) }
 {
     made_from(unseal(from_c(source), from_c(authority)))
+}
+
+/// Why a run log's `derive` of a tagged word from the source is refused; 0 if it isn't. `opens` says that PCC gets the word.
+///
+/// It is refused, in this order, if the source is untagged (9), the word isn't sound (30), has bounds or permissions beyond
+/// the source's (31), or hasn't kept its seal (32).
+#[unsafe(no_mangle)]
+pub extern "C" fn capcheck_derive_fault(source: Capability, word: Halves, opens: u8) -> u8
+    ensures checks { MatchOption (first_of (derive_checks (cap_of source) (whole_of word) (is_set opens)))
+        (result ≡ 0)
+        (λ fault. result ≡ derive_number fault) }
+    ensures within { result ≡ 0 → StaysWithin (record { tag = true; word = record { 0 = whole_of word } }) (cap_of source) }
+{
+    match derive_fault(from_c(source), word_of(word), opens != 0) {
+        None => 0,
+        Some(DeriveFault::SourceUntagged) => 9,
+        Some(DeriveFault::UnsoundResult) => 30,
+        Some(DeriveFault::BeyondSource) => 31,
+        Some(DeriveFault::SealChanged) => 32,
+    }
 }
