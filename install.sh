@@ -4,10 +4,11 @@
 #   PREFIX/bin/capcheck              the program, and capdiag, which says why a log got a no
 #   PREFIX/lib/libcapcheck_c.a       the library for C, and libcapcheck_c.so made of it
 #   PREFIX/lib/libcapcheck_judge.a   the judge for C, and libcapcheck_judge.so made of it
+#   PREFIX/lib/libcapcheck_recorder.a  the recorder for C, and libcapcheck_recorder.so made of it
 #   PREFIX/lib/libcapcheck_freestanding.a  the judge without a heap, and libcapcheck_freestanding.so made of it
 #   PREFIX/lib/pkgconfig/*.pc        what `pkg-config --cflags --libs capcheck` reads, or `capcheck_judge` or
-#                                    `capcheck_freestanding` for the judges, with the library for C. A program that is linked
-#                                    with these flags finds the libraries below PREFIX
+#                                    `capcheck_freestanding` for the judges, or `capcheck_recorder`, with the libraries that
+#                                    they use. A program that is linked with these flags finds the libraries below PREFIX
 #   PREFIX/include/capcheck*.h       their headers
 #   PREFIX/share/man/man1/*.1        the programs' manual pages
 #   PREFIX/share/bash-completion/completions/, share/zsh/site-functions/, share/fish/vendor_completions.d/
@@ -31,6 +32,7 @@ diagnosis=crates/capdiag/out/capdiag
 library=crates/capcheck_c/out/libcapcheck_c.a
 freestanding=crates/capcheck_freestanding/out/libcapcheck_freestanding.a
 judge=judge/out/libcapcheck_judge.a
+recorder=recorder/out/libcapcheck_recorder.a
 version=$(sed -n 's/^#define CAPCHECK_VERSION_STRING "\(.*\)"$/\1/p' include/capcheck.h)
 
 # What another command built is taken as it is, and the rest is proved side by side, unless it was.
@@ -44,6 +46,7 @@ for crate in capcheck capdiag capcheck_c capcheck_judge capcheck_freestanding; d
 done
 [ -z "$missing" ] || python3 .ci/prove.py $missing
 RT_LIB=true sh judge/build.sh
+sh recorder/build.sh
 
 mkdir -p "$to/bin" "$to/lib/pkgconfig" "$to/include" "$to/share/man/man1" "$to/share/capcheck/capcheck"
 mkdir -p "$to/share/capcheck/rust/src" "$to/share/capcheck/examples/emulator" "$to/share/capcheck/examples/objects" "$to/share/capcheck/examples/allocator" "$to/share/capcheck/examples/revoker"
@@ -51,6 +54,7 @@ cp "$program" "$to/bin/capcheck"
 cp "$diagnosis" "$to/bin/capdiag"
 cp "$library" "$to/lib/libcapcheck_c.a"
 cp "$judge" "$to/lib/libcapcheck_judge.a"
+cp "$recorder" "$to/lib/libcapcheck_recorder.a"
 cp "$freestanding" "$to/lib/libcapcheck_freestanding.a"
 cp include/*.h "$to/include/"
 cp docs/capcheck.1 docs/capdiag.1 "$to/share/man/man1/"
@@ -65,25 +69,30 @@ cp rust/Cargo.toml rust/build.rs "$to/share/capcheck/rust/"
 cp rust/src/*.rs "$to/share/capcheck/rust/src/"
 cp examples/preload.h "$to/share/capcheck/examples/"
 cp examples/*.log "$to/share/capcheck/examples/"
-cp examples/emulator/first.c examples/emulator/emulator.c "$to/share/capcheck/examples/emulator/"
+cp examples/emulator/first.c examples/emulator/emulator.c examples/emulator/faults.c "$to/share/capcheck/examples/emulator/"
 cp examples/objects/objects.c examples/objects/overruns.c "$to/share/capcheck/examples/objects/"
 cp examples/allocator/*.c "$to/share/capcheck/examples/allocator/"
 cp examples/revoker/revoker.c "$to/share/capcheck/examples/revoker/"
 mkdir -p "$to/share/gdb/auto-load$prefix/lib"
 echo "import sys; sys.path.insert(0, '$prefix/share/capcheck'); import capcheck_gdb" > "$to/share/gdb/auto-load$prefix/lib/libcapcheck_c.so.1-gdb.py"
-# shared NAME HEADER: makes a shared library of an archive. It exports the functions that the header declares.
+# shared NAME HEADER [WORDS]: makes a shared library of an archive. It exports the functions that the header declares. WORDS are
+# passed to the linker: the libraries that it needs.
 shared() {
+    name=$1 header=$2
+    shift 2
     {
         echo '{ global:'
-        sed -n 's/^[a-z].*[ *]\(capcheck_[a-z_]*\)(.*/\1;/p' "include/$2"
+        sed -n 's/^[a-z].*[ *]\(capcheck_[a-z_]*\)(.*/\1;/p' "include/$header"
         echo 'local: *; };'
-    } | ${CC:-cc} -shared -Wl,-soname,"lib$1.so.1" -Wl,--version-script=/dev/stdin \
-        -Wl,--whole-archive "$to/lib/lib$1.a" -Wl,--no-whole-archive -o "$to/lib/lib$1.so.1"
-    ln -sf "lib$1.so.1" "$to/lib/lib$1.so"
+    } | ${CC:-cc} -shared -Wl,-soname,"lib$name.so.1" -Wl,--version-script=/dev/stdin \
+        -Wl,--whole-archive "$to/lib/lib$name.a" -Wl,--no-whole-archive "$@" -o "$to/lib/lib$name.so.1"
+    ln -sf "lib$name.so.1" "$to/lib/lib$name.so"
 }
 shared capcheck_c capcheck.h
 shared capcheck_judge capcheck_judge.h
 shared capcheck_freestanding capcheck_freestanding.h
+# The recorder finds the two libraries beside it.
+shared capcheck_recorder capcheck_recorder.h "$to/lib/libcapcheck_judge.so.1" "$to/lib/libcapcheck_c.so.1" '-Wl,-rpath,$ORIGIN'
 cat > "$to/lib/pkgconfig/capcheck.pc" <<PC
 prefix=$prefix
 libdir=\${prefix}/lib
@@ -104,6 +113,17 @@ Version: $version
 Requires: capcheck
 Cflags: -I\${prefix}/include
 Libs: -L\${libdir} -Wl,-rpath,\${libdir} -lcapcheck_judge
+PC
+cat > "$to/lib/pkgconfig/capcheck_recorder.pc" <<PC
+prefix=$prefix
+libdir=\${prefix}/lib
+
+Name: capcheck_recorder
+Description: a recorder of run logs for an emulator, which may judge them at once
+Version: $version
+Requires: capcheck_judge
+Cflags: -I\${prefix}/include
+Libs: -L\${libdir} -Wl,-rpath,\${libdir} -lcapcheck_recorder
 PC
 cat > "$to/lib/pkgconfig/capcheck_freestanding.pc" <<PC
 prefix=$prefix

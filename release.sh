@@ -22,10 +22,10 @@ DESTDIR=$work sh install.sh "/$name"
 rm -r "$to/share/gdb"
 sed -i 's|^prefix=.*|prefix=${pcfiledir}/../..|' "$to"/lib/pkgconfig/*.pc
 CAPCHECK_LIB=$to/lib python3 python/build_wheel.py "$to"
-git ls-files -z README.md CHANGELOG.md CONTRIBUTING.md docs examples conformance bench web/README.md web/PASTING.md web/capcheck.html include judge/heap.c |
+git ls-files -z README.md CHANGELOG.md CONTRIBUTING.md docs examples conformance bench web/README.md web/PASTING.md web/capcheck.html include judge/heap.c recorder/recorder.c |
     tar --null -T - -cf - | tar -C "$to" -xf -
 rt version > "$to/KIT"
-needed=$(objdump -p "$to"/bin/* "$to"/lib/*.so.1 | sed -n 's/^ *NEEDED *//p' | sort -u)
+needed=$(objdump -p "$to"/bin/* "$to"/lib/*.so.1 | sed -n 's/^ *NEEDED *//p' | grep -v '^libcapcheck_' | sort -u)
 glibc=$(objdump -T "$to"/bin/* "$to"/lib/*.so.1 | grep -o 'GLIBC_[0-9.]*' | sort -uV | tail -n 1)
 cat > "$to/RELEASE.txt" <<TEXT
 Nawhorimo $version for x86-64-v2 Linux. Programs and shared libraries need $(echo $needed) alone, ${glibc#GLIBC_} or later.

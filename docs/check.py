@@ -52,10 +52,12 @@ ELSEWHERE = {
     "(cd crates/capcheck_c && rt lib)": "examples/emulator/check.sh",
     "sh judge/build.sh": "examples/emulator/check.sh",
     "cc -Iinclude program.c judge/out/libcapcheck_judge.a crates/capcheck_c/out/libcapcheck_c.a -o program": "examples/emulator/check.sh, with other programs",
+    "cc -Iinclude program.c recorder/out/libcapcheck_recorder.a judge/out/libcapcheck_judge.a crates/capcheck_c/out/libcapcheck_c.a -o program": "examples/emulator/check.sh, with other programs",
     "mkdir logs": "examples/objects/check.sh, for another program",
     "CAP_LOGS=logs LD_PRELOAD=$PWD/objects.so git log -p": "examples/objects/check.sh, for another program",
     "capdiag why logs/git.*.log": "examples/objects/check.sh, for another program",
     "cc program.c $(pkg-config --cflags --libs capcheck) -o program": "the block of C",
+    "sh recorder/build.sh": "examples/emulator/check.sh",
     "cc program.c -I ~/.local/include ~/.local/lib/libcapcheck_c.a -o program": "the block of C",
     "cc -Iinclude program.c crates/capcheck_c/out/libcapcheck_c.a -o program": "examples/emulator/check.sh, with another program",
     "cc -ffreestanding -Iinclude program.c crates/capcheck_freestanding/out/libcapcheck_freestanding.a -o program": "examples/emulator/check.sh, with another program",
@@ -107,7 +109,7 @@ TERMS = {
 }
 # What TERMS are looked for in, and figures, except those of bench/ itself. The wording of the theorems is fixed.
 MANUALS = ["docs/capcheck.1", "docs/capdiag.1"]
-HEADERS = ["include/capcheck.h", "include/capcheck_answer.h", "include/capcheck_freestanding.h", "include/capcheck_judge.h", "include/capcheck_names.h"]
+HEADERS = ["include/capcheck.h", "include/capcheck_answer.h", "include/capcheck_freestanding.h", "include/capcheck_judge.h", "include/capcheck_names.h", "include/capcheck_recorder.h"]
 OURS = [it for it in PAGES if it != "docs/STANDARD.md"] + MANUALS + HEADERS
 THEOREM = re.compile(r"(?m)^Where the judge answers yes.*$")
 # A figure of time, memory or cost. Each has to be in bench/README.md, or to round what is there.
@@ -117,6 +119,7 @@ FIGURE = re.compile(rf"{NUMBER} {UNIT}\b|\b(?:half|a quarter of) an? (?:hour|min
 ROUNDED = {
     "0.02 to 0.06 s": ["0.023 to 0.058 s"],
     "60 to 150 instructions": ["| 63 | 83 | 80 | 84 | 109 | 110 | 116 |", "| 146 | 114 | 139 | 88 | 86 | 106 | 101 |"],
+    "400 to 500 instructions": ["| 419 | 499 | 125 | 426 | 422 | 497 |"],
     "10 ns": ["| decoding | 8.9 |", "| rounding: the fields, and whether it is exact | 11.9 |"],
     "30 to 40 ns": ["| each line by itself, its length known | 29 | 41 |"],
     "2,000 KB": ["`(ulimit -v 2000; ..)`"],

@@ -12,7 +12,7 @@ import zipfile
 from pathlib import Path
 
 HERE = Path(__file__).resolve().parent
-LIBRARIES = ("capcheck_c", "capcheck_judge", "capcheck_freestanding")
+LIBRARIES = ("capcheck_c", "capcheck_judge", "capcheck_recorder", "capcheck_freestanding")
 METADATA = """Metadata-Version: 2.1
 Name: capcheck
 Version: {version}

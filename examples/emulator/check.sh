@@ -185,18 +185,31 @@ status=0
 "$work/stepped" --bug > "$work/log" 2> "$work/stepping" || status=$?
 [ "$status" = 1 ] && cmp "$work/complaints" "$work/stepping" || { echo 'check.sh: the emulator by steps stops elsewhere' >&2; exit 1; }
 
-# The recorder of one hook: which line it chooses, and that the emulator's log by it has the lines of the emulator's own calls.
+# The recorder: which lines it writes, and the faults that each of its ways finds, as C and as C++; and that the emulator's log
+# by it has the lines of the emulator's own calls, up to the faulty one.
+recorder="recorder/out/libcapcheck_recorder.a $libraries"
+quietly sh recorder/build.sh
 for compiler in "${CC:-cc} -std=c99" "${CXX:-c++} -std=c++11 -x c++"; do
     command -v "${compiler%% *}" > "$work/found" || continue
-    quietly $compiler $strict -Wconversion examples/emulator/hooks.c -x none $library -o "$work/hooks"
+    quietly $compiler $strict -Wconversion -Wshadow examples/emulator/hooks.c -x none $recorder -o "$work/hooks"
     "$work/hooks" > "$work/log"
-    [ "$("$diagnosis" run "$work/log")" = 'yes 53 4 1' ] || { echo 'check.sh: the log of hooks gets another verdict' >&2; exit 1; }
+    [ "$("$diagnosis" run "$work/log")" = 'yes 80 4 2' ] || { echo 'check.sh: the log of hooks gets another verdict' >&2; exit 1; }
+    quietly $compiler $strict -Wconversion -Wshadow examples/emulator/faults.c -x none $recorder -o "$work/faults"
+    quietly "$work/faults"
 done
-quietly ${CC:-cc} -std=c99 $strict -DHOOKED examples/emulator/emulator.c $library -o "$work/hooked"
-"$work/emulator" | sed '1s/.*/run 1/' > "$work/wanted"
-"$work/hooked" > "$work/log"
-cmp "$work/wanted" "$work/log" || { echo 'check.sh: the hook chooses other lines' >&2; exit 1; }
-[ "$("$diagnosis" run "$work/log")" = 'yes 27 1 0' ] || { echo 'check.sh: the log of the hook gets another verdict' >&2; exit 1; }
+if command -v valgrind > "$work/found"; then
+    quietly valgrind -q --leak-check=full --error-exitcode=9 "$work/hooks"
+fi
+quietly ${CC:-cc} -std=c99 $strict -DHOOKED examples/emulator/emulator.c $recorder -o "$work/hooked"
+for bug in '' --bug; do
+    # shellcheck disable=SC2086 # no word is no word
+    "$work/emulator" $bug 2> "$work/complaints" | sed '1s/.*/run 1/' > "$work/wanted"
+    # shellcheck disable=SC2086
+    "$work/hooked" $bug > "$work/log" 2> "$work/complaints"
+    cmp "$work/wanted" "$work/log" || { echo 'check.sh: the recorder writes other lines' >&2; exit 1; }
+    verdict=$("$diagnosis" run "$work/log") || [ $? = 1 ]
+    [ "$verdict" = "${bug:+no 12 12 NotExact}" ] || [ "$verdict$bug" = 'yes 27 1 0' ] || { echo "check.sh: the recorder's log gets another verdict" >&2; exit 1; }
+done
 
 judged 'yes 27 1' 0
 judged 'no 12 12 NotExact' 1 --bug

@@ -12,6 +12,13 @@ export PKG_CONFIG_PATH=$work/there/lib/pkgconfig
 ${CC:-cc} -std=c99 -Wall -Wextra -Werror -pedantic -O2 examples/emulator/emulator.c $(pkg-config --cflags --libs capcheck) -o "$work/emulator"
 env -i "$work/emulator" > "$work/log"
 [ "$("$work/there/bin/capcheck" judge "$work/log")" = 'yes 27 1' ] || { echo 'installed.sh: the installed program gives another verdict' >&2; exit 1; }
+# Builds the example with the recorder, by the one word that it needs.
+recording() {
+    ${CC:-cc} -std=c99 -Wall -Wextra -Werror -pedantic -O2 -DHOOKED examples/emulator/emulator.c $(pkg-config --cflags --libs capcheck_recorder) -o "$work/hooked"
+    env -i "$work/hooked" > "$work/run"
+    [ "$("$work/there/bin/capdiag" run "$work/run")" = 'yes 27 1 0' ] || { echo 'installed.sh: the installed recorder gives another verdict' >&2; exit 1; }
+}
+recording
 # Builds the program that judges files, and compares what it prints of a log with what the installed program does.
 judging() {
     ${CC:-cc} -std=c99 -Wall -Wextra -Werror -pedantic -O2 examples/emulator/judging.c $(pkg-config --cflags --libs capcheck_judge capcheck_freestanding) -o "$work/judging"
@@ -20,6 +27,7 @@ judging() {
 judging
 rm "$work"/there/lib/libcapcheck_*.so
 judging
+recording
 ${CC:-cc} -std=c99 -Wall -Wextra -Werror -pedantic -O2 examples/emulator/calls.c $(pkg-config --cflags --libs capcheck) -o "$work/calls"
 env -i "$work/calls"
 echo 'installed: the examples were built by pkg-config, and judged'
