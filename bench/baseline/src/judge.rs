@@ -16,16 +16,16 @@ const LONGEST: usize = 96;
 const MOST_ROOTS: u32 = 4096;
 
 /// The bytes of an input that weren't taken yet, with a window of zero bytes after them.
-struct Buffer<R> {
+pub struct Buffer<R> {
     input: R,
     bytes: Box<[u8]>,
-    start: usize,
+    pub start: usize,
     end: usize,
     has_ended: bool,
 }
 
 impl<R: Read> Buffer<R> {
-    fn new(input: R) -> Self {
+    pub fn new(input: R) -> Self {
         Buffer { input, bytes: vec![0; ROOM + WINDOW].into_boxed_slice(), start: 0, end: 0, has_ended: false }
     }
 
@@ -45,7 +45,7 @@ impl<R: Read> Buffer<R> {
 
     /// A window that has the next line whole, if there is one.
     #[inline(always)]
-    fn window(&mut self) -> io::Result<&[u8; WINDOW]> {
+    pub fn window(&mut self) -> io::Result<&[u8; WINDOW]> {
         if self.end - self.start < LONGEST && !self.has_ended {
             self.fill(LONGEST)?;
         }
@@ -54,7 +54,7 @@ impl<R: Read> Buffer<R> {
 
     /// Why the window holds no line.
     #[cold]
-    fn refusal(&self) -> Refusal {
+    pub fn refusal(&self) -> Refusal {
         let left = &self.bytes[self.start..self.end];
         if left[..left.len().min(LONGEST)].contains(&b'\n') {
             BadLine
@@ -65,7 +65,7 @@ impl<R: Read> Buffer<R> {
         }
     }
 
-    fn is_at_end(&mut self) -> io::Result<bool> {
+    pub fn is_at_end(&mut self) -> io::Result<bool> {
         if self.start == self.end && !self.has_ended {
             self.fill(1)?;
         }
@@ -73,11 +73,12 @@ impl<R: Read> Buffer<R> {
     }
 }
 
+/// What a register holds, and its origin or its owner.
 #[derive(Clone, Copy)]
-struct Register {
-    word: u128,
-    tag: bool,
-    origin: u64,
+pub struct Register {
+    pub word: u128,
+    pub tag: bool,
+    pub origin: u64,
 }
 
 pub struct Machine<const ORIGINS: bool> {
@@ -123,123 +124,12 @@ impl<const ORIGINS: bool> Machine<ORIGINS> {
         None
     }
 
-    /// The first check of an authority that fails, for sealing or unsealing.
-    #[inline(always)]
-    fn authorize(&self, authority: Register, permission: u32) -> Option<Refusal> {
-        if !authority.tag {
-            return Some(AuthorityUntagged);
-        }
-        if is_sealed(authority.word) {
-            return Some(AuthoritySealed);
-        }
-        if permissions(authority.word) & permission == 0 {
-            return Some(AuthorityPermission);
-        }
-        let (base, top) = bounds(authority.word);
-        let at = address(authority.word);
-        if !(base <= at && (at as u128) < top) {
-            return Some(AuthorityBounds);
-        }
-        None
-    }
-
-    /// The first check of an operation that fails, and its result's word.
-    #[inline(always)]
-    fn operate(&self, operation: Operation, source: Register) -> (Option<Refusal>, u128) {
-        let word = source.word;
-        match operation {
-            Operation::Move | Operation::ClearTag => (None, word),
-            Operation::SetBounds(length) | Operation::SetBoundsExact(length) => {
-                let rounded = round(address(word), length);
-                let mut failed = None;
-                if source.tag {
-                    if is_sealed(word) {
-                        failed = Some(SourceSealed);
-                    } else {
-                        let (base, top) = bounds(word);
-                        if !(base <= rounded.base && rounded.top <= top) {
-                            failed = Some(BoundsEscape);
-                        } else if matches!(operation, Operation::SetBoundsExact(_)) && !rounded.is_exact {
-                            failed = Some(NotExact);
-                        }
-                    }
-                }
-                (failed, with_bounds(word, &rounded))
-            }
-            Operation::SetAddress(to) => {
-                let failed = if !source.tag {
-                    None
-                } else if is_sealed(word) {
-                    Some(SourceSealed)
-                } else if !keeps_bounds(word, to) {
-                    Some(NotRepresentable)
-                } else {
-                    None
-                };
-                (failed, with_address(word, to))
-            }
-            Operation::AndPermissions(mask) => {
-                let failed = if source.tag && is_sealed(word) { Some(SourceSealed) } else { None };
-                (failed, with_permissions(word, mask))
-            }
-            Operation::Seal(number) => {
-                let authority = self.registers[number as usize & 31];
-                let mut failed = self.authorize(authority, SEAL);
-                if failed.is_none() {
-                    if address(authority.word) > 0x3fffb {
-                        failed = Some(TypeOutOfRange);
-                    } else if !source.tag {
-                        failed = Some(SourceUntagged);
-                    } else if is_sealed(word) {
-                        failed = Some(SourceSealed);
-                    }
-                }
-                (failed, with_object_type(word, address(authority.word)))
-            }
-            Operation::Unseal(number) => {
-                let authority = self.registers[number as usize & 31];
-                let mut failed = self.authorize(authority, UNSEAL);
-                if failed.is_none() {
-                    if !source.tag {
-                        failed = Some(SourceUntagged);
-                    } else if object_type(word) >= 0x3fffc || object_type(word) as u64 != address(authority.word) {
-                        failed = Some(TypeMismatch);
-                    }
-                }
-                (failed, unsealed(word, permissions(authority.word) & GLOBAL != 0))
-            }
-        }
-    }
-
-    /// The address of an access.
-    #[inline(always)]
-    fn access(&self, authority: Register, offset: i16, size: u8, permission: u32) -> Result<u64, Refusal> {
-        if !authority.tag {
-            return Err(AuthorityUntagged);
-        }
-        if is_sealed(authority.word) {
-            return Err(AuthoritySealed);
-        }
-        if permissions(authority.word) & permission == 0 {
-            return Err(AuthorityPermission);
-        }
-        let at = address(authority.word).wrapping_add(offset as i64 as u64);
-        let (base, top) = bounds(authority.word);
-        if !(base <= at && at as u128 + size as u128 <= top) {
-            return Err(AuthorityBounds);
-        }
-        if at & (size as u64 - 1) != 0 {
-            return Err(Misaligned);
-        }
-        Ok(at)
-    }
-
     #[inline(always)]
     fn step(&mut self, line: Line) -> Option<Refusal> {
         match line {
             Line::Operate { operation, target, source, tag, word } => {
                 let source = self.registers[source as usize & 31];
-                let (failed, wanted) = self.operate(operation, source);
+                let (failed, wanted) = operate(&self.registers, operation, source);
                 let mut keeps_tag = source.tag && !matches!(operation, Operation::ClearTag);
                 if failed.is_some() {
                     if !self.clears {
@@ -257,7 +147,7 @@ impl<const ORIGINS: bool> Machine<ORIGINS> {
             }
             Line::LoadCapability { target, authority, offset, tag, word } => {
                 let authority = self.registers[authority as usize & 31];
-                let at = match self.access(authority, offset, 16, LOAD) {
+                let at = match access(authority, offset, 16, LOAD) {
                     Ok(at) => at,
                     Err(refusal) => return Some(refusal),
                 };
@@ -273,7 +163,7 @@ impl<const ORIGINS: bool> Machine<ORIGINS> {
             Line::StoreCapability { source, authority, offset } => {
                 let authority = self.registers[authority as usize & 31];
                 let source = self.registers[source as usize & 31];
-                let at = match self.access(authority, offset, 16, STORE) {
+                let at = match access(authority, offset, 16, STORE) {
                     Ok(at) => at,
                     Err(refusal) => return Some(refusal),
                 };
@@ -290,7 +180,7 @@ impl<const ORIGINS: bool> Machine<ORIGINS> {
                 }
             }
             Line::Load { authority, offset, size, value } => {
-                let at = match self.access(self.registers[authority as usize & 31], offset, size, LOAD) {
+                let at = match access(self.registers[authority as usize & 31], offset, size, LOAD) {
                     Ok(at) => at,
                     Err(refusal) => return Some(refusal),
                 };
@@ -303,7 +193,7 @@ impl<const ORIGINS: bool> Machine<ORIGINS> {
                 }
             }
             Line::Store { authority, offset, size, value } => {
-                let at = match self.access(self.registers[authority as usize & 31], offset, size, STORE) {
+                let at = match access(self.registers[authority as usize & 31], offset, size, STORE) {
                     Ok(at) => at,
                     Err(refusal) => return Some(refusal),
                 };
@@ -319,6 +209,117 @@ impl<const ORIGINS: bool> Machine<ORIGINS> {
         self.steps += 1;
         None
     }
+}
+
+/// The first check of an authority that fails, for sealing or unsealing.
+#[inline(always)]
+fn authorize(authority: Register, permission: u32) -> Option<Refusal> {
+    if !authority.tag {
+        return Some(AuthorityUntagged);
+    }
+    if is_sealed(authority.word) {
+        return Some(AuthoritySealed);
+    }
+    if permissions(authority.word) & permission == 0 {
+        return Some(AuthorityPermission);
+    }
+    let (base, top) = bounds(authority.word);
+    let at = address(authority.word);
+    if !(base <= at && (at as u128) < top) {
+        return Some(AuthorityBounds);
+    }
+    None
+}
+
+/// The first check of an operation that fails, and its result's word.
+#[inline(always)]
+pub fn operate(registers: &[Register], operation: Operation, source: Register) -> (Option<Refusal>, u128) {
+    let word = source.word;
+    match operation {
+        Operation::Move | Operation::ClearTag => (None, word),
+        Operation::SetBounds(length) | Operation::SetBoundsExact(length) => {
+            let rounded = round(address(word), length);
+            let mut failed = None;
+            if source.tag {
+                if is_sealed(word) {
+                    failed = Some(SourceSealed);
+                } else {
+                    let (base, top) = bounds(word);
+                    if !(base <= rounded.base && rounded.top <= top) {
+                        failed = Some(BoundsEscape);
+                    } else if matches!(operation, Operation::SetBoundsExact(_)) && !rounded.is_exact {
+                        failed = Some(NotExact);
+                    }
+                }
+            }
+            (failed, with_bounds(word, &rounded))
+        }
+        Operation::SetAddress(to) => {
+            let failed = if !source.tag {
+                None
+            } else if is_sealed(word) {
+                Some(SourceSealed)
+            } else if !keeps_bounds(word, to) {
+                Some(NotRepresentable)
+            } else {
+                None
+            };
+            (failed, with_address(word, to))
+        }
+        Operation::AndPermissions(mask) => {
+            let failed = if source.tag && is_sealed(word) { Some(SourceSealed) } else { None };
+            (failed, with_permissions(word, mask))
+        }
+        Operation::Seal(number) => {
+            let authority = registers[number as usize & 31];
+            let mut failed = authorize(authority, SEAL);
+            if failed.is_none() {
+                if address(authority.word) > 0x3fffb {
+                    failed = Some(TypeOutOfRange);
+                } else if !source.tag {
+                    failed = Some(SourceUntagged);
+                } else if is_sealed(word) {
+                    failed = Some(SourceSealed);
+                }
+            }
+            (failed, with_object_type(word, address(authority.word)))
+        }
+        Operation::Unseal(number) => {
+            let authority = registers[number as usize & 31];
+            let mut failed = authorize(authority, UNSEAL);
+            if failed.is_none() {
+                if !source.tag {
+                    failed = Some(SourceUntagged);
+                } else if object_type(word) >= 0x3fffc || object_type(word) as u64 != address(authority.word) {
+                    failed = Some(TypeMismatch);
+                }
+            }
+            (failed, unsealed(word, permissions(authority.word) & GLOBAL != 0))
+        }
+    }
+}
+
+/// The address of an access.
+#[inline(always)]
+pub fn access(authority: Register, offset: i16, size: u8, permission: u32) -> Result<u64, Refusal> {
+    if !authority.tag {
+        return Err(AuthorityUntagged);
+    }
+    if is_sealed(authority.word) {
+        return Err(AuthoritySealed);
+    }
+    if permissions(authority.word) & permission == 0 {
+        return Err(AuthorityPermission);
+    }
+    let at = address(authority.word).wrapping_add(offset as i64 as u64);
+    let (base, top) = bounds(authority.word);
+    if !(base <= at && at as u128 + size as u128 <= top) {
+        return Err(AuthorityBounds);
+    }
+    if at & (size as u64 - 1) != 0 {
+        return Err(Misaligned);
+    }
+    Ok(at)
 }
 
 pub fn judge<R: Read, const ORIGINS: bool>(input: R, machine: &mut Machine<ORIGINS>) -> io::Result<Verdict> {

@@ -70,6 +70,20 @@ pub enum Line {
     End(u32),
 }
 
+/// A line of a run log. Registers are c0 to c31 and, from 32 on, scr0 to scr31; places these, and from 64 on granules.
+pub enum RunLine {
+    Version,
+    Usual(Line),
+    Root(u64, u128),
+    Derive { target: u8, source: u8, tag: bool, word: u128 },
+    Exchange { target: u8, source: u8, special: u8, first: (bool, u128), second: (bool, u128) },
+    Invoke { code: u8, datum: u8, first: u128, second: u128 },
+    Drop(u64),
+    Fill(u64, u128),
+    Object { register: u8, number: u32 },
+    Free { register: u8, number: u32 },
+}
+
 /// A place in a window that ends in bytes of no word.
 struct Cursor<'a> {
     b: &'a [u8; WINDOW],
@@ -143,12 +157,49 @@ impl Cursor<'_> {
         Some(value)
     }
 
+    /// The number of `scrN`.
+    #[inline(always)]
+    fn special(&mut self) -> Option<u8> {
+        if !self.has(b"scr") {
+            return None;
+        }
+        self.decimal(2).filter(|it| *it < 32).map(|it| it as u8)
+    }
+
+    /// A register or a special register.
+    #[inline(always)]
+    fn either(&mut self) -> Option<u8> {
+        if self.b[self.i] == b's' {
+            return Some(self.special()? + 32);
+        }
+        self.register()
+    }
+
+    /// A place of a run log.
+    fn place(&mut self) -> Option<u64> {
+        if self.byte(b'@').is_some() {
+            return Some((self.number().filter(|it| it & 15 == 0)? >> 4) + 64);
+        }
+        self.either().filter(|it| *it != 0).map(u64::from)
+    }
+
+    /// An object's number.
+    fn object(&mut self) -> Option<u32> {
+        u32::try_from(self.decimal(10)?).ok().filter(|it| *it != 0)
+    }
+
     /// ` = T WORD`
     #[inline(always)]
     fn result(&mut self) -> Option<(bool, u128)> {
         if !self.has(b" = ") {
             return None;
         }
+        self.capability()
+    }
+
+    /// `T WORD`
+    #[inline(always)]
+    fn capability(&mut self) -> Option<(bool, u128)> {
         let t = self.b[self.i].wrapping_sub(b'0');
         if t > 1 {
             return None;
@@ -322,6 +373,69 @@ pub fn read_line(b: &[u8; WINDOW]) -> Option<(Line, usize)> {
             Line::End(u32::try_from(c.decimal(10)?).ok()?)
         }
         _ => return None,
+    };
+    c.byte(b'\n')?;
+    Some((line, c.i))
+}
+
+/// The same of a run log.
+#[inline(always)]
+pub fn read_run_line(b: &[u8; WINDOW]) -> Option<(RunLine, usize)> {
+    let mut c = Cursor { b, i: 0 };
+    let line = match b[0] {
+        b'd' if c.has(b"derive ") => {
+            let target = c.either()?;
+            c.byte(b' ')?;
+            let source = c.either()?;
+            let (tag, word) = c.result()?;
+            if target == 0 {
+                return None;
+            }
+            RunLine::Derive { target, source, tag, word }
+        }
+        b'd' if c.has(b"drop ") => RunLine::Drop(c.place()?),
+        b'e' if c.has(b"exchange ") => {
+            let (target, source) = c.two_registers(true)?;
+            c.byte(b' ')?;
+            let special = c.special()?;
+            let first = c.result()?;
+            c.byte(b' ')?;
+            let second = c.capability()?;
+            RunLine::Exchange { target, source, special, first, second }
+        }
+        b'i' if c.has(b"invoke ") => {
+            let (code, datum) = c.two_registers(false)?;
+            if !c.has(b" = ") {
+                return None;
+            }
+            let first = c.word_digits()?;
+            c.byte(b' ')?;
+            RunLine::Invoke { code, datum, first, second: c.word_digits()? }
+        }
+        b'f' if c.has(b"fill @") => {
+            let address = c.number().filter(|it| it & 15 == 0)?;
+            c.byte(b' ')?;
+            RunLine::Fill(address >> 4, c.word_digits()?)
+        }
+        b'f' if c.has(b"free ") => {
+            if b[c.i] == b'c' {
+                RunLine::Free { register: c.target()?, number: 0 }
+            } else {
+                RunLine::Free { register: 0, number: c.object()? }
+            }
+        }
+        b'o' if c.has(b"object ") => {
+            let register = c.target()?;
+            let number = if c.byte(b' ').is_some() { c.object()? } else { 0 };
+            RunLine::Object { register, number }
+        }
+        b'r' if c.has(b"run 1") => RunLine::Version,
+        b'r' if c.has(b"root ") => {
+            let place = c.place()?;
+            c.byte(b' ')?;
+            RunLine::Root(place, c.word_digits()?)
+        }
+        _ => return read_line(b).map(|(line, count)| (RunLine::Usual(line), count)),
     };
     c.byte(b'\n')?;
     Some((line, c.i))

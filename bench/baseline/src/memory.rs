@@ -120,6 +120,17 @@ impl<const ORIGINS: bool> Memory<ORIGINS> {
         true
     }
 
+    /// Clears a granule's tag, and its origin.
+    pub fn clear(&mut self, granule: u64) {
+        if let Some(index) = self.find(granule >> 4) {
+            let at = (granule & 15) as usize;
+            self.blocks[index].tags &= !(1 << at);
+            if ORIGINS {
+                self.origins[index][at] = 0;
+            }
+        }
+    }
+
     /// The tagged granules with their origins, in order.
     pub fn tagged(&self) -> Vec<(u64, u64)> {
         let mut found = Vec::new();

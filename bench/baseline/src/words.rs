@@ -4,15 +4,18 @@
 pub const NULL: u128 = 0x0000_1fff_fc01_8004_0000_0000_0000_0000;
 
 pub const GLOBAL: u32 = 1;
+pub const EXECUTE: u32 = 1 << 1;
 pub const LOAD: u32 = 1 << 2;
 pub const STORE: u32 = 1 << 3;
 pub const LOAD_CAPABILITY: u32 = 1 << 4;
 pub const STORE_CAPABILITY: u32 = 1 << 5;
 pub const STORE_LOCAL: u32 = 1 << 6;
 pub const SEAL: u32 = 1 << 7;
+pub const INVOKE: u32 = 1 << 8;
 pub const UNSEAL: u32 = 1 << 9;
 
-const UNSEALED: u32 = 0x3ffff;
+pub const UNSEALED: u32 = 0x3ffff;
+pub const SENTRY: u32 = 0x3fffe;
 const BELOW_PERMISSIONS: u128 = (1 << 112) - 1;
 
 #[inline(always)]
