@@ -107,12 +107,7 @@ impl RunMachine {
         Ok(())
     }
 
-    /// The address of an access, whose owner is asked for too.
-    #[inline(always)]
-    fn reach(&self, authority: Register, offset: i16, size: u8, permission: u32) -> Result<u64, Refusal> {
-        access(authority, offset, size, permission)
-    }
-
+    /// What the options ask of an access that passed its checks.
     #[inline(always)]
     fn ask(&self, authority: Register, at: u64, size: u8) -> Result<(), Refusal> {
         if self.asks_used && authority.origin != NONE && !self.objects.is_live(authority.origin) {
@@ -172,7 +167,7 @@ impl RunMachine {
             }
             Line::LoadCapability { target, authority, offset, tag, word } => {
                 let authority = self.registers[authority as usize & 31];
-                let at = self.reach(authority, offset, 16, LOAD)?;
+                let at = access(authority, offset, 16, LOAD)?;
                 self.ask(authority, at, 16)?;
                 let held = self.memory.get(at >> 4);
                 if tag != (held.tag && permissions(authority.word) & LOAD_CAPABILITY != 0) || held.bytes ^ NULL != word {
@@ -184,7 +179,7 @@ impl RunMachine {
             Line::StoreCapability { source, authority, offset } => {
                 let authority = self.registers[authority as usize & 31];
                 let source = self.registers[source as usize & 31];
-                let at = self.reach(authority, offset, 16, STORE)?;
+                let at = access(authority, offset, 16, STORE)?;
                 if source.tag {
                     if permissions(authority.word) & STORE_CAPABILITY == 0 {
                         return Err(StoreCapPermission);
@@ -198,7 +193,7 @@ impl RunMachine {
             }
             Line::Load { authority, offset, size, value } => {
                 let authority = self.registers[authority as usize & 31];
-                let at = self.reach(authority, offset, size, LOAD)?;
+                let at = access(authority, offset, size, LOAD)?;
                 self.ask(authority, at, size)?;
                 let held = self.memory.get(at >> 4).bytes >> (8 * (at & 15));
                 if held as u64 & (u64::MAX >> (64 - 8 * size as u32)) != value {
@@ -208,7 +203,7 @@ impl RunMachine {
             }
             Line::Store { authority, offset, size, value } => {
                 let authority = self.registers[authority as usize & 31];
-                let at = self.reach(authority, offset, size, STORE)?;
+                let at = access(authority, offset, size, STORE)?;
                 self.ask(authority, at, size)?;
                 let shift = 8 * (at & 15);
                 let mask = ((u64::MAX >> (64 - 8 * size as u32)) as u128) << shift;
