@@ -20,11 +20,12 @@ archive (release.sh), as its reader has them, and what needs the kit is left out
 - Rows that give the verdict of an example or of a log are judged, and blocks that show a file of the tree are compared
   with it. `judge/heap.c` has to have as many lines as is said, and the manual pages and the changelog the header's version.
 - Each link has to lead to a file and a heading, and to a file that release.sh puts into the archive.
-- The words of TERMS are looked for in the pages, the manual pages and the headers, except what standard.py makes, and each
-  figure of the pages in bench/README.md. The phrases of PHRASES are looked for in the pages, the manual pages, the headers, and the comments of
+- The words of TERMS are looked for in the pages, the manual pages, the headers, and the docstrings and comments of Python, GDB
+  and Rust, except what standard.py makes, and each figure of the pages in bench/README.md. The phrases of PHRASES are looked for in the pages, the manual pages, the headers, and the comments of
   the crates and of the C examples. Text in code font isn't read.
 
 The status is 1 where anything differs."""
+import ast
 import glob
 import os
 import re
@@ -40,7 +41,7 @@ ROOT = os.getcwd()
 sys.path.insert(0, f"{ROOT}/gdb")
 from sessions import PROMPT, agrees, is_installed, tell_left_out, transcript  # noqa: E402
 
-PAGES = ["README.md", "CONTRIBUTING.md", "docs/FIRST_HOUR.md", "docs/FORMAT.md", "docs/WORDS.md", "docs/MACHINE.md", "docs/RECORDING.md", "docs/RUNS.md"]
+PAGES = ["README.md", "CONTRIBUTING.md", "docs/FIRST_HOUR.md", "docs/FORMAT.md", "docs/WORDS.md", "docs/MACHINE.md", "docs/RECORDING.md", "docs/RUNS.md", "docs/REFUSED.md"]
 PAGES += ["docs/PYTHON.md", "docs/GDB.md", "docs/ALLOCATORS.md", "docs/STANDARD.md", "docs/C.md", "docs/GLOSSARY.md", "docs/PROOFS.md", "docs/TESTING.md", "docs/DECISIONS.md", "docs/INTERNALS.md", "CHANGELOG.md", "examples/README.md", "examples/objects/README.md", "examples/qemu/README.md", "conformance/README.md", "web/README.md", "web/PASTING.md", "bench/README.md", "bench/units.md"]
 
 # Commands that no session runs, and where they are run.
@@ -110,7 +111,8 @@ TERMS = {
 # What TERMS are looked for in, and figures, except those of bench/ itself. The wording of the theorems is fixed.
 MANUALS = ["docs/capcheck.1", "docs/capdiag.1"]
 HEADERS = ["include/capcheck.h", "include/capcheck_answer.h", "include/capcheck_freestanding.h", "include/capcheck_judge.h", "include/capcheck_names.h", "include/capcheck_recorder.h"]
-OURS = [it for it in PAGES if it != "docs/STANDARD.md"] + MANUALS + HEADERS
+BINDINGS = [] if not os.path.isdir("rust/src") else sorted([*glob.glob("python/capcheck/*.py"), *glob.glob("gdb/*.py"), *glob.glob("rust/src/*.rs")])
+OURS = [it for it in PAGES if it != "docs/STANDARD.md"] + MANUALS + HEADERS + BINDINGS
 THEOREM = re.compile(r"(?m)^Where the judge answers yes.*$")
 # A figure of time, memory or cost. Each has to be in bench/README.md, or to round what is there.
 NUMBER = r"(?<![\w.^])\d+(?:[.,]\d+)*(?: to \d+(?:[.,]\d+)*)?"
@@ -374,6 +376,8 @@ def sizes(page, text):
 def prose(path, text):
     """The text of a file that is read as prose, line by line: a page without its blocks, a manual page without the messages
     that it quotes, or the comments of a source."""
+    if path.endswith(".py"):
+        return docstrings(text)
     fenced, lines = False, []
     for line in text.split("\n"):
         if path.endswith(".md"):
@@ -381,7 +385,7 @@ def prose(path, text):
             lines.append("" if fenced else line)
         elif path.endswith(".1"):
             lines.append("" if line.startswith((".I ", ".IR ")) else line)
-        elif path.endswith(".rt"):
+        elif path.endswith((".rt", ".rs")):
             m = re.match(r"\s*//[/!]? ?(.*)", line)
             lines.append(m[1] if m else "")
         elif path.endswith((".c", ".h")):
@@ -390,6 +394,16 @@ def prose(path, text):
             fenced = fenced and "*/" not in line
         else:
             lines.append(line)
+    return lines
+
+
+def docstrings(text):
+    """The docstrings and comments of a Python source, line by line."""
+    lines = [(re.match(r"\s*#(.*)", line) or ["", ""])[1] for line in text.split("\n")]
+    for it in ast.walk(ast.parse(text)):
+        if isinstance(it, (ast.Module, ast.ClassDef, ast.FunctionDef)) and ast.get_docstring(it):
+            said = it.body[0]
+            lines[said.lineno - 1 : said.end_lineno] = text.split("\n")[said.lineno - 1 : said.end_lineno]
     return lines
 
 
@@ -414,7 +428,7 @@ def terms(path, text):
     for phrase, better in TERMS.items():
         for m in re.finditer(r"\b(?:%s)\b" % phrase.replace(" ", r"\s+"), text):
             yield f"{path}:{text.count(chr(10), 0, m.start()) + 1}: '{' '.join(m[0].split())}': {better}"
-    for m in FIGURE.finditer(text) if not path.startswith(("bench/", "include/")) else []:
+    for m in FIGURE.finditer(text) if not path.startswith(("bench/", "include/")) and path not in BINDINGS else []:
         if not has(m[0]) and m[0] not in FIXED and not (m[0] in ROUNDED and all(it in bench for it in ROUNDED[m[0]])):
             yield f"{path}:{text.count(chr(10), 0, m.start()) + 1}: the figure '{m[0]}' isn't in bench/README.md"
 
@@ -448,7 +462,7 @@ def main(words):
     if not pages:
         lines = {line for page in PAGES for _, _, block in blocks(open(page, encoding="utf-8").read()) for line in block}
         wrong += [f"docs/check.py: no page has the command `{it}` of ELSEWHERE" for it in ELSEWHERE if it not in lines]
-        wrong += [it for path in MANUALS + HEADERS for it in terms(path, open(path, encoding="utf-8").read())]
+        wrong += [it for path in MANUALS + HEADERS + BINDINGS for it in terms(path, open(path, encoding="utf-8").read())]
     with tempfile.TemporaryDirectory() as work:
         tree = place(work, unproved, archive)
         for page in pages or PAGES:

@@ -273,7 +273,7 @@ class AskJudge(gdb.Command):
     """Ask a judge of the program: capcheck-judge JUDGE QUESTION
 
 JUDGE is a capcheck_judge of the program, or a pointer to one. QUESTION is one of
-  register N      what the log's machine holds in a register, 0 to 31
+  register N      what the model holds in a register, 0 to 31
   granule A       what it holds in the 16 aligned bytes that contain the address A
   expected        after a `no` for WrongResult, what the rules give
   end             the verdict on the lines so far as a whole log

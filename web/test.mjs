@@ -101,7 +101,7 @@ const PICTURES = [
     ],
 ];
 
-/** The pictures for docs/: the head of the page, with an address that would lose the bounds, and with a log. */
+/** Pictures of the head of the page, with an address that would lose the bounds, and with a log: docs/page_log.png. */
 async function picturesOfHeads(page) {
     await page.scheme("light");
     for (const [name, width, height, link] of [

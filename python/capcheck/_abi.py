@@ -225,7 +225,7 @@ RECORDER: dict[str, tuple] = {
 
 
 def _load(name: str, kind: type[c.CDLL]) -> c.CDLL:
-    """Opens a library: in the folder CAPCHECK_LIB if that is set; otherwise beside this file, in the lib of the PREFIX that
+    """Opens a library: in the folder CAPCHECK_LIB if that is set; otherwise next to this file, in the lib of the PREFIX that
     this file is installed below, or where the system finds it."""
     here, given = Path(__file__).resolve().parent, os.environ.get("CAPCHECK_LIB")
     for folder in (Path(given),) if given else (here, here / "../../../lib"):

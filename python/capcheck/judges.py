@@ -200,7 +200,7 @@ class Judge:
         return found.number if found.kind == _EXPECTS_NUMBER else None
 
     def register(self, number: int) -> Capability:
-        """What the log's machine holds in a register, 0 to 31; after a faulty line, what it held before that line."""
+        """What the model holds in a register, 0 to 31; after a faulty line, what it held before that line."""
         if not 0 <= index(number) < 32:
             raise ValueError(f"register {number} isn't from 0 to 31")
         return _capability(_c.capcheck_judge_register(self._open, number).cap)

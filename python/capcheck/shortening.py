@@ -140,7 +140,7 @@ def _run_fault(log: bytes) -> list[str]:
 def _needed(before: list[bytes], faulty: bytes) -> list[bytes]:
     """The lines on which the operands of the faulty line depend: those that wrote its registers and its memory last, and what
     these depend on."""
-    writers: dict[int, int] = {}  # by register, and by granule, whose address is counted from 32 on
+    writers: dict[int, int] = {}  # by register, and by granule, whose number is 32 more
     addresses: dict[int, int] = {}
     reads: list[set[int]] = []
     with suppress(ValueError):

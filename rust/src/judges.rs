@@ -69,7 +69,7 @@ impl fmt::Display for Fault {
 
 impl error::Error for Fault {}
 
-/// A place of the log's machine.
+/// A place of the model.
 #[derive(Clone, Copy, Debug, PartialEq, Eq, Hash)]
 pub enum Place {
     /// A register, 0 to 31.
@@ -212,7 +212,7 @@ impl Judge {
         self.passed(unsafe { abi::capcheck_judge_answer(self.judge.get()) }.state)
     }
 
-    /// What the log's machine holds in a register; after a faulty line, what it held before that line. None above 31.
+    /// What the model holds in a register; after a faulty line, what it held before that line. None above 31.
     pub fn register(&self, number: u64) -> Option<Capability> {
         let found = unsafe { abi::capcheck_judge_register(self.judge.get(), number) };
         (found.present != 0).then(|| found.cap.into())

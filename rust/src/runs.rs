@@ -50,7 +50,7 @@ impl fmt::Display for RunPlace {
 }
 
 /// A line of a run log. The fields named `recorded` are what the target holds after the step; registers are numbers from 0 to
-/// 31, a register that is written from 1 on.
+/// 31, and those that are written at least 1.
 #[derive(Clone, Copy, Debug, PartialEq, Eq, Hash)]
 pub enum RunLine {
     /// A line that the other logs have, too: a mode, a root in a register or in memory, one of their steps, the end.
@@ -395,7 +395,7 @@ impl RunJudge {
         self.passed(unsafe { abi::capcheck_run_judge_answer(self.judge.get()) }.state)
     }
 
-    /// What the log's machine holds in a place; after a faulty line, what it held before that line. None if there is no such
+    /// What the model holds in a place; after a faulty line, what it held before that line. None if there is no such
     /// place.
     pub fn held(&self, place: RunPlace) -> Option<Capability> {
         let found = unsafe { abi::capcheck_run_judge_held(self.judge.get(), place.into()) };
