@@ -32,7 +32,7 @@ HIGH = 0xFFFF1FFFFC018004 << 64
 
 def unnamed():
     """The definitions of the core, sections 3 to 18 without the library, that transcribed.py lacks under their number."""
-    with open("docs/STANDARD.md", encoding="utf-8") as page, open("conformance/transcribed.py", encoding="utf-8") as it:
+    with open("docs/STANDARD-INDEX.md", encoding="utf-8") as page, open("conformance/transcribed.py", encoding="utf-8") as it:
         index = page.read().rpartition("## Annex: Index")[2]
         here = {number: name for name, number in re.findall(r"^(?:def |class )?(\w+)\b.*  # (\d+\.\d+)$", it.read(), re.M)}
     there = {number: name for name, numbers in re.findall(r"`(\w+)` ((?:\[[\d.]+\](?: and )?)+)", index) for number in re.findall(r"[\d.]+", numbers)}

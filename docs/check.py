@@ -42,7 +42,7 @@ sys.path.insert(0, f"{ROOT}/gdb")
 from sessions import PROMPT, agrees, is_installed, tell_left_out, transcript  # noqa: E402
 
 PAGES = ["README.md", "CONTRIBUTING.md", "docs/FIRST_HOUR.md", "docs/FORMAT.md", "docs/WORDS.md", "docs/MACHINE.md", "docs/RECORDING.md", "docs/RUNS.md", "docs/REFUSED.md"]
-PAGES += ["docs/PYTHON.md", "docs/GDB.md", "docs/ALLOCATORS.md", "docs/STANDARD.md", "docs/C.md", "docs/GLOSSARY.md", "docs/PROOFS.md", "docs/TESTING.md", "docs/DECISIONS.md", "docs/INTERNALS.md", "CHANGELOG.md", "examples/README.md", "examples/objects/README.md", "examples/qemu/README.md", "conformance/README.md", "web/README.md", "web/PASTING.md", "bench/README.md", "bench/units.md"]
+PAGES += ["docs/PYTHON.md", "docs/GDB.md", "docs/ALLOCATORS.md", "docs/STANDARD.md", "docs/STANDARD-RUNS.md", "docs/STANDARD-ALLOCATORS.md", "docs/STANDARD-PROGRAMS.md", "docs/STANDARD-INDEX.md", "docs/C.md", "docs/GLOSSARY.md", "docs/PROOFS.md", "docs/TESTING.md", "docs/DECISIONS.md", "docs/INTERNALS.md", "CHANGELOG.md", "examples/README.md", "examples/objects/README.md", "examples/qemu/README.md", "conformance/README.md", "web/README.md", "web/PASTING.md", "bench/README.md", "bench/units.md"]
 
 # Commands that no session runs, and where they are run.
 ELSEWHERE = {
@@ -112,7 +112,7 @@ TERMS = {
 MANUALS = ["docs/capcheck.1", "docs/capdiag.1"]
 HEADERS = ["include/capcheck.h", "include/capcheck_answer.h", "include/capcheck_freestanding.h", "include/capcheck_judge.h", "include/capcheck_names.h", "include/capcheck_recorder.h"]
 BINDINGS = [] if not os.path.isdir("rust/src") else sorted([*glob.glob("python/capcheck/*.py"), *glob.glob("gdb/*.py"), *glob.glob("rust/src/*.rs")])
-OURS = [it for it in PAGES if it != "docs/STANDARD.md"] + MANUALS + HEADERS + BINDINGS
+OURS = [it for it in PAGES if not it.startswith("docs/STANDARD")] + MANUALS + HEADERS + BINDINGS
 THEOREM = re.compile(r"(?m)^Where the judge answers yes.*$")
 # A figure of time, memory or cost. Each has to be in bench/README.md, or to round what is there.
 NUMBER = r"(?<![\w.^])\d+(?:[.,]\d+)*(?: to \d+(?:[.,]\d+)*)?"
@@ -456,7 +456,7 @@ def main(words):
         os.chdir(pages.pop(0))
         pages = pages or [it for it in PAGES if it != "CONTRIBUTING.md"]
     wrong, count = [] if archive else [*versions()], 0
-    read = [it for it in PAGES if it != "docs/STANDARD.md"] + glob.glob("docs/*.1") + glob.glob("include/*.h") + glob.glob("judge/*.c")
+    read = [it for it in PAGES if not it.startswith("docs/STANDARD")] + glob.glob("docs/*.1") + glob.glob("include/*.h") + glob.glob("judge/*.c")
     for path in pages or sorted([*read, *glob.glob("crates/*/src/**/*.rt", recursive=True), *glob.glob("examples/*/*.c")]):
         wrong += phrases(path)
     if not pages:

@@ -1,13 +1,15 @@
 #!/usr/bin/env python3
-"""Writes docs/STANDARD.md: the theorems, what they rest on, and the definitions, made of contracts and of crates/*/specs.
+"""Writes docs/STANDARD.md and its other parts: the theorems, what they rest on, and the definitions, made of contracts and of
+crates/*/specs.
 
-    python3 tools/standard.py            compares the page with what the tree gives; the status is 1 if it differs
-    python3 tools/standard.py --write    writes it
+    python3 tools/standard.py            compares the pages with what the tree gives; the status is 1 if one differs
+    python3 tools/standard.py --write    writes them
 
 docs/standard.txt has the prose. Its lines that begin with one of these words are made here:
 
     version: NUMBER DATE DIGEST      the version of the standard, its date, and the digest of the core that it stands for
     contents:                        the sections, in the order of the page
+    part: FILE                       what follows stands in this file, after what stands there before
     theorem: CRATE.FUNCTION CLAUSE.. the text of clauses of a public function's contract
     of: CRATE.DEFINITION..           definitions that an annex needs beside those of its theorems
     types: PATH NAME..               declared types, a line each
@@ -36,7 +38,8 @@ from definitions import SPECS, closure, imports, named, read, resolve
 from tables import SAID, TABLES, numbers_from
 from tree import KIT, WIDTH, comment_of, contract, declarations, fail, kit_definition, module_of, modules_with, spec_text, text_of
 
-PAGE, WORDS, CORPUS = "docs/STANDARD.md", "docs/standard.txt", "conformance/INDEX.tsv"
+PAGE, OTHER_PAGES = "docs/STANDARD.md", "docs/STANDARD-*.md"
+WORDS, CORPUS = "docs/standard.txt", "conformance/INDEX.tsv"
 SEEN = "conformance/CLAUSES.tsv"
 SHORT, LONG, COLUMN = 12, 66, 44
 NUMBER = r"\d+\.\d+"
@@ -245,6 +248,10 @@ class Page:
                 m = re.search(rf"^[^\n]*  -- {re.escape(number)}\n(?:(?!```|\n|[^\n]*  -- \d)[^\n]*\n)*", self.old, re.M)
                 self.block.append((number, (m or fail(f"neither the kit nor the page has {text}"))[0].rstrip("\n").split("\n")))
 
+    def part(self, words):
+        self.flush()
+        self.parts.append("@part " + words[0])
+
     def moved(self, words):
         """A number that isn't given again."""
         self.gone[words[0]] = words[1] if len(words) > 1 else ""
@@ -257,7 +264,7 @@ class Page:
         for line in prose.split("\n"):
             fence ^= line.startswith("```")
             kind, _, rest = line.partition(":")
-            if kind in ("version", "theorem", "of", "types", "defs", "table", "library", "moved", *LATER):
+            if kind in ("version", "part", "theorem", "of", "types", "defs", "table", "library", "moved", *LATER):
                 if kind != last or kind == "library":
                     self.flush()
                 (made.get(kind) or getattr(self, kind))(rest.split())
@@ -394,16 +401,24 @@ def core_of(text):
     return text[text.index(CORE_BEGIN) : text.index(CORE_END)]
 
 
-def digest_of(text):
-    """SHA-256 over the sorted lines of the core's definitions and of its rows with a number, as the page says."""
+def definitions_of(text, rows="```"):
+    """The lines of a text's definitions, and those that begin as its numbered rows do, without comments."""
     lines, inside = [], False
-    for line in text.partition(CORE_END)[0].split("\n"):
+    for line in text.split("\n"):
         if line.startswith("```"):
             inside = line == "```antt"
-        elif inside or line.startswith('| <a id="c'):
-            line = re.sub(" *-- .*", "", line)
-            lines += [line.encode() + b"\n"] * bool(line)
+        elif inside or line.startswith(rows):
+            lines.append(re.sub(" *-- .*", "", line))
+    return [it.encode() + b"\n" for it in lines if it]
+
+
+def short_hash(lines):
     return hashlib.sha256(b"".join(sorted(lines))).hexdigest()[:12]
+
+
+def digest_of(text):
+    """SHA-256 over the sorted lines of the core's definitions and of its rows with a number, as the page says."""
+    return short_hash(definitions_of(text.partition(CORE_END)[0], '| <a id="c'))
 
 
 def forward(page, text):
@@ -481,20 +496,43 @@ def finished(page, prose, text):
     if digest != now:
         fail(f"the core isn't that of version {number}: if its meaning changed, raise the version in {WORDS}; then write the digest {now} beside it")
     title = f"| | |\n|---|---|\n| Version | {number}, {date} |\n| Digest | `{now}`, of the core's definitions; [26.9] says how to compute it |"
-    text = text.replace("@digest", now).replace(f"@version {number} {date} {digest}", title)
+    text = text.replace("@digest", now, 1).replace(f"@version {number} {date} {digest}", title)
     print(f"the core has {lines} lines and {later} mentions of what comes later; the page has {clauses} clauses and {targets} link targets")
-    return text + "\n" + "".join(f"[{it}]: #c{it}\n" for it in sorted(clauses_of(text), key=order))
+    return text
+
+
+def targets(text):
+    """What links to a page can lead to."""
+    return {*re.findall(r'<a id="([^"]+)"></a>', text), *(heading(it) for it in re.findall(r"^#+ (.*)$", text, re.M))}
+
+
+def pages_of(text):
+    """The pages by their files, where each link leads to the page that has its target."""
+    pieces, pages = re.split(r"(?m)^@part (\S+)\n+", text), {}
+    for file, piece in zip([PAGE, *pieces[1::2]], pieces[::2]):
+        pages.setdefault(file, []).append(piece.strip("\n"))
+    pages = {file: "\n\n".join(it) + "\n" for file, it in pages.items()}
+    home = {target: os.path.basename(file) for file, it in pages.items() for target in targets(it)}
+    for file, it in pages.items():
+        own = os.path.basename(file)
+        lead = lambda target: ("" if home[target] == own else home[target]) + "#" + target
+        it = re.sub(r"\]\(#([^)]+)\)", lambda m: f"]({lead(m[1])})", it)
+        it = it.replace("@digest", short_hash(definitions_of(it)))
+        cited = sorted({*re.findall(rf"\[({NUMBER})\](?!\()", it)}, key=order)
+        pages[file] = it + "\n" + "".join(f"[{number}]: {lead('c' + number)}\n" for number in cited)
+    return pages
 
 
 def main(words):
-    old, prose = read(PAGE) if os.path.isfile(PAGE) else "", read(WORDS)
-    page = Page(old)
-    text = finished(page, prose, page.make(prose))
+    old = {path: read(path) for path in [*glob.glob(OTHER_PAGES), *glob.glob(PAGE)]}
+    page, prose = Page("\n".join(old.values())), read(WORDS)
+    pages = pages_of(finished(page, prose, page.make(prose)))
     if words == ["--write"]:
-        with open(PAGE, "w", encoding="utf-8") as it:
-            it.write(text)
-    elif old != text:
-        print(f"{PAGE} isn't what the tree gives: python3 tools/standard.py --write")
+        for path, text in pages.items():
+            with open(path, "w", encoding="utf-8") as it:
+                it.write(text)
+    elif old != pages:
+        print("docs/STANDARD*.md aren't what the tree gives: python3 tools/standard.py --write")
         return 1
     return 0
 
