@@ -19,6 +19,7 @@ archive (release.sh), as its reader has them, and what needs the kit is left out
   lines `cc program.c ..`, and is run as each of them links it.
 - Rows that give the verdict of an example or of a log are judged, and blocks that show a file of the tree are compared
   with it. `judge/heap.c` has to have as many lines as is said, and the manual pages and the changelog the header's version.
+- The examples of the manual pages are sessions too.
 - Each link has to lead to a file and a heading, and to a file that release.sh puts into the archive.
 - The words of TERMS are looked for in the pages, the manual pages, the headers, and the docstrings and comments of Python, GDB
   and Rust, except what standard.py makes, and each figure of the pages in bench/README.md. The phrases of PHRASES are looked for in the pages, the manual pages, the headers, and the comments of
@@ -234,7 +235,7 @@ def sessions(page, text, folder, unproved, archive):
                 continue
             if is_left or archive and KIT.search(command[0]):
                 continue
-            if "-m capcheck" in command[0] and not HAS_PACKAGE:
+            if "-m capcheck" in command[0] and not HAS_PACKAGE or command[0].startswith("emulator "):
                 continue
             if any(line.startswith(PROMPT) for line in wanted):
                 if not is_installed():
@@ -262,6 +263,11 @@ def doctests(page, text, folder):
         it.writelines(held)
     given = run("python3 -m doctest doctests.txt", folder)
     return [f"{page}: {given}"] if given else [], sum(it.count(">>> ") for it in held)
+
+
+def manual(text):
+    """The examples of a manual page, as the sessions of a page."""
+    return re.sub(r"(?m)^\.(nf\n\.RS|RE\n\.fi)$", "```", text).replace("\\-", "-")
 
 
 def log_of(cell):
@@ -462,17 +468,17 @@ def main(words):
     if not pages:
         lines = {line for page in PAGES for _, _, block in blocks(open(page, encoding="utf-8").read()) for line in block}
         wrong += [f"docs/check.py: no page has the command `{it}` of ELSEWHERE" for it in ELSEWHERE if it not in lines]
-        wrong += [it for path in MANUALS + HEADERS + BINDINGS for it in terms(path, open(path, encoding="utf-8").read())]
+        wrong += [it for path in HEADERS + BINDINGS for it in terms(path, open(path, encoding="utf-8").read())]
     with tempfile.TemporaryDirectory() as work:
         tree = place(work, unproved, archive)
-        for page in pages or PAGES:
+        for page in pages or PAGES + MANUALS:
             with open(page, encoding="utf-8") as it:
                 text = it.read()
             with tempfile.TemporaryDirectory(dir=work) as room:
                 folder = f"{room}/tree"
                 shutil.copytree(f"{work}/home/.local/share/capcheck" if page in INSTALLED and not unproved else tree, folder, symlinks=True)
                 before = dict(os.environ)
-                run_sessions = sessions(page, text, folder, unproved, archive)
+                run_sessions = sessions(page, manual(text) if page in MANUALS else text, folder, unproved, archive)
                 run_blocks = ([], 0) if unproved else programs(page, text, folder)
                 run_python = ([], 0) if unproved else doctests(page, text, folder)
                 os.environ.clear()
