@@ -191,7 +191,7 @@ function nearDrawing({ bound, scale, ie, bars, points }, width) {
     return canvas(width, low + 24 + below.height, ...nodes, ...below.nodes);
 }
 
-/** A request above what it is rounded to, to scale. What is lost at each side is marked. */
+/** A request above what it is rounded to, to scale. The padding at each side is marked. */
 function requestDrawing({ base, length, rounded, lost }, width) {
     const room = (rounded.top - rounded.base) / 8n + 2n;
     const { x } = scaled(rounded.base - room, rounded.top - rounded.base + 2n * room, 0, width);
@@ -226,12 +226,12 @@ function withExcess(bars, owner = { request: "source", rounded: "source", access
     });
 }
 
-/** Bars of the same range as one, with all their names. */
+/** Bars of the same range as one, with all their names, unless one has no tag, was freed or is refused and the other not. */
 function alike(bars) {
     const rows = [];
-    const hasNoTag = ({ kind }) => kind === "untagged";
+    const group = ({ kind }) => (["untagged", "freed", "refused-extent"].includes(kind) ? kind : "");
     for (const it of bars) {
-        const same = rows.find((other) => other.base === it.base && other.top === it.top && hasNoTag(other) === hasNoTag(it));
+        const same = rows.find((other) => other.base === it.base && other.top === it.top && group(other) === group(it));
         if (!same) rows.push({ excess: [], says: "", ...it, names: [it.name] });
         else {
             same.names.push(it.name);
@@ -241,7 +241,7 @@ function alike(bars) {
     return rows;
 }
 
-/** Strokes across a rectangle, for what has no tag. */
+/** Strokes across a rectangle, for what has no tag or was freed. */
 function hatched(left, right, y, height) {
     let path = "";
     for (let at = left - height; at < right; at += 7) {
@@ -252,7 +252,7 @@ function hatched(left, right, y, height) {
 }
 
 /** Ranges one below the other on one axis, each below its names; equal ones are drawn once. What goes beyond others is
- * red, what has no tag hatched. Where some are far smaller than others, the axis is for those, and an arrow says that a
+ * red, what has no tag or was freed hatched. Where some are far smaller than others, the axis is for those, and an arrow says that a
  * range goes on. */
 function axisDrawing(bars, width) {
     const rows = alike(bars);
@@ -288,7 +288,7 @@ function axisRow({ names, base, top, kind, excess, says }, axis, y) {
     const at = y + (isLong && says ? 34 : 18);
     const [x1, x2] = [axis.cut(base), axis.cut(top)];
     nodes.push(bar(x1, x2, at, 16, kind));
-    if (kind === "untagged") nodes.push(hatched(x1, x2, at, 16));
+    if (kind === "untagged" || kind === "freed") nodes.push(hatched(x1, x2, at, 16));
     for (const part of excess) {
         const [from, to] = [axis.cut(part.base), axis.cut(part.top)];
         if (to > left && from < right) nodes.push(bar(from, to, at, 16, "excess"));

@@ -120,7 +120,8 @@ function sentenceOf(c, f) {
     ];
     if (!f.sound) return `Not sound: ${f.why}.`;
     const { address, otype } = f.fields;
-    const type = f.kind === "unsealed" ? "" : `, ${f.kind === "sealed" ? "sealed with type" : "with the reserved type"} ${ox(otype)}`;
+    const type = f.kind === "unsealed" ? "" : otype === SENTRY ? ", a sentry"
+        : `, ${f.kind === "sealed" ? "sealed with type" : "with the reserved type"} ${ox(otype)}`;
     const where = f.length > GREATEST ? "the whole address space" : `${counted(f.length, "byte")} from ${ox(f.bounds.base)}`;
     const inside = c.contains(f.word, address, 1n) ? "the address lies in bounds" : `the address, ${ox(address)}, lies outside the bounds`;
     const says = `${can.length ? list(can) : "no access"}, ${where}${type}; ${inside}`;

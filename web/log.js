@@ -35,7 +35,7 @@ class Beside {
 // of it.
 const closed = {
     beside: null, name: "", blob: null, text: null, size: 0, packed: "", judged: null, report: null, faulty: "", origins: null,
-    made: null, line: 0, at: null, granule: null, wrote: null, evened: null, objects: null, asks: "", shown: "",
+    made: null, line: 0, at: null, granule: null, wrote: null, evened: null, objects: null, asks: "", shown: "", isAnew: false,
 };
 const log = { ...closed, wait: 0 };
 
@@ -94,7 +94,9 @@ function toldOfLog(told) {
     tellWork(null);
     if (told.problem) return failed(new Error(told.problem), "There is no verdict");
     log.judged = told.judged;
-    const asked = Number(byId("line").value);
+    // With other options an earlier line may be refused: nothing is known of the line that was shown.
+    const typed = Number(byId("line").value);
+    const asked = log.isAnew && log.judged.line && typed > log.judged.line ? 0 : typed;
     const last = Math.max(log.judged.count, log.judged.line);
     stepTo(asked || log.judged.line || log.judged.count, asked > last ? `There is no line ${decimal(asked)}: this is the last.` : "");
     if (FORMLESS.includes(log.judged.refusal)) askEvened();
@@ -115,7 +117,11 @@ function showLog() {
     byId("log").querySelector(".results").hidden = log.judged === null;
     showAsks();
     if (log.judged === null) return;
-    if (log.judged.isRun && log.asks !== asksText()) return judgeLog(log.blob, log.name, log.text, log.packed);
+    if (log.judged.isRun && log.asks !== asksText()) {
+        judgeLog(log.blob, log.name, log.text, log.packed);
+        log.isAnew = true;
+        return;
+    }
     const typedLine = byId("line").value.trim();
     const asked = /^\d+$/.test(typedLine) ? Number(typedLine) : 0;
     if (typedLine !== "" && !asked) tellWay(`“${typedLine.slice(0, 20)}” is no line's number.`);
@@ -261,13 +267,22 @@ function reportShown(report) {
     return shown;
 }
 
+/** The kind of bar for a capability: what a refused `object` line asks for is red, and so is who holds a freed object. */
+function kindOfCap(name, { bounds, tag }, { spans: { extent }, object }) {
+    if (tag !== "1") return "untagged";
+    if (name === "register" && extent && bounds[0] === extent.base && bounds[1] === extent.top) return "refused-extent";
+    return name === "holder" && object && !object.isLive ? "freed" : "bounds";
+}
+
 /** The ranges of a report, in order, with what goes beyond the source's or the authority's bounds. */
-function barsOf({ caps, spans, object }, isLoad) {
+function barsOf(report, isLoad) {
+    const { caps, spans, object } = report;
+    const kindOfSpan = (name) => (name === "extent" ? "refused-extent" : /^(representable|live)/.test(name) ? "range" : "asked");
     const bars = [
-        ...Object.entries(caps).filter(([, cap]) => !isData(cap, isLoad)).map(([name, { bounds, tag }]) =>
-            ({ name, base: bounds[0], top: bounds[1], kind: tag === "1" ? "bounds" : "untagged" })),
-        ...Object.entries(spans).map(([name, it]) => ({ name, ...it, kind: /^(representable|live)/.test(name) ? "range" : "asked" })),
-        ...(object ? [{ name: `object ${object.number}, ${stateOf(object)}`, base: object.base, top: object.top, kind: "range" }] : []),
+        ...Object.entries(caps).filter(([, cap]) => !isData(cap, isLoad)).map(([name, cap]) =>
+            ({ name, base: cap.bounds[0], top: cap.bounds[1], kind: kindOfCap(name, cap, report) })),
+        ...Object.entries(spans).map(([name, it]) => ({ name, ...it, kind: kindOfSpan(name) })),
+        ...(object ? [{ name: `object ${object.number}, ${stateOf(object)}`, base: object.base, top: object.top, kind: object.isLive ? "range" : "freed" }] : []),
     ].filter(({ base, top }) => base <= top).sort((one, other) => placeInOrder(one) - placeInOrder(other));
     return withExcess(bars, log.judged.isHeap ? { rounded: "request", "live rounded": "live request" } : undefined);
 }

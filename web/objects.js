@@ -36,7 +36,7 @@ function objectSaid(it) {
 
 /** The objects cost a judging of the lines before: those of a line that is passed by aren't asked for. */
 async function askObjects(line, passed) {
-    if (!log.judged.isRun && !log.judged.isHeap) return;
+    if (passed() || !log.judged.isRun && !log.judged.isHeap) return;
     const { beside } = log;
     const about = log.judged.isRun && log.judged.state === 2 ? reportOf(log.judged.text).object : null;
     const numbers = about ? [about.number] : [];
@@ -99,7 +99,7 @@ function extentsDrawing(objects, about, asked, asks, width) {
     const rows = [
         ["live", "bounds", objects.filter(({ isLive }) => isLive)],
         ["freed, still held", "outside", objects.filter(({ isLive }) => !isLive)],
-        [asks, "asked", asked ? [asked] : []],
+        [asks, "refused-extent", asked ? [asked] : []],
     ].filter(([, , extents]) => extents.length);
     const nodes = rows.flatMap(([title, kind, extents], row) => [
         words(0, row * 44 + 13, title, "note", "start"),
@@ -111,7 +111,7 @@ function extentsDrawing(objects, about, asked, asks, width) {
     const y = rows.length * 44;
     const named = about ? [about] : objects.length <= 6 ? objects : [];
     const points = [
-        ...named.map(({ number, base, top }) => ({ x: (axis.cut(base) + axis.cut(top)) / 2, number: `object ${number}`, note: `from ${hex(base)}` })),
+        ...named.map(({ number, base }) => ({ x: axis.cut(base), number: `object ${number}`, note: `from ${hex(base)}` })),
         ...(named.length < 2 ? [from, end].map((at) => ({ x: axis.x(at), number: hex(at), note: at === from ? "least base" : "greatest top" })) : []),
     ];
     const below = labels(points, width, y + 8);

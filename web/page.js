@@ -321,7 +321,7 @@ function showRequest() {
     byId("rounding").replaceChildren(requestDrawing(facts, widthOf("rounding")));
     const end = base + length;
     byId("rounding-says").textContent = `Requested: ${span({ base, top: end })}, ${counted(length, "byte")}. `
-        + (rounded.exact ? "Both bounds are the requested ones." : `Rounded: ${span(rounded)}, ${lostAtSides(facts)}. `
+        + (rounded.exact ? "Both bounds are the requested ones." : `Rounded: ${span(rounded)}, ${paddingAtSides(facts)}. `
         + `With E ${rounded.e} bounds can lie at multiples of ${ox(scale.step)}, 8 units of 2^${scale.cut} bytes. `
         + (rounded.e ? "With a smaller E there would be 1024 of its steps or more between them, and a word has room for 1023."
             : "From a length of 4096 on the word contains an exponent, which takes three bits of each bound."));
@@ -337,8 +337,8 @@ function showRequest() {
         figure("At the base: requested above, rounded below", near(rounded.base, "base", asked(base, hex(base)))),
         figure("At the top: requested above, rounded below", near(rounded.top, "top", asked(end, hex(end)))));
     fill("round-lines", [
-        ["base", hex(rounded.base, 16), `the requested base, ${hex(base)}, rounded down: ${lostIn(facts.lost.below)}`],
-        ["top", hex(rounded.top, 17), `the requested top, ${hex(end)}, rounded up: ${lostIn(facts.lost.above)}`],
+        ["base", hex(rounded.base, 16), `the requested base, ${hex(base)}, rounded down: ${paddingIn(facts.lost.below)}`],
+        ["top", hex(rounded.top, 17), `the requested top, ${hex(end)}, rounded up: ${paddingIn(facts.lost.above)}`],
         ["ie", String(rounded.ie), rounded.ie ? "the word contains an exponent, from a length of 4096 on" : "the word contains no exponent"],
         ["e", String(rounded.e), rounded.ie ? "the least exponent for this length" : "without an exponent, 0"],
         ["exact", rounded.exact ? "yes" : "no", "whether both bounds are the requested ones"],
@@ -346,8 +346,8 @@ function showRequest() {
     fill("exact-lines", exactRows(facts));
 }
 
-const lostIn = (bytes) => (bytes ? `${counted(bytes, "byte")} lost` : "nothing lost");
-const lostAtSides = ({ lost }) => `with ${counted(lost.below, "byte")} lost below and ${counted(lost.above, "byte")} above`;
+const paddingIn = (bytes) => (bytes ? `${counted(bytes, "byte")} of padding` : "no padding");
+const paddingAtSides = ({ lost }) => `with ${counted(lost.below, "byte")} of padding below and ${counted(lost.above, "byte")} above`;
 
 /** The button that takes the least length and the next aligned base with which the request is exact. */
 function showTakeExact({ rounded, wanted, below, above }) {

@@ -73,9 +73,9 @@ export async function offsetsAreInRange(page) {
 /** The requested top, what is lost at each side, and the button that takes an exact request. */
 export async function requestsAreMadeExact(page) {
     const cases = [
-        ["10040", "186a0", "0x10040 up to 0x286e0, 100,000 bytes. Rounded: 0x10000 up to 0x28700, with 64 bytes lost below and 32 bytes above.",
+        ["10040", "186a0", "0x10040 up to 0x286e0, 100,000 bytes. Rounded: 0x10000 up to 0x28700, with 64 bytes of padding below and 32 bytes above.",
             "Take an exact request: 0x18700 bytes from 0x10080", ["10080", "18700"]],
-        ["1", "1001", "0x1 up to 0x1002, 4,097 bytes. Rounded: 0x0 up to 0x1008, with 1 byte lost below and 6 bytes above.",
+        ["1", "1001", "0x1 up to 0x1002, 4,097 bytes. Rounded: 0x0 up to 0x1008, with 1 byte of padding below and 6 bytes above.",
             "Take an exact request: 0x1008 bytes from 0x8", ["8", "1008"]],
         ["1000", "20", "0x1000 up to 0x1020, 32 bytes. Both bounds are the requested ones.", "", null],
     ];
