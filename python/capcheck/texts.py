@@ -1,0 +1,334 @@
+"""The importer of traces in a dialect: what each instruction read and wrote, line by line."""
+from __future__ import annotations
+
+import re
+from collections.abc import Sequence
+from typing import Any
+
+from . import _abi
+from ._abi import words as _words
+from .dialects import DDC, PCC, STEPS, STRAIGHT, Dialect
+from .lines import Kind
+from .recording import Recorder
+from .traces import _LOW, _NULL_HIGH, _TYPE, _UNSEALED, Held, Importer, _shown, _unsealed, word_of
+from .words import NULL
+
+_MOST_LINES = 2**16  # So many parsed lines are kept.
+_ARGUMENT, _LINK = 10, 1  # Of RISC-V's calls.
+_TOKEN, _AUTHORITY = re.compile(r"[^\s,()]+"), re.compile(r"\((\w+)\)")
+Operand = tuple[int | None, int | None]  # A place, or a number.
+
+
+class Text(Importer):
+    """The importer of a dialect. `hart` is the one that is read, by default that of the first instruction. At the addresses
+    `malloc` a function returns a new object, at `free` one begins that frees its argument."""
+
+    def __init__(self, recorder: Recorder, dialect: Dialect, *, hart: str | None = None, malloc: Sequence[int] = (), free: Sequence[int] = (),
+                 **words: Any) -> None:
+        super().__init__(recorder, **words)
+        self._dialect, self._hart, self._malloc, self._free = dialect, hart, frozenset(malloc), frozenset(free)
+        self._parsed: dict[str, tuple[Any, ...]] = {}
+        self._now: tuple[Any, ...] | None = None  # The instruction that the next lines belong to.
+        self._effects: list[tuple[Any, ...]] = []
+        self._of_another, self._trap, self._mask = False, None, None
+        self._returns: list[int] = []
+        self._swapped, self._taken = (), None
+
+    # ---- Lines ----
+
+    def _line(self, text: str) -> None:
+        parsed = self._parsed.get(text)
+        if parsed is None:
+            parsed = self._read(text)
+            if len(self._parsed) == _MOST_LINES:
+                self._parsed.clear()
+            self._parsed[text] = parsed
+        kind = parsed[0]
+        if kind == "instruction":
+            self._begin(parsed, text)
+        elif kind == "unknown":
+            self._unknown(text)
+        elif kind == "nothing" or self._of_another:
+            return
+        elif kind == "more":
+            if not self._effects or len(self._effects[-1]) != 3 or not isinstance(self._effects[-1][2], dict):
+                raise ValueError("no capability comes before the rest of one")
+            what, place, fields = self._effects[-1]
+            self._effects[-1] = what, place, {**fields, **parsed[1]}
+        elif kind == "trap":
+            self._finish(None)
+            self._trap, self._effects, self.machine.kernel = [self._now[2] if self._now else None, None], [], 2
+            self._now = None
+        elif kind == "mode":
+            if self._trap:
+                self._trap[1] = self._mode(parsed[1])
+        else:
+            self._effects.append(parsed)
+
+    def _mode(self, mode: str) -> tuple[int, ...]:
+        if len(found := self._dialect.modes.get(mode.lower(), ())) != 2:
+            raise ValueError(f"the dialect doesn't say where mode {mode} saves PCC, and its vector")
+        return found
+
+    def _read(self, text: str) -> tuple[Any, ...]:
+        """What a line says."""
+        for kind, form in self._dialect.forms:
+            if found := form.fullmatch(text):
+                break
+        else:
+            return ("unknown",)
+        groups = {name: it for name, it in found.groupdict().items() if it is not None}
+        if kind == "instruction":
+            return self._instruction(groups)
+        if kind in ("capability", "integer"):
+            name = groups.pop("register").lower()
+            if name not in self._dialect.registers:
+                return ("unknown",)
+            place = self._dialect.registers[name]
+            if place is None:
+                return ("nothing",)
+            return kind, place % 64, int(groups["value"], 16) if kind == "integer" else self._fields(groups)
+        if kind in ("load", "store"):
+            value = groups["value"]
+            size = int(groups["size"]) if "size" in groups else (len(value) + 1) // 2
+            return kind, int(groups["at"], 16), int(value, 16).to_bytes(size, "little")
+        if kind in ("load_capability", "store_capability"):
+            return kind, int(groups.pop("at"), 16), self._fields(groups)
+        return kind, self._fields(groups) if kind == "more" else groups.get("mode")
+
+    def _fields(self, groups: dict[str, str]) -> dict[str, int]:
+        rest = groups.pop("fields", "")
+        for it in self._dialect.fields.finditer(rest):
+            if field := self._dialect.keys.get(it["key"].lower()):
+                groups[field] = it["value"]
+        return {name: int(value, 16) for name, value in groups.items()}
+
+    def _instruction(self, groups: dict[str, str]) -> tuple[Any, ...]:
+        """Of an instruction: hart, address, kind, the operands of the kind, all operands, the authority, the mnemonic."""
+        mnemonic, operands = groups["mnemonic"].lower(), groups.get("operands", "")
+        found = [self._operand(it) for it in _TOKEN.findall(operands)]
+        kind, positions = self._dialect.kinds.get(mnemonic, ("", ()))
+        wanted = [(-1 - it, 0) if it < 0 else found[it] if it < len(found) else None for it in positions]
+        if None in wanted and kind != "":
+            kind, wanted = "", []
+        authority = _AUTHORITY.search(operands)
+        place = None if authority is None else self._operand(authority[1])[0]
+        pc = int(groups["pc"], 16) if "pc" in groups else None
+        places = [it % 64 for it, _ in found if it is not None]
+        return "instruction", groups.get("hart"), pc, kind, wanted, places, DDC if place is not None and place >= 64 else place, mnemonic
+
+    def _operand(self, token: str) -> Operand:
+        """A place, or a number."""
+        if (place := self._dialect.registers.get(token.lower())) is not None:
+            return place, None
+        try:
+            return None, int(token, 0)
+        except ValueError:
+            return None, None
+
+    # ---- Instructions ----
+
+    def _begin(self, parsed: tuple[Any, ...], text: str) -> None:
+        _, hart, pc, *_ = parsed
+        if self._hart is None:
+            self._hart = hart
+        self._of_another = hart is not None and hart != self._hart
+        if self._of_another:
+            self.notes["instructions of other harts, left out"] += 1
+            return
+        before = self._now
+        self._finish(pc)
+        if before and before[3] in STRAIGHT and None not in (pc, before[2]) and pc - before[2] not in (2, 4):
+            raise ValueError(f"the trace was cut: {pc:#x} doesn't follow {before[2]:#x}, line {self.at}")
+        self._now, self._effects = parsed, []
+        self.instructions += 1
+        self.at, self.text = self.lines, text
+        if pc in self._free and self.machine.held[_ARGUMENT][0]:
+            self.machine.call("freed", _ARGUMENT, 0)
+        elif pc in self._malloc:
+            self._returns.append(self.machine.held[_LINK][1] & _LOW)
+        elif self._returns and pc == self._returns[-1]:
+            self._returns.pop()
+            if self.machine.held[_ARGUMENT][0]:
+                self.machine.call("object", _ARGUMENT, 0)
+
+    def end(self) -> None:
+        self._finish(None)
+        super().end()
+
+    def _held(self, fields: dict[str, int]) -> Held:
+        """The capability of fields."""
+        if "tag" not in fields:
+            raise ValueError(f"the field tag is missing: {_shown(fields)}")
+        if "word" in fields:
+            return fields["tag"] & 1, fields["word"]
+        if "high" not in fields or "address" not in fields:
+            return fields["tag"] & 1, word_of(fields)
+        if fields["tag"] == 0 and self._mask is None and fields["high"] == 0:
+            self._mask = _NULL_HIGH  # An integer: NULL's half is printed as 0.
+        return fields["tag"] & 1, (fields["high"] ^ (self._mask or 0)) << 64 | fields["address"]
+
+    def _memory_held(self, fields: dict[str, int], known: Held | None) -> Held | None:
+        """The capability of fields of memory. If its half is given, one that is known says how it is printed."""
+        if known and self._mask is None and "high" in fields and fields["high"] in (known[1] >> 64, known[1] >> 64 ^ _NULL_HIGH):
+            self._mask = known[1] >> 64 ^ fields["high"]
+        return self._held(fields) if "tag" in fields else None
+
+    def _finish(self, next_pc: int | None) -> None:
+        """Records the instruction whose lines have been read: its accesses, then what it wrote."""
+        machine, effects = self.machine, self._effects
+        if self._trap:
+            self._trapped(next_pc)
+        elif self._now is None:
+            for what, place, fields in effects:
+                held = self._held(fields) if what == "capability" else (0, 0)
+                if held[0]:
+                    machine.root(place, held[1])
+            if not self.instructions:
+                for place, word in self._dialect.roots.items():
+                    if not machine.held[place][0]:
+                        machine.root(place, word)
+        else:
+            if effects and effects[0][0] not in ("capability", "integer"):
+                effects = self._accesses(effects)
+            self._results(effects, next_pc)
+            machine.kernel = 2 if self._now[3] == "call" else max(0, machine.kernel - 1)
+
+    def _trapped(self, next_pc: int | None) -> None:
+        pc, modes = self._trap
+        self._trap = None
+        saved, vector = modes or next(iter(self._dialect.modes.values()), (None, None))
+        if vector is None or next_pc is None:
+            return
+        machine = self.machine
+        written = {place: self._held(fields) for what, place, fields in self._effects if what == "capability"}
+        tag, word = machine.held[PCC]
+        saved_held = written.pop(saved, (tag, word if pc is None else word & ~_LOW | pc))
+        tag, word = machine.held[vector]
+        machine.trapped(saved, saved_held, vector, written.pop(PCC, (tag, _unsealed(word, next_pc))))
+        for place, held in written.items():
+            machine.derive(place, (), held)
+
+    def _accesses(self, effects: list[tuple[Any, ...]]) -> list[tuple[Any, ...]]:
+        """Records the accesses among the lines of an instruction, and returns the other lines."""
+        machine, (*_, places, authority, mnemonic) = self.machine, self._now
+        rest = []
+        for index, (what, at, value) in enumerate(effects):
+            if what in ("capability", "integer"):
+                rest.append((what, at, value))
+                continue
+            if authority is None:
+                raise ValueError(f"{mnemonic}: no operand in parentheses says through which register it accesses memory")
+            if what == "load":
+                machine.loaded(authority, at, value)
+            elif what == "store":
+                machine.stored(authority, at, value)
+            elif what == "store_capability":
+                source = self._stored(places)
+                self._memory_held(value, machine.held[source])
+                if source not in self._swapped:
+                    machine.stored_cap(source, authority, at)
+            else:
+                self._loaded_cap(effects, index, places)
+        self._swapped = ()
+        return [it for it in rest if it is not self._taken]
+
+    def _stored(self, places: list[int]) -> int:
+        """The register of a store: the last operand before the authority."""
+        return places[-2] if len(places) > 1 else 0
+
+    def _loaded_cap(self, effects: list[tuple[Any, ...]], index: int, places: list[int]) -> None:
+        machine, authority, (_, at, fields) = self.machine, self._now[6], effects[index]
+        target = places[0]
+        self._taken = next((it for it in effects if it[0] in ("capability", "integer") and it[1] == target), None)
+        written = self._held(self._taken[2]) if self._taken and self._taken[0] == "capability" else None
+        held = self._memory_held(fields, written)
+        if written is None:
+            written = held or (0, NULL.word)
+            target = target if self._taken else 0
+        if target and target == self._stored(places) and any(it[0] == "store_capability" for it in effects[index:]):
+            self._swapped = (target,)
+            machine.swapped(target, authority, at, written)
+        else:
+            machine.loaded_cap(target, authority, at, written)
+
+    def _results(self, effects: list[tuple[Any, ...]], next_pc: int | None) -> None:
+        """Records what an instruction wrote into registers."""
+        machine, (_, _, _, kind, wanted, places, _, mnemonic) = self.machine, self._now
+        written = {place: self._held(value) for what, place, value in effects if what == "capability"}
+        if kind in STEPS:
+            target = wanted[0][0] % 64
+            if target in written:
+                self._step(kind, target, wanted, written.pop(target))
+        elif kind and (next_pc is not None or written) and kind not in ("derive", "access", "call"):
+            self._changed_pcc(kind, wanted, written, next_pc)
+        for place, held in written.items():
+            if held[0] == 0 and held[1] >> 64 == _NULL_HIGH and place < 32:
+                machine.overwrote(place, held[1] & _LOW)
+                continue
+            sources = [it[0] % 64 for it in wanted if it[0] is not None] if kind == "derive" else places[1:] or places
+            if kind not in ("derive", "access"):
+                self.notes[f"recorded as derived, not known: {mnemonic}"] += 1
+            machine.derive(place, sources, held)
+        for what, place, value in effects:
+            if what == "integer" and place < 32:
+                machine.overwrote(place, value)
+
+    def _number(self, operand: Operand) -> int | None:
+        """The number of an operand; None if no line told it."""
+        place, number = operand
+        if place is None:
+            return None if number is None else number & _LOW
+        return self.machine.held[place % 64][1] & _LOW if place % 64 >= 32 or self.machine.told >> place % 64 & 1 else None
+
+    def _step(self, kind: str, target: int, wanted: list[Operand], held: Held) -> None:
+        """Records a step with its own operand."""
+        machine, source = self.machine, (wanted[1][0] or 0) % 64
+        other, number, step = 0, 0, STEPS[kind]
+        if kind in ("seal", "ccseal", "unseal"):
+            other = (wanted[2][0] or 0) % 64
+            if kind == "ccseal" and held[1] & _TYPE == machine.held[source][1] & _TYPE:
+                step = Kind.MOVE
+        elif kind == "copytype":
+            number = machine.held[(wanted[2][0] or 0) % 64][1] >> 91 & _UNSEALED
+            if number == _UNSEALED:
+                machine.overwrote(target, held[1] & _LOW)
+                return
+        elif kind == "fromptr" and source == 0:
+            machine.derive(target, (DDC,), held)
+            return
+        elif len(wanted) > 2:
+            number = self._number(wanted[2])
+            if number is None:
+                self.notes["recorded as derived, no line told their operand"] += 1
+                machine.derive(target, (source,), held)
+                return
+            tag, word = machine.held[source]
+            if kind == "incoffset":
+                number = (word + number) & _LOW
+            elif kind in ("setoffset", "fromptr"):
+                number = (_words.capcheck_decode(_abi.Wide(word >> 64, word & _LOW)).base + number) & _LOW
+        machine.step(step, target, source, other, number, held)
+
+    def _changed_pcc(self, kind: str, wanted: list[Operand], written: dict[int, Held], next_pc: int | None) -> None:
+        """Records a jump, a return, an invocation, CSpecialRW, and what is derived from PCC."""
+        machine = self.machine
+        at = [(it[0] or 0) % 64 for it in wanted]
+        if kind == "pcc":
+            if at[0] in written:
+                machine.derive(at[0], (PCC,), written.pop(at[0]))
+        elif kind == "special":
+            target, special, source = at
+            if target or source:
+                machine.exchanged(target, source or None, special, written.pop(target, machine.held[0]), written.pop(special, machine.held[source]))
+        elif kind == "invoke":
+            words = [machine.held[it][1] | _TYPE for it in at]
+            code = written.pop(PCC, (1, words[0] if next_pc is None else words[0] & ~_LOW | next_pc))
+            machine.invoked(*at, code[1], written.pop(31, (1, words[1]))[1])
+        else:
+            tag, word = machine.held[at[-1]]
+            pcc = written.pop(PCC, (tag, _unsealed(word, word & _LOW & ~1 if next_pc is None else next_pc)))
+            if kind == "return":
+                machine.trapped(None, machine.held[0], at[0], pcc)
+            else:
+                machine.exchanged(at[0], at[1], PCC, written.pop(at[0], machine.held[0]), pcc)
