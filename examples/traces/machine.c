@@ -21,7 +21,7 @@ enum way { OWN, DID, WROTE, EVENTS, QEMU };
 enum bug { NONE, LONG, SHORT, PERMISSION, TAG, ADDRESS, SENTRY, MEMORY, STALE };
 
 enum {
-    MEM = 0x10000, HEAP = 0x10000, SLOTS = 8, SLOT = 0x400, STACK = 0x18000, STACK_SIZE = 0x400, GRANULES = 0x1000,
+    MEM = 0x10000, HEAP = 0x10000, SLOTS = 4, SLOT = 0x400, STACK = 0x18000, STACK_SIZE = 0x400, GRANULES = 0x1000,
     CODE = 0x1000, FUNCTION = 0x2000, MALLOC = 0x2100, FREE = 0x2200, HANDLER = 0x3000,
     RA = 1, SP = 2, A0 = 10, A1 = 11, A5 = 15, HEAP_CAP = 18, ENTRY = 20, SEALER = 21, TEMP = 28, SPARE = 31,
     PCC = 0, DDC = 1, KERNEL = 27, MTCC = 28, MSCRATCHC = 30, MEPCC = 31
@@ -555,13 +555,19 @@ static void random_step(void) {
     case 2: case 3: set_bounds(d, s, draw(4) ? draw(64) : draw(5000)); break;
     case 4: and_permissions(d, s, draw(2) ? 0x37 : 0x78fff & ~(1u << draw(12))); break;
     case 5: move(d, s); break;
-    case 6: case 7: store_cap(s, SP, slot); break;
+    case 6: store_cap(s, SP, slot); break;
+    case 7: /* a spill, data over one half of it, and a load of what is left */
+        store_cap(s, SP, slot);
+        access_data(true, A5, capcheck_c(SP), slot);
+        load_cap(d, SP, slot);
+        break;
     case 8: load_cap(d, SP, slot); break;
     case 9: case 10: access_data(draw(2) != 0, A5, capcheck_c(s), 8 * (int64_t)draw(4)); break;
     case 11: case 12: case 13:
-        if (allocate(16 + draw(SLOT - 16)))
+        if (allocate(16 + draw(SLOT - 16))) {
             move(d, A0);
-        else
+            store_cap(A0, SP, slot);
+        } else
             sweep();
         break;
     case 14: case 15: release(s); break;
@@ -605,10 +611,10 @@ int main(int argc, char **argv) {
     char line[CAPCHECK_LINE_SIZE];
     unsigned long left = count != NULL ? strtoul(count, NULL, 10) : 60;
     way = (enum way)of(ways, argc > 1 ? argv[1] : "");
-    bug = (enum bug)of(bugs, argc > 3 ? argv[3] : "none");
     seed = argc > 2 ? strtoull(argv[2], NULL, 10) : 1;
     begin();
     prepare();
+    bug = (enum bug)of(bugs, argc > 3 ? argv[3] : "none");
     for (; left > 0; left--)
         random_step();
     integer(A5, 0);

@@ -16,7 +16,7 @@ _VALUE = {"tag", "word", "high", "address", "base", "length", "offset", "permiss
 # What a line may be: the groups that its form must have, and those that it may have.
 _LINES: dict[str, tuple[set[str], set[str]]] = {
     "instruction": ({"mnemonic"}, {"hart", "pc", "operands"}), "capability": ({"register"}, _VALUE | {"fields"}),
-    "more": (set(), _VALUE | {"fields"}), "integer": ({"register", "value"}, set()), "trap": (set(), set()), "mode": ({"mode"}, set()),
+    "more": (set(), _VALUE | {"fields"}), "integer": ({"register", "value"}, set()), "trap": (set(), {"completed"}), "mode": ({"mode"}, set()),
     "load": ({"at", "value"}, {"size"}), "store": ({"at", "value"}, {"size"}),
     "load_capability": ({"at"}, _VALUE | {"fields"}), "store_capability": ({"at"}, _VALUE | {"fields"}), "nothing": (set(), set()),
 }
@@ -40,6 +40,13 @@ class DialectError(ValueError):
     """A dialect that can't be read: what is wrong, and where."""
 
 
+class _Keys(dict[str, Any]):
+    """The fields of keys, in upper and lower case; None for a key that has none."""
+
+    def __missing__(self, key: str) -> str | None:
+        return self.setdefault(key, self.get(key.lower()))
+
+
 def place_of(name: str) -> int | None:
     """The number of a place that is named as in a log, or xN; None if it has no such name."""
     if not (named := _PLACE.fullmatch(name)):
@@ -60,12 +67,14 @@ class Dialect:
         self.registers = {name.lower(): None if place is None else self._place(place, f"registers.{name}")
                           for name, place in self._object(given, "registers").items()}
         self.kinds = {name.lower(): self._kind(words, f"kinds.{name}") for name, words in self._object(given, "kinds").items()}
-        self.keys = self._object(given, "keys")
-        for key, field in self.keys.items():
+        self.keys = _Keys()
+        for key, field in self._object(given, "keys").items():
             if field not in _VALUE:
                 raise self._error(f"keys.{key}", f"{field!r} is no field: {', '.join(sorted(_VALUE))}")
-        self.keys = {key.lower(): field for key, field in self.keys.items()}
-        self.fields = self._form(given.get("fields", r"(?P<key>\w+):(?P<value>\w+)"), "fields", {"key", "value"}, set())
+            self.keys[key.lower()] = field
+        self.fields = self._form(given.get("fields", r"(?P<key>\w+):(?P<value>[0-9a-f]+)"), "fields", {"key", "value"}, set())
+        if self.fields.groups != 2 or self.fields.groupindex["key"] != 1:
+            raise self._error("fields", "its groups are key and then value, and no others")
         self.modes = {mode.lower(): tuple(self._place(it, f"modes.{mode}") for it in places) for mode, places in self._object(given, "modes").items()}
         self.forms = [self._line(line, f"lines[{index}]") for index, line in enumerate(given.get("lines", []))]
         if not any(kind == "instruction" for kind, _ in self.forms):
@@ -110,9 +119,11 @@ class Dialect:
     def _form(self, form: Any, place: str, must: set[str], may: set[str]) -> re.Pattern[str]:
         try:
             made = re.compile(form, re.I | re.A)
+            groups = set(made.groupindex)
+            if "mnemonic" in must:  # Each group is there, if only unmatched.
+                made = re.compile(form + "".join(f"(?P<{name}>(?!))?" for name in sorted(may - groups)), re.I | re.A)
         except (re.error, TypeError) as error:
             raise self._error(place, f"{error}") from None
-        groups = set(made.groupindex)
         if lacks := sorted(must - groups):
             raise self._error(place, f"the group {lacks[0]!r} is missing")
         if unknown := sorted(groups - must - may):

@@ -112,7 +112,7 @@ class Events(Importer):
             raise ValueError(f"{do} has no key {min(given)!r}")
         if do != "root":
             self.instructions += 1
-        self.machine.kernel = 2 if do == "kernel" else max(0, self.machine.kernel - 1)
+        self.machine.kernel = 1 if do == "kernel" else max(0, self.machine.kernel - 1)
 
     def _step(self, kind: Kind, it: _Event) -> None:
         other = number = 0
@@ -152,7 +152,7 @@ class Events(Importer):
 
     def _take_trap(self, it: _Event) -> None:
         self.machine.trapped(it.special("saved"), it.value("saved_value"), it.special("vector"), it.value("value"))
-        self.machine.kernel = 3
+        self.machine.kernel = 2
 
     def _take_return(self, it: _Event) -> None:
         self.machine.trapped(None, (0, 0), it.special("saved"), it.value("value"))

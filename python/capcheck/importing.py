@@ -7,7 +7,7 @@ import sys
 import time
 from collections.abc import Iterable, Iterator
 from contextlib import ExitStack
-from typing import Any, BinaryIO
+from typing import Any, BinaryIO, TextIO
 
 from . import dialects
 from .events import Events
@@ -15,8 +15,7 @@ from .judges import Rejected
 from .recording import Recorder
 from .runs import RunJudge
 from .texts import Text
-from .traces import Importer, TraceError
-from .words import Capability
+from .traces import Importer
 
 _QEMU = "The form qemu-cheri is as remembered: it could not be compared with a real trace."
 _EVERY = 2**14  # Lines between two looks at the clock.
@@ -65,7 +64,7 @@ class _Lines:
         self._file.flush()
 
 
-def _shown(lines: Iterable[bytes], taking: Importer, size: int) -> Iterator[bytes]:
+def _shown(lines: Iterable[str], taking: Importer, size: int) -> Iterator[str]:
     """The lines, with their progress on standard error if it is a terminal."""
     if not sys.stderr.isatty():
         yield from lines
@@ -82,14 +81,7 @@ def _shown(lines: Iterable[bytes], taking: Importer, size: int) -> Iterator[byte
         print(file=sys.stderr)
 
 
-def _text(line: bytes, number: int) -> str:
-    try:
-        return line.decode().rstrip("\r\n")
-    except UnicodeDecodeError:
-        raise TraceError(f"line {number}: it isn't UTF-8") from None
-
-
-def _run(given: argparse.Namespace, trace: BinaryIO, log: BinaryIO | None) -> tuple[str, int]:
+def _run(given: argparse.Namespace, trace: TextIO, log: BinaryIO | None) -> tuple[str, int]:
     """Imports a trace; what is printed, and the status."""
     dialect = dialects.load(given.dialect)
     clear = given.mode == "clear" if given.mode else dialect is None or dialect.clear
@@ -101,9 +93,7 @@ def _run(given: argparse.Namespace, trace: BinaryIO, log: BinaryIO | None) -> tu
         recorder = Recorder(file, judge, clear=clear, spare=given.spare)
         taking = importer(recorder, dialect, stop_at_unknown=given.strict, hart=given.hart, malloc=given.malloc, free=given.free)
         try:
-            size = os.fstat(trace.fileno()).st_size
-            for line in _shown(trace, taking, size):
-                taking.line(_text(line, taking.lines + 1))
+            taking.take(_shown(trace, taking, os.fstat(trace.fileno()).st_size))
             taking.end()
         except Rejected as rejected:
             return f"{rejected.diagnosis}trace {taking.at} {taking.text.strip()}\n", 1
@@ -116,11 +106,12 @@ def _run(given: argparse.Namespace, trace: BinaryIO, log: BinaryIO | None) -> tu
 def trace(given: argparse.Namespace) -> tuple[bytes, int]:
     """The command: what is printed at its end, and its status. The log goes to standard output as it is made."""
     with ExitStack() as stack:
-        source = stack.enter_context(open(given.trace, "rb")) if given.trace else sys.stdin.buffer
+        trace_file = given.trace if given.trace else 0
+        source = stack.enter_context(open(trace_file, encoding="utf-8", errors="surrogateescape", closefd=bool(given.trace)))
         log = None
         if given.log:
             log = stack.enter_context(open(given.log, "wb"))
         elif not given.judge:
             log = stack.enter_context(open(1, "wb", closefd=False))
         text, status = _run(given, source, log)
-    return text.encode(), status
+    return text.encode(errors="surrogateescape"), status

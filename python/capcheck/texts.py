@@ -3,7 +3,7 @@ from __future__ import annotations
 
 import re
 from collections.abc import Sequence
-from typing import Any
+from typing import Any, NamedTuple
 
 from . import _abi
 from ._abi import words as _words
@@ -19,6 +19,31 @@ _TOKEN, _AUTHORITY = re.compile(r"[^\s,()]+"), re.compile(r"\((\w+)\)")
 Operand = tuple[int | None, int | None]  # A place, or a number.
 
 
+class _Plan(NamedTuple):
+    """What an instruction does: its kind and that kind's operands, all operands that are places, the authority of its accesses,
+    its mnemonic, and what `did` takes of a usual step."""
+    kind: str
+    wanted: list[Operand]
+    places: list[int]
+    authority: int | None
+    mnemonic: str
+    quick: tuple[int, ...] | None
+
+
+def _quick(kind: str, wanted: list[Operand]) -> tuple[int, ...] | None:
+    """Of a step: the kind of line, target, source, authority, whether the source's address is added, and the operand: a
+    register, or 0 and a number. None if it needs more than that."""
+    if kind not in STEPS or kind in ("setoffset", "fromptr", "copytype", "ccseal") or wanted[0][0] is None or wanted[1][0] is None:
+        return None
+    operand, number = wanted[2] if len(wanted) > 2 else (None, 0)
+    if operand is None and number is None:
+        return None
+    register = 0 if operand is None else operand % 64
+    if kind in ("seal", "unseal"):
+        return int(STEPS[kind]), wanted[0][0] % 64, wanted[1][0] % 64, register, 0, 0, 0
+    return int(STEPS[kind]), wanted[0][0] % 64, wanted[1][0] % 64, 0, kind == "incoffset", register, number or 0
+
+
 class Text(Importer):
     """The importer of a dialect. `hart` is the one that is read, by default that of the first instruction. At the addresses
     `malloc` a function returns a new object, at `free` one begins that frees its argument."""
@@ -27,37 +52,45 @@ class Text(Importer):
                  **words: Any) -> None:
         super().__init__(recorder, **words)
         self._dialect, self._hart, self._malloc, self._free = dialect, hart, frozenset(malloc), frozenset(free)
+        self._forms = [(kind, form.fullmatch) for kind, form in dialect.forms if kind != "instruction"]
+        self._begins = next(form for kind, form in dialect.forms if kind == "instruction").fullmatch
         self._parsed: dict[str, tuple[Any, ...]] = {}
-        self._now: tuple[Any, ...] | None = None  # The instruction that the next lines belong to.
+        self._plans: dict[tuple[str, str | None], _Plan] = {}
+        self._now: _Plan | None = None  # The instruction that the next lines belong to, and its address.
+        self._pc: int | None = None
         self._effects: list[tuple[Any, ...]] = []
-        self._of_another, self._trap, self._mask = False, None, None
+        self._of_another, self._is_open = False, False  # Whether a capability is the last line.
+        self._trap: list[Any] | None = None
+        self._mask: int | None = None
         self._returns: list[int] = []
-        self._swapped, self._taken = (), None
+        self._swapped: int | None = None
+        self._taken: tuple[Any, ...] | None = None
 
     # ---- Lines ----
 
     def _line(self, text: str) -> None:
         parsed = self._parsed.get(text)
         if parsed is None:
+            if found := self._begins(text):
+                self._begin(*found.group("hart", "pc", "mnemonic", "operands"), text)
+                return
             parsed = self._read(text)
             if len(self._parsed) == _MOST_LINES:
                 self._parsed.clear()
             self._parsed[text] = parsed
         kind = parsed[0]
-        if kind == "instruction":
-            self._begin(parsed, text)
-        elif kind == "unknown":
-            self._unknown(text)
-        elif kind == "nothing" or self._of_another:
-            return
-        elif kind == "more":
-            if not self._effects or len(self._effects[-1]) != 3 or not isinstance(self._effects[-1][2], dict):
-                raise ValueError("no capability comes before the rest of one")
+        if kind == "more" and self._is_open and not self._of_another:
             what, place, fields = self._effects[-1]
             self._effects[-1] = what, place, {**fields, **parsed[1]}
+            return
+        self._is_open = kind == "capability"
+        if kind == "unknown":
+            self._unknown(text)
+        elif self._of_another or kind in ("nothing", "more"):
+            return
         elif kind == "trap":
-            self._finish(None)
-            self._trap, self._effects, self.machine.kernel = [self._now[2] if self._now else None, None], [], 2
+            self._finish(None, parsed[1] is not None)
+            self._trap, self._effects, self.machine.kernel = [self._pc, None], [], 1
             self._now = None
         elif kind == "mode":
             if self._trap:
@@ -71,15 +104,13 @@ class Text(Importer):
         return found
 
     def _read(self, text: str) -> tuple[Any, ...]:
-        """What a line says."""
-        for kind, form in self._dialect.forms:
-            if found := form.fullmatch(text):
+        """What a line says that isn't an instruction's."""
+        for kind, form in self._forms:
+            if found := form(text):
                 break
         else:
             return ("unknown",)
         groups = {name: it for name, it in found.groupdict().items() if it is not None}
-        if kind == "instruction":
-            return self._instruction(groups)
         if kind in ("capability", "integer"):
             name = groups.pop("register").lower()
             if name not in self._dialect.registers:
@@ -94,28 +125,27 @@ class Text(Importer):
             return kind, int(groups["at"], 16), int(value, 16).to_bytes(size, "little")
         if kind in ("load_capability", "store_capability"):
             return kind, int(groups.pop("at"), 16), self._fields(groups)
-        return kind, self._fields(groups) if kind == "more" else groups.get("mode")
+        return kind, self._fields(groups) if kind == "more" else groups.get("mode", groups.get("completed"))
 
     def _fields(self, groups: dict[str, str]) -> dict[str, int]:
-        rest = groups.pop("fields", "")
-        for it in self._dialect.fields.finditer(rest):
-            if field := self._dialect.keys.get(it["key"].lower()):
-                groups[field] = it["value"]
-        return {name: int(value, 16) for name, value in groups.items()}
+        known, rest = self._dialect.keys, groups.pop("fields", "")
+        found = {known[key]: int(value, 16) for key, value in self._dialect.fields.findall(rest)}
+        found.pop(None, None)
+        for name, value in groups.items():
+            found[name] = int(value, 16)
+        return found
 
-    def _instruction(self, groups: dict[str, str]) -> tuple[Any, ...]:
-        """Of an instruction: hart, address, kind, the operands of the kind, all operands, the authority, the mnemonic."""
-        mnemonic, operands = groups["mnemonic"].lower(), groups.get("operands", "")
-        found = [self._operand(it) for it in _TOKEN.findall(operands)]
-        kind, positions = self._dialect.kinds.get(mnemonic, ("", ()))
+    def _plan(self, mnemonic: str, operands: str | None) -> _Plan:
+        """What an instruction does, by its text."""
+        found = [self._operand(it) for it in _TOKEN.findall(operands or "")]
+        kind, positions = self._dialect.kinds.get(mnemonic.lower(), ("", ()))
         wanted = [(-1 - it, 0) if it < 0 else found[it] if it < len(found) else None for it in positions]
-        if None in wanted and kind != "":
+        if None in wanted:
             kind, wanted = "", []
-        authority = _AUTHORITY.search(operands)
+        authority = _AUTHORITY.search(operands or "")
         place = None if authority is None else self._operand(authority[1])[0]
-        pc = int(groups["pc"], 16) if "pc" in groups else None
         places = [it % 64 for it, _ in found if it is not None]
-        return "instruction", groups.get("hart"), pc, kind, wanted, places, DDC if place is not None and place >= 64 else place, mnemonic
+        return _Plan(kind, wanted, places, DDC if place is not None and place >= 64 else place, mnemonic, _quick(kind, wanted))
 
     def _operand(self, token: str) -> Operand:
         """A place, or a number."""
@@ -128,21 +158,30 @@ class Text(Importer):
 
     # ---- Instructions ----
 
-    def _begin(self, parsed: tuple[Any, ...], text: str) -> None:
-        _, hart, pc, *_ = parsed
-        if self._hart is None:
+    def _begin(self, hart: str | None, address: str | None, mnemonic: str, operands: str | None, text: str) -> None:
+        pc = None if address is None else int(address, 16)
+        if hart != self._hart:
+            if self._hart is not None:
+                self._of_another = True
+                self.notes["instructions of other harts, left out"] += 1
+                return
             self._hart = hart
-        self._of_another = hart is not None and hart != self._hart
-        if self._of_another:
-            self.notes["instructions of other harts, left out"] += 1
-            return
-        before = self._now
+        self._of_another = self._is_open = False
+        before, last = self._now, self._pc
         self._finish(pc)
-        if before and before[3] in STRAIGHT and None not in (pc, before[2]) and pc - before[2] not in (2, 4):
-            raise ValueError(f"the trace was cut: {pc:#x} doesn't follow {before[2]:#x}, line {self.at}")
-        self._now, self._effects = parsed, []
+        if before and pc is not None and last is not None and pc - last not in (2, 4) and before.kind in STRAIGHT:
+            raise ValueError(f"the trace was cut: {pc:#x} doesn't follow {last:#x}, line {self.at}")
+        plan = self._plans.get((mnemonic, operands))
+        if plan is None:
+            plan = self._plans[mnemonic, operands] = self._plan(mnemonic, operands)
+        self._now, self._pc, self._effects = plan, pc, []
         self.instructions += 1
         self.at, self.text = self.lines, text
+        if self._malloc or self._free:
+            self._object(pc)
+
+    def _object(self, pc: int | None) -> None:
+        """Tells of objects, by the addresses of an allocator's functions."""
         if pc in self._free and self.machine.held[_ARGUMENT][0]:
             self.machine.call("freed", _ARGUMENT, 0)
         elif pc in self._malloc:
@@ -174,48 +213,79 @@ class Text(Importer):
             self._mask = known[1] >> 64 ^ fields["high"]
         return self._held(fields) if "tag" in fields else None
 
-    def _finish(self, next_pc: int | None) -> None:
-        """Records the instruction whose lines have been read: its accesses, then what it wrote."""
+    def _finish(self, next_pc: int | None, completed: bool = True) -> None:
+        """Records the instruction whose lines have been read, or what came before the first one."""
         machine, effects = self.machine, self._effects
         if self._trap:
             self._trapped(next_pc)
         elif self._now is None:
-            for what, place, fields in effects:
-                held = self._held(fields) if what == "capability" else (0, 0)
-                if held[0]:
-                    machine.root(place, held[1])
             if not self.instructions:
-                for place, word in self._dialect.roots.items():
-                    if not machine.held[place][0]:
-                        machine.root(place, word)
-        else:
-            if effects and effects[0][0] not in ("capability", "integer"):
+                self._roots()
+        elif len(effects) != 1 or machine.kernel or not self._quickly(effects[0]):
+            if any(what not in ("capability", "integer") for what, _, _ in effects):
                 effects = self._accesses(effects)
-            self._results(effects, next_pc)
-            machine.kernel = 2 if self._now[3] == "call" else max(0, machine.kernel - 1)
+            if self._now.kind == "call":
+                machine.kernel = 2
+            self._results(effects, next_pc, completed)
+            machine.kernel = max(0, machine.kernel - 1)
+
+    def _roots(self) -> None:
+        """What the registers hold before the first instruction: the dialect's roots, unless the trace says it."""
+        machine = self.machine
+        held = {place: self._held(value) if what == "capability" else (0, _NULL_HIGH << 64 | value)
+                for what, place, value in self._effects if what in ("capability", "integer")}
+        for place, word in self._dialect.roots.items():
+            held.setdefault(place, (1, word))
+        for place, (tag, word) in sorted(held.items()):
+            if tag:
+                machine.root(place, word)
+        for place, value in held.items():
+            if not value[0] and place < 32:
+                machine.derive(place, (), value)
+
+    def _quickly(self, effect: tuple[Any, ...]) -> bool:
+        """Records an instruction that wrote one register, and nothing else, if it is a usual one. What `_results` would do."""
+        machine, (what, place, value), (kind, _, _, _, _, quick) = self.machine, effect, self._now
+        if what == "integer":
+            if place >= 32 or kind not in ("", "access"):
+                return False
+            machine.overwrote(place, value)
+            return True
+        if what != "capability" or quick is None:
+            return False
+        step, target, source, other, adds, operand, number = quick
+        if place != target or operand and not machine.told >> operand & 1:
+            return False
+        if operand:
+            number = machine.held[operand][1]
+        if adds:
+            number += machine.held[source][1]
+        machine.did(step, target, source, other, number & _LOW, self._held(value))
+        return True
 
     def _trapped(self, next_pc: int | None) -> None:
         pc, modes = self._trap
         self._trap = None
         saved, vector = modes or next(iter(self._dialect.modes.values()), (None, None))
-        if vector is None or next_pc is None:
+        if vector is None:
             return
         machine = self.machine
         written = {place: self._held(fields) for what, place, fields in self._effects if what == "capability"}
         tag, word = machine.held[PCC]
         saved_held = written.pop(saved, (tag, word if pc is None else word & ~_LOW | pc))
         tag, word = machine.held[vector]
-        machine.trapped(saved, saved_held, vector, written.pop(PCC, (tag, _unsealed(word, next_pc))))
+        machine.trapped(saved, saved_held, vector, written.pop(PCC, (tag, _unsealed(word, word & _LOW if next_pc is None else next_pc))))
         for place, held in written.items():
             machine.derive(place, (), held)
 
     def _accesses(self, effects: list[tuple[Any, ...]]) -> list[tuple[Any, ...]]:
         """Records the accesses among the lines of an instruction, and returns the other lines."""
-        machine, (*_, places, authority, mnemonic) = self.machine, self._now
-        rest = []
-        for index, (what, at, value) in enumerate(effects):
+        machine, (_, _, places, authority, mnemonic, _) = self.machine, self._now
+        rest, self._swapped, self._taken = [], None, None
+        for index, effect in enumerate(effects):
+            what, at, value = effect
             if what in ("capability", "integer"):
-                rest.append((what, at, value))
+                rest.append(effect)
                 continue
             if authority is None:
                 raise ValueError(f"{mnemonic}: no operand in parentheses says through which register it accesses memory")
@@ -226,11 +296,10 @@ class Text(Importer):
             elif what == "store_capability":
                 source = self._stored(places)
                 self._memory_held(value, machine.held[source])
-                if source not in self._swapped:
+                if source != self._swapped:
                     machine.stored_cap(source, authority, at)
             else:
                 self._loaded_cap(effects, index, places)
-        self._swapped = ()
         return [it for it in rest if it is not self._taken]
 
     def _stored(self, places: list[int]) -> int:
@@ -238,7 +307,7 @@ class Text(Importer):
         return places[-2] if len(places) > 1 else 0
 
     def _loaded_cap(self, effects: list[tuple[Any, ...]], index: int, places: list[int]) -> None:
-        machine, authority, (_, at, fields) = self.machine, self._now[6], effects[index]
+        machine, authority, (_, at, fields) = self.machine, self._now.authority, effects[index]
         target = places[0]
         self._taken = next((it for it in effects if it[0] in ("capability", "integer") and it[1] == target), None)
         written = self._held(self._taken[2]) if self._taken and self._taken[0] == "capability" else None
@@ -247,20 +316,20 @@ class Text(Importer):
             written = held or (0, NULL.word)
             target = target if self._taken else 0
         if target and target == self._stored(places) and any(it[0] == "store_capability" for it in effects[index:]):
-            self._swapped = (target,)
+            self._swapped = target
             machine.swapped(target, authority, at, written)
         else:
             machine.loaded_cap(target, authority, at, written)
 
-    def _results(self, effects: list[tuple[Any, ...]], next_pc: int | None) -> None:
-        """Records what an instruction wrote into registers."""
-        machine, (_, _, _, kind, wanted, places, _, mnemonic) = self.machine, self._now
+    def _results(self, effects: list[tuple[Any, ...]], next_pc: int | None, completed: bool) -> None:
+        """Records what an instruction wrote into registers. One that trapped has only what it printed."""
+        machine, (kind, wanted, places, _, mnemonic, _) = self.machine, self._now
         written = {place: self._held(value) for what, place, value in effects if what == "capability"}
         if kind in STEPS:
             target = wanted[0][0] % 64
             if target in written:
                 self._step(kind, target, wanted, written.pop(target))
-        elif kind and (next_pc is not None or written) and kind not in ("derive", "access", "call"):
+        elif kind and (completed or written) and kind not in ("derive", "access", "call"):
             self._changed_pcc(kind, wanted, written, next_pc)
         for place, held in written.items():
             if held[0] == 0 and held[1] >> 64 == _NULL_HIGH and place < 32:

@@ -2,7 +2,7 @@
 from __future__ import annotations
 
 from collections import Counter
-from collections.abc import Iterator, Sequence
+from collections.abc import Iterable, Iterator, Sequence
 from contextlib import contextmanager
 from functools import lru_cache
 from typing import Any
@@ -30,6 +30,8 @@ def _cap(held: Held) -> _abi.Cap:
     return _abi.Cap(_abi.Wide(word >> 64, word & _LOW), tag)
 
 
+_CALLS = {name: getattr(_recorders, f"capcheck_recorder_{name}") for name in _abi.RECORDER}
+_DID, _OVERWROTE = _CALLS["did"], _CALLS["overwrote"]
 _PLACES = [_abi.Place(number % 32, 1 if number < 32 else 3) for number in range(64)]
 _NOWHERE = _abi.Place(0, 0)
 
@@ -45,12 +47,15 @@ def _unsealed(word: int, address: int) -> int:
 @lru_cache(2**16)
 def _high(base: int, length: int, permissions: int, otype: int, flag: int) -> tuple[int, int, int]:
     """The upper half of the word with these fields, and the addresses that it may have: the first, and how many."""
-    cap = Capability.root(base, length, permissions)
-    if cap.bounds != (base, base + length):
-        raise ValueError("no word has these bounds")
-    cap = cap.replace(otype=otype, flag=flag)
-    kept = cap.representable
-    return cap.word >> 64, kept.start, kept.size
+    made = _words.capcheck_root(base, _abi.Wide.of(length), permissions)
+    if not made.present:
+        raise ValueError("the permissions have a bit that isn't one, or the bounds end above 2**64")
+    bounds = _words.capcheck_decode(made.word)
+    if (bounds.base, int(bounds.top)) != (base, base + length):
+        raise ValueError("these bounds would be rounded")
+    kept = _words.capcheck_reach(made.word)
+    high = made.word.high & ~(_TYPE >> 64) | otype << 27 | (flag & 1) << 45
+    return high, kept.start, _WHOLE if kept.every else kept.size
 
 
 def word_of(fields: dict[str, int]) -> int:
@@ -99,7 +104,7 @@ class Machine:
         self.kernel = self.built = 0  # Whether a kernel ran just now; how many capabilities it built.
 
     def call(self, name: str, *values: Any) -> None:
-        if not getattr(_recorders, f"capcheck_recorder_{name}")(self._pointer, *values):
+        if not _CALLS[name](self._pointer, *values):
             self.recorder._done(False)
 
     def hold(self, place: int, held: Held) -> None:
@@ -119,7 +124,8 @@ class Machine:
         self._memory[address] = (word ^ NULL.word).to_bytes(16, "little"), 0xFFFF, 1
 
     def did(self, kind: int, target: int, source: int, other: int, number: int, held: Held) -> None:
-        self.call("did", kind, target, source, other, number, _cap(held))
+        if not _DID(self._pointer, kind, target, source, other, number, _cap(held)):
+            self.recorder._done(False)
         self.hold(target, held)
 
     def wrote(self, target: int, source: int, held: Held) -> None:
@@ -127,7 +133,8 @@ class Machine:
         self.hold(target, held)
 
     def overwrote(self, target: int, integer: int) -> None:
-        self.call("overwrote", target, integer)
+        if not _OVERWROTE(self._pointer, target, integer):
+            self.recorder._done(False)
         self.hold(target, (0, _NULL_HIGH << 64 | integer))
 
     def fault(self, source: int, held: Held, into: int = 0) -> int:
@@ -274,11 +281,13 @@ class Importer:
         self.lines = self.instructions = self.at = 0
         self.text, self.unknown, self.notes = "", Counter[str](), Counter[str]()
 
-    def line(self, text: str) -> None:
-        """A line of the trace, without its line feed."""
-        self.lines += 1
+    def take(self, lines: Iterable[str]) -> None:
+        """The next lines of the trace; each may have its line feed."""
+        one = self._line
         try:
-            self._line(text)
+            for text in lines:
+                self.lines += 1
+                one(text.rstrip())
         except TraceError:
             raise
         except (ValueError, KeyError, TypeError) as wrong:
