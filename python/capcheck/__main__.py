@@ -64,6 +64,8 @@ def main() -> int:
         return _failed(1 if given.command == "shorten" else 2, wrong)
     except MemoryError:
         return _failed(3, "no memory")
+    except importing.WriteFault as fault:
+        return _failed(3, f"write fault: {fault}")
     except OSError as fault:
         return _failed(3, f"read fault: {fault}")
     try:

@@ -7,7 +7,8 @@ import sys
 import time
 from collections.abc import Iterable, Iterator
 from contextlib import ExitStack
-from typing import Any, BinaryIO, TextIO
+from io import RawIOBase
+from typing import Any, TextIO
 
 from . import dialects
 from .events import Events
@@ -47,10 +48,14 @@ def importer(recorder: Recorder, dialect: dialects.Dialect | None, *, stop_at_un
     return Text(recorder, dialect, stop_at_unknown=stop_at_unknown, **words)
 
 
-class _Lines:
-    """Pieces of a log that a file gets together."""
+class WriteFault(OSError):
+    """The log can't be written."""
 
-    def __init__(self, file: BinaryIO) -> None:
+
+class _Lines:
+    """Lines of a log that a file gets together."""
+
+    def __init__(self, file: RawIOBase) -> None:
         self._file, self._lines = file, list[bytes]()
 
     def write(self, line: bytes) -> None:
@@ -59,9 +64,13 @@ class _Lines:
             self.flush()
 
     def flush(self) -> None:
-        self._file.write(b"".join(self._lines))
+        left = memoryview(b"".join(self._lines))
         self._lines.clear()
-        self._file.flush()
+        try:
+            while left:
+                left = left[self._file.write(left):]
+        except OSError as fault:
+            raise WriteFault(fault) from None
 
 
 def _shown(lines: Iterable[str], taking: Importer, size: int) -> Iterator[str]:
@@ -81,7 +90,7 @@ def _shown(lines: Iterable[str], taking: Importer, size: int) -> Iterator[str]:
         print(file=sys.stderr)
 
 
-def _run(given: argparse.Namespace, trace: TextIO, log: BinaryIO | None) -> tuple[str, int]:
+def _run(given: argparse.Namespace, trace: TextIO, log: RawIOBase | None) -> tuple[str, int]:
     """Imports a trace; what is printed, and the status."""
     dialect = dialects.load(given.dialect)
     clear = given.mode == "clear" if given.mode else dialect is None or dialect.clear
@@ -110,8 +119,8 @@ def trace(given: argparse.Namespace) -> tuple[bytes, int]:
         source = stack.enter_context(open(trace_file, encoding="utf-8", errors="surrogateescape", closefd=bool(given.trace)))
         log = None
         if given.log:
-            log = stack.enter_context(open(given.log, "wb"))
+            log = stack.enter_context(open(given.log, "wb", buffering=0))
         elif not given.judge:
-            log = stack.enter_context(open(1, "wb", closefd=False))
+            log = stack.enter_context(open(1, "wb", buffering=0, closefd=False))
         text, status = _run(given, source, log)
     return text.encode(errors="surrogateescape"), status

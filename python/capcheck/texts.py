@@ -191,9 +191,8 @@ class Text(Importer):
             if self.machine.held[_ARGUMENT][0]:
                 self.machine.call("object", _ARGUMENT, 0)
 
-    def end(self) -> None:
+    def _end(self) -> None:
         self._finish(None)
-        super().end()
 
     def _held(self, fields: dict[str, int]) -> Held:
         """The capability of fields."""
@@ -215,7 +214,7 @@ class Text(Importer):
 
     def _finish(self, next_pc: int | None, completed: bool = True) -> None:
         """Records the instruction whose lines have been read, or what came before the first one."""
-        machine, effects = self.machine, self._effects
+        machine, effects, self._where = self.machine, self._effects, self.at
         if self._trap:
             self._trapped(next_pc)
         elif self._now is None:
@@ -228,6 +227,7 @@ class Text(Importer):
                 machine.kernel = 2
             self._results(effects, next_pc, completed)
             machine.kernel = max(0, machine.kernel - 1)
+        self._where = 0
 
     def _roots(self) -> None:
         """What the registers hold before the first instruction: the dialect's roots, unless the trace says it."""

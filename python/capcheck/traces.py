@@ -278,24 +278,33 @@ class Importer:
 
     def __init__(self, recorder: Recorder, *, stop_at_unknown: bool = False) -> None:
         self.machine, self._stop = Machine(recorder), stop_at_unknown
-        self.lines = self.instructions = self.at = 0
+        self.lines = self.instructions = self.at = self._where = 0
         self.text, self.unknown, self.notes = "", Counter[str](), Counter[str]()
 
     def take(self, lines: Iterable[str]) -> None:
         """The next lines of the trace; each may have its line feed."""
-        one = self._line
-        try:
+        with self._located():
+            one = self._line
             for text in lines:
                 self.lines += 1
-                one(text.rstrip())
-        except TraceError:
-            raise
-        except (ValueError, KeyError, TypeError) as wrong:
-            raise TraceError(f"line {self.lines}: {wrong}") from None
+                one(text.rstrip("\r\n"))
 
     def end(self) -> None:
         """The end of the trace, and of the log."""
+        with self._located():
+            self._end()
         self.machine.recorder.end()
+
+    @contextmanager
+    def _located(self) -> Iterator[None]:
+        """Says of an error the line: that of the instruction that is being finished, or the last one that was read."""
+        try:
+            yield
+        except (ValueError, KeyError, TypeError) as wrong:
+            raise TraceError(f"line {self._where or self.lines}: {wrong}") from None
+
+    def _end(self) -> None:
+        """What is left to record at the end."""
 
     def _line(self, text: str) -> None:
         raise NotImplementedError
