@@ -11,7 +11,7 @@ from .lines import Kind
 FOLDER = Path(__file__).resolve().parent / "dialects"
 EVENTS = "events"
 PCC, DDC = 32, 33  # Places are numbers: c0 to c31, then scr0 to scr31, then x0 to x31, the integers in c0 to c31.
-_INTEGER = 64
+_FIRST = {"c": 0, "scr": 32, "x": 64}
 _VALUE = {"tag", "word", "high", "address", "base", "length", "offset", "permissions", "type", "flag", "sealed"}
 # What a line may be: the groups that its form must have, and those that it may have.
 _LINES: dict[str, tuple[set[str], set[str]]] = {
@@ -51,7 +51,7 @@ def place_of(name: str) -> int | None:
     """The number of a place that is named as in a log, or xN; None if it has no such name."""
     if not (named := _PLACE.fullmatch(name)):
         return None
-    return {"c": 0, "scr": 32, "x": _INTEGER}[named[1]] + int(named[2])
+    return _FIRST[named[1]] + int(named[2])
 
 
 class Dialect:
@@ -64,8 +64,9 @@ class Dialect:
         self.clear = self._choice(given, "mode", {"clear": True, "strict": False}, "clear")
         self.roots = {self._place(name, f"roots.{name}"): self._word(word, f"roots.{name}")
                       for name, word in self._object(given, "roots").items()}
-        self.registers = {name.lower(): None if place is None else self._place(place, f"registers.{name}")
-                          for name, place in self._object(given, "registers").items()}
+        self.registers: dict[str, int | None] = {f"{kind}{number}": first + number for kind, first in _FIRST.items() for number in range(32)}
+        for name, place in self._object(given, "registers").items():
+            self.registers[name.lower()] = None if place is None else self._place(place, f"registers.{name}")
         self.kinds = {name.lower(): self._kind(words, f"kinds.{name}") for name, words in self._object(given, "kinds").items()}
         self.keys = _Keys()
         for key, field in self._object(given, "keys").items():

@@ -126,7 +126,7 @@ SMALL = {
               {"is": "trap", "form": r"trap(?: (?P<completed>late))?"}, {"is": "mode", "form": r"to (?P<mode>\w+)"},
               {"is": "nothing", "form": "#.*"}],
     "keys": {"t": "tag", "hi": "high", "lo": "address"}, "modes": {"m": ["scr31", "scr28"]},
-    "registers": {**{f"c{it}": f"c{it}" for it in range(32)}, **{f"x{it}": f"x{it}" for it in range(32)}, "pcc": "scr0", "ddc": "scr1", "s5": "scr5"},
+    "registers": {"pcc": "scr0", "ddc": "scr1", "s5": "scr5"},
     "kinds": {"mv": "move", "inc": "incoffset", "bounds": "setbounds", "jump": "jump", "ret": "jump c0 c1", "spec": "special", "inv": "invoke",
               "sys": "call", "li": "access", "mret": "return scr31", "off": "setoffset", "type": "copytype", "seal": "ccseal", "ptr": "fromptr"},
 }
@@ -193,9 +193,7 @@ class TextTest(unittest.TestCase):
     def test_kernel(self):
         """After a trap or a system call, what nothing gives is a kernel's; elsewhere the judge refuses it."""
         for before, count in (("", 0), ("0 sys\n", 1), ("0 li\ntrap\nto m\n", 1), ("0 sys\n4 li\n", 0)):
-            root = f"  scr27 := {value(ROOT)}\n"
-            given = {**SMALL, "registers": {**SMALL["registers"], "scr27": "scr27"}}
-            log, taking = imported(BEGIN + root + before + f"8 any c2,c5\n  c2 := {value(OBJECT)}", dialects.Dialect("small", given))
+            log, taking = small(f"  scr27 := {value(ROOT)}\n{before}8 any c2,c5\n  c2 := {value(OBJECT)}")
             self.assertEqual(taking.machine.built, count)
             verdict = runs.judge_bytes(log)
             self.assertEqual((verdict.yes, verdict.refusal), (bool(count), None if count else Refusal.SOURCE_UNTAGGED))
