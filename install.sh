@@ -48,8 +48,8 @@ done
 RT_LIB=true sh judge/build.sh
 sh recorder/build.sh
 
-mkdir -p "$to/bin" "$to/lib/pkgconfig" "$to/include" "$to/share/man/man1" "$to/share/capcheck/capcheck"
-mkdir -p "$to/share/capcheck/rust/src" "$to/share/capcheck/examples/emulator" "$to/share/capcheck/examples/objects" "$to/share/capcheck/examples/allocator" "$to/share/capcheck/examples/revoker"
+mkdir -p "$to/bin" "$to/lib/pkgconfig" "$to/include" "$to/share/man/man1" "$to/share/capcheck/capcheck/dialects"
+mkdir -p "$to/share/capcheck/rust/src" "$to/share/capcheck/examples/emulator" "$to/share/capcheck/examples/objects" "$to/share/capcheck/examples/allocator" "$to/share/capcheck/examples/revoker" "$to/share/capcheck/examples/traces"
 cp "$program" "$to/bin/capcheck"
 cp "$diagnosis" "$to/bin/capdiag"
 cp "$library" "$to/lib/libcapcheck_c.a"
@@ -64,7 +64,8 @@ ln -sf capcheck "$to/share/bash-completion/completions/capdiag"
 cp completions/_capcheck "$to/share/zsh/site-functions/"
 cp completions/*.fish "$to/share/fish/vendor_completions.d/"
 cp python/capcheck/*.py python/capcheck/py.typed "$to/share/capcheck/capcheck/"
-cp gdb/capcheck_gdb.py docs/report.schema.json "$to/share/capcheck/"
+cp python/capcheck/dialects/*.json "$to/share/capcheck/capcheck/dialects/"
+cp gdb/capcheck_gdb.py docs/report.schema.json docs/trace.schema.json "$to/share/capcheck/"
 cp rust/Cargo.toml rust/build.rs "$to/share/capcheck/rust/"
 cp rust/src/*.rs "$to/share/capcheck/rust/src/"
 cp examples/preload.h "$to/share/capcheck/examples/"
@@ -73,6 +74,7 @@ cp examples/emulator/first.c examples/emulator/emulator.c examples/emulator/faul
 cp examples/objects/objects.c examples/objects/overruns.c "$to/share/capcheck/examples/objects/"
 cp examples/allocator/*.c "$to/share/capcheck/examples/allocator/"
 cp examples/revoker/revoker.c "$to/share/capcheck/examples/revoker/"
+cp examples/traces/machine.c examples/traces/plain.* "$to/share/capcheck/examples/traces/"
 mkdir -p "$to/share/gdb/auto-load$prefix/lib"
 echo "import sys; sys.path.insert(0, '$prefix/share/capcheck'); import capcheck_gdb" > "$to/share/gdb/auto-load$prefix/lib/libcapcheck_c.so.1-gdb.py"
 # shared NAME HEADER [WORDS]: makes a shared library of an archive. It exports the functions that the header declares. WORDS are

@@ -45,6 +45,7 @@ def build_wheel(folder, settings=None, metadata=None):
     files = [*sorted((HERE / "capcheck").glob("*.py")), HERE / "capcheck/py.typed",
              *(installed / f"lib{name}.so.1" for name in LIBRARIES)]
     parts = {f"capcheck/{file.name}": file.read_bytes() for file in files}
+    parts |= {f"capcheck/dialects/{file.name}": file.read_bytes() for file in sorted((HERE / "capcheck/dialects").glob("*.json"))}
     parts[f"{about}/METADATA"] = METADATA.format(version=version).encode()
     parts[f"{about}/WHEEL"] = WHEEL.format(tag=tag).encode()
     hashes = {name: base64.urlsafe_b64encode(hashlib.sha256(part).digest()).rstrip(b"=").decode() for name, part in parts.items()}

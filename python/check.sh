@@ -5,7 +5,7 @@
 #   sh python/check.sh [PREFIX]
 #
 # PREFIX is the folder that install.sh installed below; without it, the script installs into a folder of its own. The words of
-# the tests are WORDS, or 10000, and the run logs RUN_LOGS, or 200. The tests of words run in each Python of PYTHONS that is here, too.
+# the tests are WORDS, or 10000, the run logs RUN_LOGS, or 200, and the programs that print traces PROGRAMS, or 40. The tests of words run in each Python of PYTHONS that is here, too.
 set -eu
 cd "$(dirname "$0")/.."
 work=$(mktemp -d)
@@ -29,7 +29,9 @@ for number in range('"${WORDS:-10000}"'):
 while read -r word; do
     "$CAPCHECK" explain "$word"
 done < "$work/words" > "$EXPLAINED"
-PYTHONPATH="$prefix/share/capcheck" python3 -m unittest discover -q python/tests
+${CC:-cc} -std=c99 -Wall -Wextra -Wconversion -Wshadow -Werror -pedantic -O2 "-I$prefix/include" examples/traces/machine.c \
+    "$prefix/lib/libcapcheck_recorder.a" "$prefix/lib/libcapcheck_judge.a" "$prefix/lib/libcapcheck_c.a" -o "$work/machine"
+PYTHONPATH="$prefix/share/capcheck" MACHINE="$work/machine" python3 -m unittest discover -q python/tests
 for other in ${PYTHONS:-python3.10 python3.12 python3.13}; do
     "$other" -c '' 2> "$work/said" || { left_out "the tests of words in $other"; continue; }
     PYTHONPATH="$prefix/share/capcheck" "$other" -m unittest discover -q -p test_words.py python/tests
@@ -43,6 +45,8 @@ if python3 -m pip --version > "$work/said" 2>&1; then
     CAPCHECK_LIB="$prefix/lib" python3 -m pip install -q --no-index --no-deps --disable-pip-version-check --root-user-action=ignore --target "$work/site" ./python
     got=$(cd "$work" && PYTHONPATH="$work/site" python3 -m capcheck judge "$OLDPWD/examples/moves.log")
     [ "$got" = 'yes 2 1' ] || { echo "python/check.sh: the wheel's package says $got" >&2; exit 1; }
+    got=$("$work/machine" qemu 0 | PYTHONPATH="$work/site" python3 -m capcheck trace --judge --dialect qemu-cheri | cut -c 1-3)
+    [ "$got" = yes ] || { echo "python/check.sh: the wheel's package says $got of a trace" >&2; exit 1; }
 else
     left_out 'the wheel: there is no pip'
 fi

@@ -1,11 +1,12 @@
-"""python3 -m capcheck explain|judge|why|shorten: what the programs print, and a short log with the fault of a rejected one."""
+"""python3 -m capcheck explain|judge|why|shorten|trace: what the programs print, a short log with the fault of a rejected one, and
+the run log of a trace."""
 from __future__ import annotations
 
 import argparse
 import sys
 from typing import BinaryIO
 
-from . import Capability, judge, shorten, version, why
+from . import Capability, importing, judge, shorten, version, why
 
 
 def _arguments() -> argparse.Namespace:
@@ -23,6 +24,7 @@ def _arguments() -> argparse.Namespace:
             command.add_argument("--origins", action="store_true", help="after a yes, print the origins")
     command.add_argument("--seconds", type=float, default=5, help="stop looking for a shorter one after this time")
     command.add_argument("--replayable", action="store_true", help="take lines of the log alone")
+    importing.add_arguments(commands.add_parser("trace", help="write the run log of a trace, or judge it"))
     return parser.parse_args()
 
 
@@ -54,12 +56,16 @@ def main() -> int:
     try:
         if given.command == "explain":
             text, status = "\n".join(Capability.parse(word, given.tag).explain() for word in given.words).encode(), 0
+        elif given.command == "trace":
+            text, status = importing.trace(given)
         else:
             text, status = _read(given)
     except ValueError as wrong:
         return _failed(1 if given.command == "shorten" else 2, wrong)
     except MemoryError:
         return _failed(3, "no memory")
+    except importing.WriteFault as fault:
+        return _failed(3, f"write fault: {fault}")
     except OSError as fault:
         return _failed(3, f"read fault: {fault}")
     try:

@@ -1,0 +1,126 @@
+"""python3 -m capcheck trace: a trace, the run log of it, and the verdict."""
+from __future__ import annotations
+
+import argparse
+import os
+import sys
+import time
+from collections.abc import Iterable, Iterator
+from contextlib import ExitStack
+from io import RawIOBase
+from typing import Any, TextIO
+
+from . import dialects
+from .events import Events
+from .judges import Rejected
+from .recording import Recorder
+from .runs import RunJudge
+from .texts import Text
+from .traces import Importer
+
+_QEMU = "The form qemu-cheri is as remembered: it could not be compared with a real trace."
+_EVERY = 2**14  # Lines between two looks at the clock.
+
+
+def add_arguments(command: argparse.ArgumentParser) -> None:
+    """The words of the command."""
+    command.epilog = _QEMU
+    command.add_argument("trace", metavar="TRACE", nargs="?", help="a file; without it, standard input")
+    command.add_argument("--dialect", metavar="NAME|FILE", default=dialects.EVENTS, help=f"the form of the trace: {', '.join(dialects.shipped())} or a file; by default events")
+    command.add_argument("--judge", action="store_true", help="print the verdict, and after a no the diagnosis and the line of the trace, and not the log")
+    command.add_argument("--log", metavar="FILE", help="write the log into a file, and not to standard output")
+    command.add_argument("--freed", choices=("held", "used", "both"), default="held", help="what is asked of freed objects, as in capdiag run")
+    command.add_argument("--owned", action="store_true", help="each access to a live object goes through its own capability")
+    command.add_argument("--strict", action="store_true", help="stop at a line that isn't understood")
+    command.add_argument("--mode", choices=("clear", "strict"), help="whether a machine clears tags or traps if a check fails; by default that of the dialect, of events clear")
+    command.add_argument("--spare", metavar="N", type=int, default=0, help="a register that the program doesn't use")
+    command.add_argument("--hart", metavar="N", help="the hart to read; by default that of the first instruction")
+    for name, told in (("malloc", "a function that returns a new object"), ("free", "a function that frees its argument")):
+        command.add_argument(f"--{name}", metavar="ADDRESS", action="append", default=[], type=lambda it: int(it, 0), help=f"the address of {told}; may be repeated")
+
+
+def importer(recorder: Recorder, dialect: dialects.Dialect | None, *, stop_at_unknown: bool = False, **words: Any) -> Importer:
+    """The importer of a dialect, or of events, which has no `words`: those of Text."""
+    if dialect is None:
+        if any(words.values()):
+            raise ValueError("events have no hart, malloc or free: they say so themselves")
+        return Events(recorder, stop_at_unknown=stop_at_unknown)
+    return Text(recorder, dialect, stop_at_unknown=stop_at_unknown, **words)
+
+
+class WriteFault(OSError):
+    """The log can't be written."""
+
+
+class _Lines:
+    """Lines of a log that a file gets together."""
+
+    def __init__(self, file: RawIOBase) -> None:
+        self._file, self._lines = file, list[bytes]()
+
+    def write(self, line: bytes) -> None:
+        self._lines.append(line)
+        if len(self._lines) == 4096:
+            self.flush()
+
+    def flush(self) -> None:
+        left = memoryview(b"".join(self._lines))
+        self._lines.clear()
+        try:
+            while left:
+                left = left[self._file.write(left):]
+        except OSError as fault:
+            raise WriteFault(fault) from None
+
+
+def _shown(lines: Iterable[str], taking: Importer, size: int) -> Iterator[str]:
+    """The lines, with their progress on standard error if it is a terminal."""
+    if not sys.stderr.isatty():
+        yield from lines
+        return
+    begun, read, told = time.monotonic(), 0, 0.0
+    for number, line in enumerate(lines, 1):
+        yield line
+        read += len(line)
+        if number % _EVERY == 0 and (now := time.monotonic()) - told > 0.5:
+            told, rate = now, taking.instructions / max(now - begun, 0.001)
+            of = f" of {size / 1e6:.0f}" if size else ""
+            print(f"\r{read / 1e6:.0f}{of} MB, {taking.instructions} instructions, {rate:.0f} a second ", end="", file=sys.stderr, flush=True)
+    if told:
+        print(file=sys.stderr)
+
+
+def _run(given: argparse.Namespace, trace: TextIO, log: RawIOBase | None) -> tuple[str, int]:
+    """Imports a trace; what is printed, and the status."""
+    dialect = dialects.load(given.dialect)
+    clear = given.mode == "clear" if given.mode else dialect is None or dialect.clear
+    with ExitStack() as stack:
+        judge = stack.enter_context(RunJudge(given.freed, given.owned)) if given.judge else None
+        file = None if log is None else _Lines(log)
+        if file:
+            stack.callback(file.flush)
+        recorder = Recorder(file, judge, clear=clear, spare=given.spare)
+        taking = importer(recorder, dialect, stop_at_unknown=given.strict, hart=given.hart, malloc=given.malloc, free=given.free)
+        try:
+            taking.take(_shown(trace, taking, os.fstat(trace.fileno()).st_size))
+            taking.end()
+        except Rejected as rejected:
+            return f"{rejected.diagnosis}trace {taking.at} {taking.text.strip()}\n", 1
+        finally:
+            for said in taking.told():
+                print(f"capcheck: trace: {said}", file=sys.stderr)
+        return (f"{judge.end()}\n" if judge else ""), 0
+
+
+def trace(given: argparse.Namespace) -> tuple[bytes, int]:
+    """The command: what is printed at its end, and its status. The log goes to standard output as it is made."""
+    with ExitStack() as stack:
+        trace_file = given.trace if given.trace else 0
+        source = stack.enter_context(open(trace_file, encoding="utf-8", errors="surrogateescape", closefd=bool(given.trace)))
+        log = None
+        if given.log:
+            log = stack.enter_context(open(given.log, "wb", buffering=0))
+        elif not given.judge:
+            log = stack.enter_context(open(1, "wb", buffering=0, closefd=False))
+        text, status = _run(given, source, log)
+    return text.encode(errors="surrogateescape"), status

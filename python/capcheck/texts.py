@@ -1,0 +1,403 @@
+"""The importer of traces in a dialect: what each instruction read and wrote, line by line."""
+from __future__ import annotations
+
+import re
+from collections.abc import Sequence
+from typing import Any, NamedTuple
+
+from . import _abi
+from ._abi import words as _words
+from .dialects import DDC, PCC, STEPS, STRAIGHT, Dialect
+from .lines import Kind
+from .recording import Recorder
+from .traces import _LOW, _NULL_HIGH, _TYPE, _UNSEALED, Held, Importer, _shown, _unsealed, word_of
+from .words import NULL
+
+_MOST_LINES = 2**16  # So many parsed lines are kept.
+_ARGUMENT, _LINK = 10, 1  # Of RISC-V's calls.
+_TOKEN, _AUTHORITY = re.compile(r"[^\s,()]+"), re.compile(r"\((\w+)\)")
+Operand = tuple[int | None, int | None]  # A place, or a number.
+
+
+class _Plan(NamedTuple):
+    """What an instruction does: its kind and that kind's operands, all operands that are places, the authority of its accesses,
+    its mnemonic, and what `did` takes of a usual step."""
+    kind: str
+    wanted: list[Operand]
+    places: list[int]
+    authority: int | None
+    mnemonic: str
+    quick: tuple[int, ...] | None
+
+
+def _quick(kind: str, wanted: list[Operand]) -> tuple[int, ...] | None:
+    """Of a step: the kind of line, target, source, authority, whether the source's address is added, and the operand: a
+    register, or 0 and a number. None if it needs more than that."""
+    if kind not in STEPS or kind in ("setoffset", "fromptr", "copytype", "ccseal") or wanted[0][0] is None or wanted[1][0] is None:
+        return None
+    operand, number = wanted[2] if len(wanted) > 2 else (None, 0)
+    if operand is None and number is None:
+        return None
+    register = 0 if operand is None else operand % 64
+    if kind in ("seal", "unseal"):
+        return int(STEPS[kind]), wanted[0][0] % 64, wanted[1][0] % 64, register, 0, 0, 0
+    return int(STEPS[kind]), wanted[0][0] % 64, wanted[1][0] % 64, 0, kind == "incoffset", register, number or 0
+
+
+class Text(Importer):
+    """The importer of a dialect. `hart` is the one that is read, by default that of the first instruction. At the addresses
+    `malloc` a function returns a new object, at `free` one begins that frees its argument."""
+
+    def __init__(self, recorder: Recorder, dialect: Dialect, *, hart: str | None = None, malloc: Sequence[int] = (), free: Sequence[int] = (),
+                 **words: Any) -> None:
+        super().__init__(recorder, **words)
+        self._dialect, self._hart, self._malloc, self._free = dialect, hart, frozenset(malloc), frozenset(free)
+        self._forms = [(kind, form.fullmatch) for kind, form in dialect.forms if kind != "instruction"]
+        self._begins = next(form for kind, form in dialect.forms if kind == "instruction").fullmatch
+        self._parsed: dict[str, tuple[Any, ...]] = {}
+        self._plans: dict[tuple[str, str | None], _Plan] = {}
+        self._now: _Plan | None = None  # The instruction that the next lines belong to, and its address.
+        self._pc: int | None = None
+        self._effects: list[tuple[Any, ...]] = []
+        self._of_another, self._is_open = False, False  # Whether a capability is the last line.
+        self._trap: list[Any] | None = None
+        self._mask: int | None = None
+        self._returns: list[int] = []
+        self._swapped: int | None = None
+        self._taken: tuple[Any, ...] | None = None
+
+    # ---- Lines ----
+
+    def _line(self, text: str) -> None:
+        parsed = self._parsed.get(text)
+        if parsed is None:
+            if found := self._begins(text):
+                self._begin(*found.group("hart", "pc", "mnemonic", "operands"), text)
+                return
+            parsed = self._read(text)
+            if len(self._parsed) == _MOST_LINES:
+                self._parsed.clear()
+            self._parsed[text] = parsed
+        kind = parsed[0]
+        if kind == "more" and self._is_open and not self._of_another:
+            what, place, fields = self._effects[-1]
+            self._effects[-1] = what, place, {**fields, **parsed[1]}
+            return
+        self._is_open = kind == "capability"
+        if kind == "unknown":
+            self._unknown(text)
+        elif self._of_another or kind in ("nothing", "more"):
+            return
+        elif kind == "trap":
+            self._finish(None, parsed[1] is not None)
+            self._trap, self._effects, self.machine.kernel = [self._pc, None], [], 1
+            self._now = None
+        elif kind == "mode":
+            if self._trap:
+                self._trap[1] = self._mode(parsed[1])
+        else:
+            self._effects.append(parsed)
+
+    def _mode(self, mode: str) -> tuple[int, ...]:
+        if len(found := self._dialect.modes.get(mode.lower(), ())) != 2:
+            raise ValueError(f"the dialect doesn't say where mode {mode} saves PCC, and its vector")
+        return found
+
+    def _read(self, text: str) -> tuple[Any, ...]:
+        """What a line says that isn't an instruction's."""
+        for kind, form in self._forms:
+            if found := form(text):
+                break
+        else:
+            return ("unknown",)
+        groups = {name: it for name, it in found.groupdict().items() if it is not None}
+        if kind in ("capability", "integer"):
+            name = groups.pop("register").lower()
+            if name not in self._dialect.registers:
+                return ("unknown",)
+            place = self._dialect.registers[name]
+            if place is None:
+                return ("nothing",)
+            return kind, place % 64, int(groups["value"], 16) if kind == "integer" else self._fields(groups)
+        if kind in ("load", "store"):
+            value = groups["value"]
+            size = int(groups["size"]) if "size" in groups else (len(value) + 1) // 2
+            return kind, int(groups["at"], 16), int(value, 16).to_bytes(size, "little")
+        if kind in ("load_capability", "store_capability"):
+            return kind, int(groups.pop("at"), 16), self._fields(groups)
+        return kind, self._fields(groups) if kind == "more" else groups.get("mode", groups.get("completed"))
+
+    def _fields(self, groups: dict[str, str]) -> dict[str, int]:
+        known, rest = self._dialect.keys, groups.pop("fields", "")
+        found = {known[key]: int(value, 16) for key, value in self._dialect.fields.findall(rest)}
+        found.pop(None, None)
+        for name, value in groups.items():
+            found[name] = int(value, 16)
+        return found
+
+    def _plan(self, mnemonic: str, operands: str | None) -> _Plan:
+        """What an instruction does, by its text."""
+        found = [self._operand(it) for it in _TOKEN.findall(operands or "")]
+        kind, positions = self._dialect.kinds.get(mnemonic.lower(), ("", ()))
+        wanted = [(-1 - it, 0) if it < 0 else found[it] if it < len(found) else None for it in positions]
+        if None in wanted:
+            kind, wanted = "", []
+        authority = _AUTHORITY.search(operands or "")
+        place = None if authority is None else self._operand(authority[1])[0]
+        places = [it % 64 for it, _ in found if it is not None]
+        return _Plan(kind, wanted, places, DDC if place is not None and place >= 64 else place, mnemonic, _quick(kind, wanted))
+
+    def _operand(self, token: str) -> Operand:
+        """A place, or a number."""
+        if (place := self._dialect.registers.get(token.lower())) is not None:
+            return place, None
+        try:
+            return None, int(token, 0)
+        except ValueError:
+            return None, None
+
+    # ---- Instructions ----
+
+    def _begin(self, hart: str | None, address: str | None, mnemonic: str, operands: str | None, text: str) -> None:
+        pc = None if address is None else int(address, 16)
+        if hart != self._hart:
+            if self._hart is not None:
+                self._of_another = True
+                self.notes["instructions of other harts, left out"] += 1
+                return
+            self._hart = hart
+        self._of_another = self._is_open = False
+        before, last = self._now, self._pc
+        self._finish(pc)
+        if before and pc is not None and last is not None and pc - last not in (2, 4) and before.kind in STRAIGHT:
+            raise ValueError(f"the trace was cut: {pc:#x} doesn't follow {last:#x}, line {self.at}")
+        plan = self._plans.get((mnemonic, operands))
+        if plan is None:
+            plan = self._plans[mnemonic, operands] = self._plan(mnemonic, operands)
+        self._now, self._pc, self._effects = plan, pc, []
+        self.instructions += 1
+        self.at, self.text = self.lines, text
+        if self._malloc or self._free:
+            self._object(pc)
+
+    def _object(self, pc: int | None) -> None:
+        """Tells of objects, by the addresses of an allocator's functions."""
+        if pc in self._free and self.machine.held[_ARGUMENT][0]:
+            self.machine.call("freed", _ARGUMENT, 0)
+        elif pc in self._malloc:
+            self._returns.append(self.machine.held[_LINK][1] & _LOW)
+        elif self._returns and pc == self._returns[-1]:
+            self._returns.pop()
+            if self.machine.held[_ARGUMENT][0]:
+                self.machine.call("object", _ARGUMENT, 0)
+
+    def _end(self) -> None:
+        self._finish(None)
+
+    def _held(self, fields: dict[str, int]) -> Held:
+        """The capability of fields."""
+        if "tag" not in fields:
+            raise ValueError(f"the field tag is missing: {_shown(fields)}")
+        if "word" in fields:
+            return fields["tag"] & 1, fields["word"]
+        if "high" not in fields or "address" not in fields:
+            return fields["tag"] & 1, word_of(fields)
+        if fields["tag"] == 0 and self._mask is None and fields["high"] == 0:
+            self._mask = _NULL_HIGH  # An integer: NULL's half is printed as 0.
+        return fields["tag"] & 1, (fields["high"] ^ (self._mask or 0)) << 64 | fields["address"]
+
+    def _memory_held(self, fields: dict[str, int], known: Held | None) -> Held | None:
+        """The capability of fields of memory. If its half is given, one that is known says how it is printed."""
+        if known and self._mask is None and "high" in fields and fields["high"] in (known[1] >> 64, known[1] >> 64 ^ _NULL_HIGH):
+            self._mask = known[1] >> 64 ^ fields["high"]
+        return self._held(fields) if "tag" in fields else None
+
+    def _finish(self, next_pc: int | None, completed: bool = True) -> None:
+        """Records the instruction whose lines have been read, or what came before the first one."""
+        machine, effects, self._where = self.machine, self._effects, self.at
+        if self._trap:
+            self._trapped(next_pc)
+        elif self._now is None:
+            if not self.instructions:
+                self._roots()
+        elif len(effects) != 1 or machine.kernel or not self._quickly(effects[0]):
+            if any(what not in ("capability", "integer") for what, _, _ in effects):
+                effects = self._accesses(effects)
+            if self._now.kind == "call":
+                machine.kernel = 2
+            self._results(effects, next_pc, completed)
+            machine.kernel = max(0, machine.kernel - 1)
+        self._where = 0
+
+    def _roots(self) -> None:
+        """What the registers hold before the first instruction: the dialect's roots, unless the trace says it."""
+        machine = self.machine
+        held = {place: self._held(value) if what == "capability" else (0, _NULL_HIGH << 64 | value)
+                for what, place, value in self._effects if what in ("capability", "integer")}
+        for place, word in self._dialect.roots.items():
+            held.setdefault(place, (1, word))
+        for place, (tag, word) in sorted(held.items()):
+            if tag:
+                machine.root(place, word)
+        for place, value in held.items():
+            if not value[0] and place < 32:
+                machine.derive(place, (), value)
+
+    def _quickly(self, effect: tuple[Any, ...]) -> bool:
+        """Records an instruction that wrote one register, and nothing else, if it is a usual one. What `_results` would do."""
+        machine, (what, place, value), (kind, _, _, _, _, quick) = self.machine, effect, self._now
+        if what == "integer":
+            if place >= 32 or kind not in ("", "access"):
+                return False
+            machine.overwrote(place, value)
+            return True
+        if what != "capability" or quick is None:
+            return False
+        step, target, source, other, adds, operand, number = quick
+        if place != target or operand and not machine.told >> operand & 1:
+            return False
+        if operand:
+            number = machine.held[operand][1]
+        if adds:
+            number += machine.held[source][1]
+        machine.did(step, target, source, other, number & _LOW, self._held(value))
+        return True
+
+    def _trapped(self, next_pc: int | None) -> None:
+        pc, modes = self._trap
+        self._trap = None
+        saved, vector = modes or next(iter(self._dialect.modes.values()), (None, None))
+        if vector is None:
+            return
+        machine = self.machine
+        written = {place: self._held(fields) for what, place, fields in self._effects if what == "capability"}
+        tag, word = machine.held[PCC]
+        saved_held = written.pop(saved, (tag, word if pc is None else word & ~_LOW | pc))
+        tag, word = machine.held[vector]
+        machine.trapped(saved, saved_held, vector, written.pop(PCC, (tag, _unsealed(word, word & _LOW if next_pc is None else next_pc))))
+        for place, held in written.items():
+            machine.derive(place, (), held)
+
+    def _accesses(self, effects: list[tuple[Any, ...]]) -> list[tuple[Any, ...]]:
+        """Records the accesses among the lines of an instruction, and returns the other lines."""
+        machine, (_, _, places, authority, mnemonic, _) = self.machine, self._now
+        rest, self._swapped, self._taken = [], None, None
+        for index, effect in enumerate(effects):
+            what, at, value = effect
+            if what in ("capability", "integer"):
+                rest.append(effect)
+                continue
+            if authority is None:
+                raise ValueError(f"{mnemonic}: no operand in parentheses says through which register it accesses memory")
+            if what == "load":
+                machine.loaded(authority, at, value)
+            elif what == "store":
+                machine.stored(authority, at, value)
+            elif what == "store_capability":
+                source = self._stored(places)
+                self._memory_held(value, machine.held[source])
+                if source != self._swapped:
+                    machine.stored_cap(source, authority, at)
+            else:
+                self._loaded_cap(effects, index, places)
+        return [it for it in rest if it is not self._taken]
+
+    def _stored(self, places: list[int]) -> int:
+        """The register of a store: the last operand before the authority."""
+        return places[-2] if len(places) > 1 else 0
+
+    def _loaded_cap(self, effects: list[tuple[Any, ...]], index: int, places: list[int]) -> None:
+        machine, authority, (_, at, fields) = self.machine, self._now.authority, effects[index]
+        target = places[0]
+        self._taken = next((it for it in effects if it[0] in ("capability", "integer") and it[1] == target), None)
+        written = self._held(self._taken[2]) if self._taken and self._taken[0] == "capability" else None
+        held = self._memory_held(fields, written)
+        if written is None:
+            written = held or (0, NULL.word)
+            target = target if self._taken else 0
+        if target and target == self._stored(places) and any(it[0] == "store_capability" for it in effects[index:]):
+            self._swapped = target
+            machine.swapped(target, authority, at, written)
+        else:
+            machine.loaded_cap(target, authority, at, written)
+
+    def _results(self, effects: list[tuple[Any, ...]], next_pc: int | None, completed: bool) -> None:
+        """Records what an instruction wrote into registers. One that trapped has only what it printed."""
+        machine, (kind, wanted, places, _, mnemonic, _) = self.machine, self._now
+        written = {place: self._held(value) for what, place, value in effects if what == "capability"}
+        if kind in STEPS:
+            target = wanted[0][0] % 64
+            if target in written:
+                self._step(kind, target, wanted, written.pop(target))
+        elif kind and (completed or written) and kind not in ("derive", "access", "call"):
+            self._changed_pcc(kind, wanted, written, next_pc)
+        for place, held in written.items():
+            if held[0] == 0 and held[1] >> 64 == _NULL_HIGH and place < 32:
+                machine.overwrote(place, held[1] & _LOW)
+                continue
+            sources = [it[0] % 64 for it in wanted if it[0] is not None] if kind == "derive" else places[1:] or places
+            if kind not in ("derive", "access"):
+                self.notes[f"recorded as derived, not known: {mnemonic}"] += 1
+            machine.derive(place, sources, held)
+        for what, place, value in effects:
+            if what == "integer" and place < 32:
+                machine.overwrote(place, value)
+
+    def _number(self, operand: Operand) -> int | None:
+        """The number of an operand; None if no line told it."""
+        place, number = operand
+        if place is None:
+            return None if number is None else number & _LOW
+        return self.machine.held[place % 64][1] & _LOW if place % 64 >= 32 or self.machine.told >> place % 64 & 1 else None
+
+    def _step(self, kind: str, target: int, wanted: list[Operand], held: Held) -> None:
+        """Records a step with its own operand."""
+        machine, source = self.machine, (wanted[1][0] or 0) % 64
+        other, number, step = 0, 0, STEPS[kind]
+        if kind in ("seal", "ccseal", "unseal"):
+            other = (wanted[2][0] or 0) % 64
+            if kind == "ccseal" and held[1] & _TYPE == machine.held[source][1] & _TYPE:
+                step = Kind.MOVE
+        elif kind == "copytype":
+            number = machine.held[(wanted[2][0] or 0) % 64][1] >> 91 & _UNSEALED
+            if number == _UNSEALED:
+                machine.overwrote(target, held[1] & _LOW)
+                return
+        elif kind == "fromptr" and source == 0:
+            machine.derive(target, (DDC,), held)
+            return
+        elif len(wanted) > 2:
+            number = self._number(wanted[2])
+            if number is None:
+                self.notes["recorded as derived, no line told their operand"] += 1
+                machine.derive(target, (source,), held)
+                return
+            tag, word = machine.held[source]
+            if kind == "incoffset":
+                number = (word + number) & _LOW
+            elif kind in ("setoffset", "fromptr"):
+                number = (_words.capcheck_decode(_abi.Wide(word >> 64, word & _LOW)).base + number) & _LOW
+        machine.step(step, target, source, other, number, held)
+
+    def _changed_pcc(self, kind: str, wanted: list[Operand], written: dict[int, Held], next_pc: int | None) -> None:
+        """Records a jump, a return, an invocation, CSpecialRW, and what is derived from PCC."""
+        machine = self.machine
+        at = [(it[0] or 0) % 64 for it in wanted]
+        if kind == "pcc":
+            if at[0] in written:
+                machine.derive(at[0], (PCC,), written.pop(at[0]))
+        elif kind == "special":
+            target, special, source = at
+            if target or source:
+                machine.exchanged(target, source or None, special, written.pop(target, machine.held[0]), written.pop(special, machine.held[source]))
+        elif kind == "invoke":
+            words = [machine.held[it][1] | _TYPE for it in at]
+            code = written.pop(PCC, (1, words[0] if next_pc is None else words[0] & ~_LOW | next_pc))
+            machine.invoked(*at, code[1], written.pop(31, (1, words[1]))[1])
+        else:
+            tag, word = machine.held[at[-1]]
+            pcc = written.pop(PCC, (tag, _unsealed(word, word & _LOW & ~1 if next_pc is None else next_pc)))
+            if kind == "return":
+                machine.trapped(None, machine.held[0], at[0], pcc)
+            else:
+                machine.exchanged(at[0], at[1], PCC, written.pop(at[0], machine.held[0]), pcc)
