@@ -2,7 +2,7 @@
 from __future__ import annotations
 
 import re
-from collections.abc import Sequence
+from collections.abc import Iterable, Sequence
 from typing import Any, NamedTuple
 
 from . import _abi
@@ -68,22 +68,34 @@ class Text(Importer):
 
     # ---- Lines ----
 
-    def _line(self, text: str) -> None:
-        parsed = self._parsed.get(text)
-        if parsed is None:
-            if found := self._begins(text):
+    def _lines(self, lines: Iterable[str]) -> None:
+        known, begins = self._parsed, self._begins
+        for text in lines:
+            self.lines += 1
+            text = text.rstrip("\r\n")
+            if parsed := known.get(text):
+                self._take(parsed, text)
+            elif found := begins(text):
                 self._begin(*found.group("hart", "pc", "mnemonic", "operands"), text)
-                return
-            parsed = self._read(text)
-            if len(self._parsed) == _MOST_LINES:
-                self._parsed.clear()
-            self._parsed[text] = parsed
+            else:
+                if len(known) == _MOST_LINES:
+                    known.clear()
+                parsed = known[text] = self._read(text)
+                self._take(parsed, text)
+
+    def _take(self, parsed: tuple[Any, ...], text: str) -> None:
+        """Takes a line that was read and isn't an instruction's."""
         kind = parsed[0]
-        if kind == "more" and self._is_open and not self._of_another:
-            what, place, fields = self._effects[-1]
-            self._effects[-1] = what, place, {**fields, **parsed[1]}
+        if kind == "capability" or kind == "integer":
+            if not self._of_another:
+                self._is_open = kind == "capability"
+                self._effects.append(parsed)
             return
-        self._is_open = kind == "capability"
+        if kind == "more" and self._is_open:
+            what, place, fields = self._effects[-1]
+            self._effects[-1] = what, place, fields | parsed[1]
+            return
+        self._is_open = False
         if kind == "unknown":
             self._unknown(text)
         elif self._of_another or kind in ("nothing", "more"):

@@ -284,10 +284,7 @@ class Importer:
     def take(self, lines: Iterable[str]) -> None:
         """The next lines of the trace; each may have its line feed."""
         with self._located():
-            one = self._line
-            for text in lines:
-                self.lines += 1
-                one(text.rstrip("\r\n"))
+            self._lines(lines)
 
     def end(self) -> None:
         """The end of the trace, and of the log."""
@@ -306,7 +303,7 @@ class Importer:
     def _end(self) -> None:
         """What is left to record at the end."""
 
-    def _line(self, text: str) -> None:
+    def _lines(self, lines: Iterable[str]) -> None:
         raise NotImplementedError
 
     def _unknown(self, text: str, what: str = "") -> None:
