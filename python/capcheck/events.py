@@ -3,6 +3,7 @@ from __future__ import annotations
 
 import json
 import re
+from collections.abc import Iterable
 from typing import Any
 
 from .dialects import PCC, place_of
@@ -82,9 +83,13 @@ class Events(Importer):
         super().__init__(*words, **named)
         self._last: int | None = None
 
+    def _lines(self, lines: Iterable[str]) -> None:
+        for text in lines:
+            self.lines += 1
+            if text := text.strip():
+                self._line(text)
+
     def _line(self, text: str) -> None:
-        if not text.strip():
-            return
         try:
             given = json.loads(text)
         except json.JSONDecodeError as wrong:

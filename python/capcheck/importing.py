@@ -7,7 +7,7 @@ import sys
 import time
 from collections.abc import Iterable, Iterator
 from contextlib import ExitStack
-from io import RawIOBase
+from io import BufferedWriter
 from typing import Any, TextIO
 
 from . import dialects
@@ -20,6 +20,7 @@ from .traces import Importer
 
 _QEMU = "The form qemu-cheri is as remembered: it could not be compared with a real trace."
 _EVERY = 2**14  # Lines between two looks at the clock.
+_ROOM = 2**18
 
 
 def add_arguments(command: argparse.ArgumentParser) -> None:
@@ -48,29 +49,20 @@ def importer(recorder: Recorder, dialect: dialects.Dialect | None, *, stop_at_un
     return Text(recorder, dialect, stop_at_unknown=stop_at_unknown, **words)
 
 
+class ReadFault(OSError):
+    """The trace can't be read on."""
+
+
 class WriteFault(OSError):
     """The log can't be written."""
 
 
-class _Lines:
-    """Lines of a log that a file gets together."""
-
-    def __init__(self, file: RawIOBase) -> None:
-        self._file, self._lines = file, list[bytes]()
-
-    def write(self, line: bytes) -> None:
-        self._lines.append(line)
-        if len(self._lines) == 4096:
-            self.flush()
-
-    def flush(self) -> None:
-        left = memoryview(b"".join(self._lines))
-        self._lines.clear()
-        try:
-            while left:
-                left = left[self._file.write(left):]
-        except OSError as fault:
-            raise WriteFault(fault) from None
+def _read(trace: TextIO) -> Iterator[str]:
+    """The lines of a trace."""
+    try:
+        yield from trace
+    except OSError as fault:
+        raise ReadFault(fault) from None
 
 
 def _shown(lines: Iterable[str], taking: Importer, size: int) -> Iterator[str]:
@@ -90,19 +82,16 @@ def _shown(lines: Iterable[str], taking: Importer, size: int) -> Iterator[str]:
         print(file=sys.stderr)
 
 
-def _run(given: argparse.Namespace, trace: TextIO, log: RawIOBase | None) -> tuple[str, int]:
+def _run(given: argparse.Namespace, trace: TextIO, log: BufferedWriter | None) -> tuple[str, int]:
     """Imports a trace; what is printed, and the status."""
     dialect = dialects.load(given.dialect)
     clear = given.mode == "clear" if given.mode else dialect is None or dialect.clear
     with ExitStack() as stack:
         judge = stack.enter_context(RunJudge(given.freed, given.owned)) if given.judge else None
-        file = None if log is None else _Lines(log)
-        if file:
-            stack.callback(file.flush)
-        recorder = Recorder(file, judge, clear=clear, spare=given.spare)
+        recorder = Recorder(log, judge, clear=clear, spare=given.spare)
         taking = importer(recorder, dialect, stop_at_unknown=given.strict, hart=given.hart, malloc=given.malloc, free=given.free)
         try:
-            taking.take(_shown(trace, taking, os.fstat(trace.fileno()).st_size))
+            taking.take(_shown(_read(trace), taking, os.fstat(trace.fileno()).st_size))
             taking.end()
         except Rejected as rejected:
             return f"{rejected.diagnosis}trace {taking.at} {taking.text.strip()}\n", 1
@@ -114,13 +103,24 @@ def _run(given: argparse.Namespace, trace: TextIO, log: RawIOBase | None) -> tup
 
 def trace(given: argparse.Namespace) -> tuple[bytes, int]:
     """The command: what is printed at its end, and its status. The log goes to standard output as it is made."""
+    try:
+        return _opened(given)
+    except ReadFault:
+        raise
+    except OSError as fault:
+        raise WriteFault(fault) from None
+
+
+def _opened(given: argparse.Namespace) -> tuple[bytes, int]:
     with ExitStack() as stack:
-        trace_file = given.trace if given.trace else 0
-        source = stack.enter_context(open(trace_file, encoding="utf-8", errors="surrogateescape", closefd=bool(given.trace)))
+        try:
+            source = stack.enter_context(open(given.trace or 0, encoding="utf-8", errors="surrogateescape", closefd=bool(given.trace)))
+        except OSError as fault:
+            raise ReadFault(fault) from None
         log = None
         if given.log:
-            log = stack.enter_context(open(given.log, "wb", buffering=0))
+            log = stack.enter_context(open(given.log, "wb", buffering=_ROOM))
         elif not given.judge:
-            log = stack.enter_context(open(1, "wb", buffering=0, closefd=False))
+            log = stack.enter_context(open(1, "wb", buffering=_ROOM, closefd=False))
         text, status = _run(given, source, log)
     return text.encode(errors="surrogateescape"), status

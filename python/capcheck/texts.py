@@ -2,7 +2,7 @@
 from __future__ import annotations
 
 import re
-from collections.abc import Sequence
+from collections.abc import Iterable, Sequence
 from typing import Any, NamedTuple
 
 from . import _abi
@@ -52,14 +52,16 @@ class Text(Importer):
                  **words: Any) -> None:
         super().__init__(recorder, **words)
         self._dialect, self._hart, self._malloc, self._free = dialect, hart, frozenset(malloc), frozenset(free)
+        self._watched = self._malloc | self._free
         self._forms = [(kind, form.fullmatch) for kind, form in dialect.forms if kind != "instruction"]
+        self._goes_on = next((form for kind, form in self._forms if kind == "more"), None)
         self._begins = next(form for kind, form in dialect.forms if kind == "instruction").fullmatch
         self._parsed: dict[str, tuple[Any, ...]] = {}
         self._plans: dict[tuple[str, str | None], _Plan] = {}
         self._now: _Plan | None = None  # The instruction that the next lines belong to, and its address.
         self._pc: int | None = None
         self._effects: list[tuple[Any, ...]] = []
-        self._of_another, self._is_open = False, False  # Whether a capability is the last line.
+        self._of_another = self._is_open = False  # Whether the last line is a capability, which the next one may go on with.
         self._trap: list[Any] | None = None
         self._mask: int | None = None
         self._returns: list[int] = []
@@ -68,26 +70,42 @@ class Text(Importer):
 
     # ---- Lines ----
 
-    def _line(self, text: str) -> None:
-        parsed = self._parsed.get(text)
-        if parsed is None:
-            if found := self._begins(text):
-                self._begin(*found.group("hart", "pc", "mnemonic", "operands"), text)
-                return
-            parsed = self._read(text)
-            if len(self._parsed) == _MOST_LINES:
-                self._parsed.clear()
-            self._parsed[text] = parsed
+    def _lines(self, lines: Iterable[str]) -> None:
+        known, begins, goes_on, begin = self._parsed, self._begins, self._goes_on, self._begin
+        is_open, number = self._is_open, self.lines
+        try:
+            for text in lines:
+                number += 1
+                text = text.rstrip("\r\n")
+                if is_open and goes_on is not None and (found := goes_on(text)):
+                    what, place, fields = self._effects[-1]
+                    self._effects[-1] = what, place, fields | self._fields(found.groupdict())
+                    is_open = False
+                elif parsed := known.get(text):
+                    is_open = self._take(parsed, text)
+                elif found := begins(text):
+                    is_open, self.lines = False, number
+                    begin(*found.group("hart", "pc", "mnemonic", "operands"), text)
+                else:
+                    if len(known) == _MOST_LINES:
+                        known.clear()
+                    parsed = known[text] = self._read(text)
+                    is_open = self._take(parsed, text)
+        finally:
+            self._is_open, self.lines = is_open, number
+
+    def _take(self, parsed: tuple[Any, ...], text: str) -> bool:
+        """Takes a line that was read and isn't an instruction's. Returns whether it is a capability."""
         kind = parsed[0]
-        if kind == "more" and self._is_open and not self._of_another:
-            what, place, fields = self._effects[-1]
-            self._effects[-1] = what, place, {**fields, **parsed[1]}
-            return
-        self._is_open = kind == "capability"
+        if kind == "capability" or kind == "integer":
+            if self._of_another:
+                return False
+            self._effects.append(parsed)
+            return kind == "capability"
         if kind == "unknown":
             self._unknown(text)
         elif self._of_another or kind in ("nothing", "more"):
-            return
+            return False
         elif kind == "trap":
             self._finish(None, parsed[1] is not None)
             self._trap, self._effects, self.machine.kernel = [self._pc, None], [], 1
@@ -97,6 +115,7 @@ class Text(Importer):
                 self._trap[1] = self._mode(parsed[1])
         else:
             self._effects.append(parsed)
+        return False
 
     def _mode(self, mode: str) -> tuple[int, ...]:
         if len(found := self._dialect.modes.get(mode.lower(), ())) != 2:
@@ -125,14 +144,15 @@ class Text(Importer):
             return kind, int(groups["at"], 16), int(value, 16).to_bytes(size, "little")
         if kind in ("load_capability", "store_capability"):
             return kind, int(groups.pop("at"), 16), self._fields(groups)
-        return kind, self._fields(groups) if kind == "more" else groups.get("mode", groups.get("completed"))
+        return kind, groups.get("mode", groups.get("completed"))
 
     def _fields(self, groups: dict[str, str]) -> dict[str, int]:
         known, rest = self._dialect.keys, groups.pop("fields", "")
         found = {known[key]: int(value, 16) for key, value in self._dialect.fields.findall(rest)}
         found.pop(None, None)
         for name, value in groups.items():
-            found[name] = int(value, 16)
+            if value is not None:
+                found[name] = int(value, 16)
         return found
 
     def _plan(self, mnemonic: str, operands: str | None) -> _Plan:
@@ -166,7 +186,7 @@ class Text(Importer):
                 self.notes["instructions of other harts, left out"] += 1
                 return
             self._hart = hart
-        self._of_another = self._is_open = False
+        self._of_another = False
         before, last = self._now, self._pc
         self._finish(pc)
         if before and pc is not None and last is not None and pc - last not in (2, 4) and before.kind in STRAIGHT:
@@ -177,7 +197,7 @@ class Text(Importer):
         self._now, self._pc, self._effects = plan, pc, []
         self.instructions += 1
         self.at, self.text = self.lines, text
-        if self._malloc or self._free:
+        if pc in self._watched or self._returns:
             self._object(pc)
 
     def _object(self, pc: int | None) -> None:
@@ -220,6 +240,8 @@ class Text(Importer):
         elif self._now is None:
             if not self.instructions:
                 self._roots()
+        elif not effects and self._now.kind in ("", "access"):
+            machine.kernel = max(0, machine.kernel - 1)
         elif len(effects) != 1 or machine.kernel or not self._quickly(effects[0]):
             if any(what not in ("capability", "integer") for what, _, _ in effects):
                 effects = self._accesses(effects)
@@ -260,7 +282,8 @@ class Text(Importer):
             number = machine.held[operand][1]
         if adds:
             number += machine.held[source][1]
-        machine.did(step, target, source, other, number & _LOW, self._held(value))
+        held = (value["tag"] & 1, word_of(value)) if "base" in value and "tag" in value else self._held(value)
+        machine.did(step, target, source, other, number & _LOW, held)
         return True
 
     def _trapped(self, next_pc: int | None) -> None:

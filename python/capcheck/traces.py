@@ -45,8 +45,13 @@ def _unsealed(word: int, address: int) -> int:
 
 
 @lru_cache(2**16)
-def _high(base: int, length: int, permissions: int, otype: int, flag: int) -> tuple[int, int, int]:
+def _high(base: int, length: int, permissions: int, otype: int, flag: int, sealed: int | None) -> tuple[int, int, int]:
     """The upper half of the word with these fields, and the addresses that it may have: the first, and how many."""
+    otype &= _UNSEALED
+    if base == 0 and length == _LOW:  # The whole address space, saturated.
+        length = _WHOLE
+    if sealed is not None and (sealed != 0) != (otype != _UNSEALED):
+        raise ValueError("sealed and type differ")
     made = _words.capcheck_root(base, _abi.Wide.of(length), permissions)
     if not made.present:
         raise ValueError("the permissions have a bit that isn't one, or the bounds end above 2**64")
@@ -60,16 +65,14 @@ def _high(base: int, length: int, permissions: int, otype: int, flag: int) -> tu
 
 def word_of(fields: dict[str, int]) -> int:
     """The word with fields: base, length, permissions, and the address or the offset; type and flag. ValueError names them."""
+    told = fields.get
     try:
-        base, length = fields["base"], fields["length"]
-        address = fields["address"] if "address" in fields else (base + fields["offset"]) & _LOW
-        if base == 0 and length == _LOW:  # The whole address space, saturated.
-            length = _WHOLE
-        otype = fields.get("type", _UNSEALED) & _UNSEALED
-        if "sealed" in fields and (fields["sealed"] != 0) != (otype != _UNSEALED):
-            raise ValueError("sealed and type differ")
-        high, start, size = _high(base, length, fields["permissions"], otype, fields.get("flag", 0))
-        if (address - start) % _WHOLE >= size:
+        base = fields["base"]
+        high, start, size = _high(base, fields["length"], fields["permissions"], told("type", _UNSEALED), told("flag", 0), told("sealed"))
+        address = told("address")
+        if address is None:
+            address = (base + fields["offset"]) & _LOW
+        if (address - start) & _LOW >= size:
             raise ValueError("the address is out of the representable range")
         return high << 64 | address
     except KeyError as missing:
@@ -97,6 +100,8 @@ class Machine:
 
     def __init__(self, recorder: Recorder) -> None:
         self.recorder, self._pointer = recorder, recorder._pointer
+        self._value = _abi.Cap()  # What is passed to `did`, and its word.
+        self._word = self._value.word
         self.held: list[Held] = [(0, NULL.word)] * 64
         self.told = 1  # The registers that a line has told, by bits.
         self._memory: dict[int, tuple[bytes, int, int]] = {}  # Of a granule: its bytes, which of them are told, its tag.
@@ -124,9 +129,14 @@ class Machine:
         self._memory[address] = (word ^ NULL.word).to_bytes(16, "little"), 0xFFFF, 1
 
     def did(self, kind: int, target: int, source: int, other: int, number: int, held: Held) -> None:
-        if not _DID(self._pointer, kind, target, source, other, number, _cap(held)):
+        value, word = self._value, self._word
+        value.tag, both = held
+        word.high, word.low = both >> 64, both & _LOW
+        if not _DID(self._pointer, kind, target, source, other, number, value):
             self.recorder._done(False)
-        self.hold(target, held)
+        if target:
+            self.held[target] = held
+            self.told |= 1 << target
 
     def wrote(self, target: int, source: int, held: Held) -> None:
         self.call("wrote", _PLACES[target], _PLACES[source], _cap(held))
@@ -284,10 +294,7 @@ class Importer:
     def take(self, lines: Iterable[str]) -> None:
         """The next lines of the trace; each may have its line feed."""
         with self._located():
-            one = self._line
-            for text in lines:
-                self.lines += 1
-                one(text.rstrip("\r\n"))
+            self._lines(lines)
 
     def end(self) -> None:
         """The end of the trace, and of the log."""
@@ -306,7 +313,7 @@ class Importer:
     def _end(self) -> None:
         """What is left to record at the end."""
 
-    def _line(self, text: str) -> None:
+    def _lines(self, lines: Iterable[str]) -> None:
         raise NotImplementedError
 
     def _unknown(self, text: str, what: str = "") -> None:

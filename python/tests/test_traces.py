@@ -4,13 +4,14 @@ import io
 import json
 import os
 import random
+import re
 import subprocess
 import sys
 import tempfile
 import unittest
 from pathlib import Path
 
-from capcheck import NULL, Capability, Kind, Recorder, Refusal, dialects, importing, runs
+from capcheck import NULL, Capability, Kind, Recorder, Refusal, dialects, events, importing, runs
 from capcheck.traces import TraceError, word_of
 
 MACHINE, PROGRAMS = os.environ.get("MACHINE"), int(os.environ.get("PROGRAMS", "40"))
@@ -313,6 +314,21 @@ class EventsTest(unittest.TestCase):
                 imported("\n" + event)
             self.assertEqual(str(raised.exception), f"line 2: {error}")
         self.assertEqual(imported('{"do":"dance"}')[1].told(), ["not understood: 1 that begin with 'dance'"])
+
+    def test_schema(self):
+        """The schema has each event and its keys."""
+        schema = json.loads((Path(__file__).parents[2] / "docs/trace.schema.json").read_text())
+        found = {}
+        for form in schema["oneOf"]:
+            do = form["properties"]["do"]
+            found.update(dict.fromkeys(do.get("enum") or [do["const"]], set(form["properties"]) - {"do"}))
+        source = (Path(events.__file__)).read_text()
+        for name in vars(events.Events):
+            if name.startswith("_take_"):
+                body = re.search(rf"(?s)    def {name}\(.*?(?=\n    def |\Z)", source)[0]
+                used = set(re.findall(r'(?:take|number|data|place|special|value)\("(\w+)"', body)) | ({"address", "offset"} if "_address(" in body else set())
+                self.assertEqual(found[name[6:]], used, name)
+        self.assertEqual(set(found), {name[6:] for name in vars(events.Events) if name.startswith("_take_")} | set(events._STEPS))
 
 
 class DialectTest(unittest.TestCase):
