@@ -56,7 +56,7 @@ def place_of(name: str) -> int | None:
 
 class Dialect:
     """A dialect that was read: `forms` are the lines' kinds with their expressions, `registers` the places of names, and `kinds`
-    the kind of each mnemonic with its operands: positions from 0 on, or places as negative numbers, -1 for place 0."""
+    the kind of each mnemonic with its operands: positions counted from 0, or places as negative numbers, -1 for place 0."""
 
     def __init__(self, name: str, given: Any) -> None:
         self.name = name
