@@ -336,7 +336,7 @@ class Text(Importer):
         written = self._held(self._taken[2]) if self._taken and self._taken[0] == "capability" else None
         held = self._memory_held(fields, written)
         if written is None:
-            written = held or (0, NULL.word)
+            written = held or (0, NULL.word if self._taken is None else _NULL_HIGH << 64 | self._taken[2])
             target = target if self._taken else 0
         if target and target == self._stored(places) and any(it[0] == "store_capability" for it in effects[index:]):
             self._swapped = target
