@@ -48,11 +48,11 @@ def replayed(log):
             continue
         if kind in (Kind.ROOT, Kind.ROOT_AT, Kind.ROOT_SPECIAL):
             it.root(*value)
-        elif Kind.MOVE <= kind <= Kind.CLEARTAG:
+        elif kind in (Kind.MOVE, Kind.CLEARTAG):
             it.did(kind, *value)
         elif kind in (Kind.SEAL, Kind.UNSEAL):
             it.did(kind, value[0], value[1], value[3], other=value[2])
-        elif Kind.SETBOUNDS <= kind <= Kind.ANDPERM:
+        elif kind in (Kind.SETBOUNDS, Kind.SETBOUNDSEXACT, Kind.SETADDR, Kind.ANDPERM):
             it.did(kind, value[0], value[1], value[3], number=value[2])
         else:
             call = {Kind.DERIVE: it.wrote, Kind.EXCHANGE: it.exchanged, Kind.DROP: it.dropped, Kind.LC: it.loaded_cap, Kind.SC: it.stored_cap,
