@@ -1,12 +1,12 @@
-"""python3 -m capcheck explain|judge|why|shorten|trace: what the programs print, a short log with the fault of a rejected one, and
-the run log of a trace."""
+"""python3 -m capcheck explain|judge|why|shorten|trace|many: what the programs print, a short log with the fault of a rejected one,
+the run log of a trace, and the verdicts on many logs."""
 from __future__ import annotations
 
 import argparse
 import sys
 from typing import BinaryIO
 
-from . import Capability, importing, judge, shorten, version, why
+from . import Capability, importing, judge, many, shorten, version, why
 
 
 def _arguments() -> argparse.Namespace:
@@ -24,6 +24,7 @@ def _arguments() -> argparse.Namespace:
             command.add_argument("--origins", action="store_true", help="after a yes, print the origins")
     command.add_argument("--seconds", type=float, default=5, help="stop looking for a shorter one after this time")
     command.add_argument("--replayable", action="store_true", help="take lines of the log alone")
+    many.add_arguments(commands.add_parser("many", help="judge many logs, side by side"))
     importing.add_arguments(commands.add_parser("trace", help="write the run log of a trace, or judge it"))
     return parser.parse_args()
 
@@ -58,6 +59,8 @@ def main() -> int:
             text, status = "\n".join(Capability.parse(word, given.tag).explain() for word in given.words).encode(), 0
         elif given.command == "trace":
             text, status = importing.trace(given)
+        elif given.command == "many":
+            text, status = many.many(given)
         else:
             text, status = _read(given)
     except ValueError as wrong:

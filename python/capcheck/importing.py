@@ -82,9 +82,8 @@ def _shown(lines: Iterable[str], taking: Importer, size: int) -> Iterator[str]:
         print(file=sys.stderr)
 
 
-def _run(given: argparse.Namespace, trace: TextIO, log: BufferedWriter | None) -> tuple[str, int]:
+def _run(given: argparse.Namespace, dialect: dialects.Dialect | None, trace: TextIO, log: BufferedWriter | None) -> tuple[str, int]:
     """Imports a trace; what is printed, and the status."""
-    dialect = dialects.load(given.dialect)
     clear = given.mode == "clear" if given.mode else dialect is None or dialect.clear
     with ExitStack() as stack:
         judge = stack.enter_context(RunJudge(given.freed, given.owned)) if given.judge else None
@@ -98,7 +97,10 @@ def _run(given: argparse.Namespace, trace: TextIO, log: BufferedWriter | None) -
         finally:
             for said in taking.told():
                 print(f"capcheck: trace: {said}", file=sys.stderr)
-        return (f"{judge.end()}\n" if judge else ""), 0
+        if judge is None:
+            return "", 0
+        verdict = judge.end()
+        return f"{verdict}\n", int(not verdict)
 
 
 def trace(given: argparse.Namespace) -> tuple[bytes, int]:
@@ -114,6 +116,7 @@ def trace(given: argparse.Namespace) -> tuple[bytes, int]:
 def _opened(given: argparse.Namespace) -> tuple[bytes, int]:
     with ExitStack() as stack:
         try:
+            dialect = dialects.load(given.dialect)
             source = stack.enter_context(open(given.trace or 0, encoding="utf-8", errors="surrogateescape", closefd=bool(given.trace)))
         except OSError as fault:
             raise ReadFault(fault) from None
@@ -122,5 +125,5 @@ def _opened(given: argparse.Namespace) -> tuple[bytes, int]:
             log = stack.enter_context(open(given.log, "wb", buffering=_ROOM))
         elif not given.judge:
             log = stack.enter_context(open(1, "wb", buffering=_ROOM, closefd=False))
-        text, status = _run(given, source, log)
+        text, status = _run(given, dialect, source, log)
     return text.encode(errors="surrogateescape"), status

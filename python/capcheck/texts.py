@@ -240,15 +240,17 @@ class Text(Importer):
         elif self._now is None:
             if not self.instructions:
                 self._roots()
-        elif not effects and self._now.kind in ("", "access"):
-            machine.kernel = max(0, machine.kernel - 1)
-        elif len(effects) != 1 or machine.kernel or not self._quickly(effects[0]):
-            if any(what not in ("capability", "integer") for what, _, _ in effects):
-                effects = self._accesses(effects)
-            if self._now.kind == "call":
-                machine.kernel = 2
-            self._results(effects, next_pc, completed)
-            machine.kernel = max(0, machine.kernel - 1)
+        else:
+            for what, _, _ in effects:
+                if what != "capability" and what != "integer":
+                    effects = self._accesses(effects)
+                    break
+            if effects or self._now.kind not in ("", "access"):
+                if len(effects) != 1 or machine.kernel or not self._quickly(effects[0]):
+                    machine.kernel = 2 if self._now.kind == "call" else machine.kernel
+                    self._results(effects, next_pc, completed)
+            if machine.kernel:
+                machine.kernel -= 1
         self._where = 0
 
     def _roots(self) -> None:
@@ -269,7 +271,7 @@ class Text(Importer):
         """Records an instruction that wrote one register, and nothing else, if it is a usual one. What `_results` would do."""
         machine, (what, place, value), (kind, _, _, _, _, quick) = self.machine, effect, self._now
         if what == "integer":
-            if place >= 32 or kind not in ("", "access"):
+            if place >= 32 or kind != "" and kind != "access":
                 return False
             machine.overwrote(place, value)
             return True
@@ -336,7 +338,7 @@ class Text(Importer):
         written = self._held(self._taken[2]) if self._taken and self._taken[0] == "capability" else None
         held = self._memory_held(fields, written)
         if written is None:
-            written = held or (0, NULL.word)
+            written = held or (0, NULL.word if self._taken is None else _NULL_HIGH << 64 | self._taken[2])
             target = target if self._taken else 0
         if target and target == self._stored(places) and any(it[0] == "store_capability" for it in effects[index:]):
             self._swapped = target

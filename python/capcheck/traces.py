@@ -300,6 +300,8 @@ class Importer:
         """The end of the trace, and of the log."""
         with self._located():
             self._end()
+            if self.instructions == 0:
+                raise ValueError("the trace has no instruction")
         self.machine.recorder.end()
 
     @contextmanager

@@ -48,11 +48,11 @@ def replayed(log):
             continue
         if kind in (Kind.ROOT, Kind.ROOT_AT, Kind.ROOT_SPECIAL):
             it.root(*value)
-        elif Kind.MOVE <= kind <= Kind.CLEARTAG:
+        elif kind in (Kind.MOVE, Kind.CLEARTAG):
             it.did(kind, *value)
         elif kind in (Kind.SEAL, Kind.UNSEAL):
             it.did(kind, value[0], value[1], value[3], other=value[2])
-        elif Kind.SETBOUNDS <= kind <= Kind.ANDPERM:
+        elif kind in (Kind.SETBOUNDS, Kind.SETBOUNDSEXACT, Kind.SETADDR, Kind.ANDPERM):
             it.did(kind, value[0], value[1], value[3], number=value[2])
         else:
             call = {Kind.DERIVE: it.wrote, Kind.EXCHANGE: it.exchanged, Kind.DROP: it.dropped, Kind.LC: it.loaded_cap, Kind.SC: it.stored_cap,
@@ -231,6 +231,10 @@ class TextTest(unittest.TestCase):
                      f"8 sd x5,32(c1)\n  [20] <- 0000000000000009\nc lc c0,32(c1)\n  [20] => t:0 hi:{NULL.word >> 64 ^ mask:x} lo:9")
             self.assertTrue(runs.judge_bytes(small(trace)[0]), mask)
 
+    def test_empty(self):
+        for trace in ("", "what\n", "# nothing\n"):
+            self.assertRaisesRegex(TraceError, "^line .: the trace has no instruction$", small, trace)
+
     def test_not_understood(self):
         trace = "0 li\nwhat is this\nwhat else\n4 li\nother\n"
         self.assertEqual(small(trace)[1].told(), ["not understood: 2 that begin with 'what'", "not understood: 1 that begin with 'other'"])
@@ -313,7 +317,7 @@ class EventsTest(unittest.TestCase):
             with self.assertRaises(TraceError) as raised:
                 imported("\n" + event)
             self.assertEqual(str(raised.exception), f"line 2: {error}")
-        self.assertEqual(imported('{"do":"dance"}')[1].told(), ["not understood: 1 that begin with 'dance'"])
+        self.assertEqual(imported('{"do":"dance"}\n{"do":"kernel"}')[1].told(), ["not understood: 1 that begin with 'dance'"])
 
     def test_schema(self):
         """The schema has each event and its keys."""

@@ -1,0 +1,233 @@
+"""python3 -m capcheck many: the verdicts on many logs, side by side, and what a CI reads of them."""
+from __future__ import annotations
+
+import argparse
+import csv
+import json
+import os
+import sys
+import time
+from collections import Counter
+from collections.abc import Callable, Iterable, Iterator
+from concurrent.futures import FIRST_COMPLETED, Future, ThreadPoolExecutor, wait
+from contextlib import ExitStack
+from pathlib import Path
+from typing import Any, NamedTuple, TextIO
+from xml.sax.saxutils import escape, quoteattr
+
+from . import heaps, judges, runs
+
+_WAITING = 64  # So many logs for each job are begun at most.
+_AN_ANNOTATION_ENDS = str.maketrans({"%": "%25", "\r": "%0D", "\n": "%0A"})
+
+
+class Result(NamedTuple):
+    """The verdict on a file: as it is printed, with the faulty line and its refusal, or what failed. `size` and `changed`, the time
+    in nanoseconds, say of which contents it is, and `asks` by which options."""
+    file: str
+    size: int
+    changed: int
+    asks: str
+    verdict: str
+    line: int = 0
+    refusal: str = ""
+    says: str = ""
+    failed: str = ""
+
+    @property
+    def status(self) -> int:
+        """As that of a program: 0 accepted, 1 rejected, 3 not read."""
+        return 3 if self.failed else int(self.line > 0)
+
+
+def files(paths: Iterable[str]) -> Iterator[str]:
+    """The files that are named, and those of folders whose names end in .log, by name."""
+    for path in paths:
+        if os.path.isdir(path):
+            yield from sorted(map(str, Path(path).rglob("*.log")))
+        else:
+            yield path
+
+
+def judge_file(file: str, freed: str = "held", owned: bool = False) -> Result:
+    """The verdict on a file: what its first line says that it is."""
+    try:
+        about = os.stat(file)
+        with open(file, "rb") as log:
+            data = log.read()
+    except OSError as fault:
+        return Result(file, -1, -1, _asks(freed, owned), "", failed=f"read fault: {fault.strerror}")
+    of = file, len(data), about.st_mtime_ns, _asks(freed, owned)
+    try:
+        why: Callable[[], str]
+        if data.startswith(b"run 1\n"):
+            found: Any = runs.judge_bytes(data, freed, owned)
+            why = lambda: runs.why(data, freed, owned)  # noqa: E731
+        elif data.startswith(b"heap 1\n"):
+            found, why = heaps.judge(data), lambda: heaps.why(data)
+        else:
+            found, why = judges.judge_bytes(data), lambda: judges.why(data)
+        if found:
+            return Result(*of, str(found))
+        last = why().rstrip("\n").rsplit("\n", 1)[-1]
+    except MemoryError:
+        return Result(*of, "", failed="no memory")
+    return Result(*of, str(found), found.line, str(found).split()[-1], last)
+
+
+def _asks(freed: str, owned: bool) -> str:
+    return f"{freed} owned" if owned else freed
+
+
+def _same(result: Result, asks: str) -> bool:
+    """Whether a file still has the contents of which a result is, by the same options."""
+    try:
+        about = os.stat(result.file)
+    except OSError:
+        return False
+    return not result.failed and result.asks == asks and (about.st_size, about.st_mtime_ns) == (result.size, result.changed)
+
+
+def read_results(file: str) -> list[Result]:
+    """The results in a file, of JSON Lines or CSV; none if there is no file. What was cut at the end is left out."""
+    try:
+        with open(file, encoding="utf-8", newline="") as text:
+            lines = text.read()
+    except FileNotFoundError:
+        return []
+    whole = lines[:lines.rfind("\n") + 1].splitlines()
+    if file.endswith(".csv"):
+        rows: Iterable[dict[str, Any]] = csv.DictReader(whole)
+    else:
+        rows = (json.loads(line) for line in whole)
+    try:
+        return [Result(**{name: int(row[name]) if kind == "int" else row[name] for name, kind in Result.__annotations__.items()}) for row in rows]
+    except (ValueError, KeyError, TypeError):
+        raise ValueError(f"{file} isn't a file of results") from None
+
+
+class _Written:
+    """The file of results, to which each is added as it comes."""
+
+    def __init__(self, file: TextIO, is_csv: bool) -> None:
+        self._file, self._csv = file, csv.writer(file, lineterminator="\n") if is_csv else None
+        if self._csv and file.tell() == 0:
+            self._csv.writerow(Result._fields)
+
+    def add(self, result: Result) -> None:
+        if self._csv:
+            self._csv.writerow(result)
+        else:
+            self._file.write(json.dumps(result._asdict()) + "\n")
+        self._file.flush()
+
+
+def judge_many(names: Iterable[str], jobs: int = 1, freed: str = "held", owned: bool = False) -> Iterator[Result]:
+    """The results of files, as they come. Threads judge them: the library runs without Python's lock."""
+    with ThreadPoolExecutor(jobs) as pool:
+        pending: set[Future[Result]] = set()
+        for name in names:
+            pending.add(pool.submit(judge_file, name, freed, owned))
+            if len(pending) >= _WAITING * jobs:
+                done, pending = wait(pending, return_when=FIRST_COMPLETED)
+                yield from (it.result() for it in done)
+        while pending:
+            done, pending = wait(pending, return_when=FIRST_COMPLETED)
+            yield from (it.result() for it in done)
+
+
+def junit(results: Iterable[Result]) -> str:
+    """The results as JUnit's XML."""
+    listed = sorted(results)
+    cases = []
+    for it in listed:
+        inside = ""
+        if it.status:
+            kind, text = ("error", it.failed) if it.failed else ("failure", f"{it.verdict}\n{it.says}")
+            inside = f"<{kind} message={quoteattr(it.failed or it.verdict)}>{escape(text)}</{kind}>"
+        cases.append(f"  <testcase classname=\"capcheck\" name={quoteattr(it.file)}>{inside}</testcase>\n")
+    failures, errors = (sum(it.status == status for it in listed) for status in (1, 3))
+    return (f'<?xml version="1.0" encoding="UTF-8"?>\n<testsuite name="capcheck" tests="{len(listed)}" failures="{failures}" errors="{errors}">\n'
+            f"{''.join(cases)}</testsuite>\n")
+
+
+def annotation(it: Result) -> str:
+    """A rejected or unread log, as an annotation of GitHub."""
+    at = f",line={it.line}" if it.line else ""
+    text = it.failed or f"{it.verdict}\n{it.says}"
+    file = it.file.translate(_AN_ANNOTATION_ENDS).replace(",", "%2C").replace(":", "%3A")
+    return f"::error file={file}{at}::{text.translate(_AN_ANNOTATION_ENDS)}"
+
+
+def _bar(results: Iterator[Result], total: int) -> Iterator[Result]:
+    """The results, with a bar of progress on a terminal: that of tqdm where it is installed, or a line."""
+    if not sys.stderr.isatty():
+        return results
+    try:
+        from tqdm import tqdm
+    except ImportError:
+        return _line(results, total)
+    return iter(tqdm(results, total=total, unit=" logs"))
+
+
+def _line(results: Iterator[Result], total: int) -> Iterator[Result]:
+    told = 0.0
+    for number, result in enumerate(results, 1):
+        yield result
+        if (now := time.monotonic()) - told > 0.5 or number == total:
+            told = now
+            print(f"\r{number} of {total} logs", end="", file=sys.stderr, flush=True)
+    print(file=sys.stderr)
+
+
+def summary(results: Iterable[Result]) -> str:
+    """How many are accepted, and how many rejected, by refusal."""
+    counted = Counter("accepted" if it.status == 0 else f"not read: {it.failed}" if it.failed else f"rejected, {it.refusal}" for it in results)
+    return "".join(f"{count} {what}\n" for what, count in sorted(counted.items(), key=lambda it: (it[0] != "accepted", -it[1], it[0])))
+
+
+def add_arguments(command: argparse.ArgumentParser) -> None:
+    """The words of the command."""
+    command.add_argument("paths", metavar="PATH", nargs="+", help="a log, or a folder with files that end in .log")
+    command.add_argument("--jobs", metavar="N", type=int, default=os.cpu_count() or 1, help="how many are judged at a time; by default one for each processor")
+    command.add_argument("--freed", choices=("held", "used", "both"), default="held", help="what is asked of freed objects, as in capdiag run")
+    command.add_argument("--owned", action="store_true", help="each access to a live object goes through its own capability")
+    command.add_argument("--results", metavar="FILE", help="add the results to a file, of JSON Lines or, if it ends in .csv, CSV; files that it has and that didn't change aren't judged again")
+    command.add_argument("--junit", metavar="FILE", help="write JUnit's XML")
+    command.add_argument("--annotations", action="store_true", help="print rejected logs as annotations of GitHub")
+
+
+def many(given: argparse.Namespace) -> tuple[bytes, int]:
+    """The command: each rejected log and a summary, and the greatest status."""
+    if given.jobs < 1:
+        raise ValueError(f"jobs {given.jobs} isn't 1 or more")
+    names = list(dict.fromkeys(files(given.paths)))
+    known = {it.file: it for it in read_results(given.results)} if given.results else {}
+    kept = [known[name] for name in names if name in known and _same(known[name], _asks(given.freed, given.owned))]
+    left = set(names) - {it.file for it in kept}
+    with ExitStack() as stack:
+        written = None
+        if given.results:
+            written = _Written(stack.enter_context(_appended(given.results)), given.results.endswith(".csv"))
+        results = list(kept)
+        for it in _bar(judge_many((name for name in names if name in left), given.jobs, given.freed, given.owned), len(left)):
+            results.append(it)
+            if written:
+                written.add(it)
+    if given.junit:
+        Path(given.junit).write_text(junit(results), encoding="utf-8")
+    shown = [annotation(it) if given.annotations else f"{it.file}: {it.failed or it.verdict}" for it in sorted(results) if it.status]
+    text = "".join(f"{line}\n" for line in shown) + summary(results)
+    return text.encode(errors="surrogateescape"), max((it.status for it in results), default=0)
+
+
+def _appended(file: str) -> TextIO:
+    """A file to add lines to, without what was cut at its end."""
+    opened = open(file, "a+", encoding="utf-8", newline="")
+    opened.seek(0)
+    text = opened.read()
+    opened.seek(0, os.SEEK_END)
+    if not text.endswith("\n") and text:
+        opened.truncate(len(text[:text.rfind("\n") + 1].encode()))
+        opened.seek(0, os.SEEK_END)
+    return opened

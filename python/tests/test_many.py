@@ -1,0 +1,78 @@
+"""Tests of many logs: their results, what a second run judges, and what a CI reads."""
+import csv
+import json
+import os
+import subprocess
+import sys
+import tempfile
+import unittest
+import xml.etree.ElementTree as xml
+from pathlib import Path
+
+from capcheck import many
+
+EXAMPLES = Path(__file__).parents[2] / "examples"
+RUN = "run 1\nmode clear\nroot c1 ffff1ffffc0180040000000000000000\n"
+LOGS = {"a.log": (EXAMPLES / "moves.log").read_text(), "b.log": (EXAMPLES / "escaped_bound.log").read_text(), "in/c.log": f"{RUN}free c1\nend 1\n",
+        "in/d.log": f"{RUN}end 0\n", "in/e.log": "heap 1\nroot 0000000000010000 00000000000020000\n", "notes.txt": "no log"}
+SAID = """b.log: no 5 11 BoundsEscape
+in/c.log: no 4 37 NoOwner
+3 accepted
+1 rejected, BoundsEscape
+1 rejected, NoOwner
+"""
+
+
+class ManyTest(unittest.TestCase):
+    def setUp(self):
+        self.folder = tempfile.TemporaryDirectory()
+        self.addCleanup(self.folder.cleanup)
+        os.mkdir(f"{self.folder.name}/in")
+        for name, text in LOGS.items():
+            Path(f"{self.folder.name}/{name}").write_text(text)
+
+    def ran(self, *words):
+        it = subprocess.run([sys.executable, "-m", "capcheck", "many", *words], cwd=self.folder.name, capture_output=True, text=True)
+        return it.returncode, it.stdout, it.stderr
+
+    def test_command(self):
+        self.assertEqual(self.ran("."), (1, SAID, ""))
+        self.assertEqual(self.ran("in/d.log", "a.log"), (0, "2 accepted\n", ""))
+        self.assertEqual(self.ran("nowhere", "a.log"), (3, "nowhere: read fault: No such file or directory\n1 accepted\n1 not read: read fault: No such file or directory\n", ""))
+        self.assertEqual(self.ran(".", "--jobs", "0"), (2, "", "capcheck: jobs 0 isn't 1 or more\n"))
+        for jobs in ("1", "2", "7"):
+            self.assertEqual(self.ran(".", "--jobs", jobs)[1], SAID)
+
+    def test_results(self):
+        for name in ("results.jsonl", "results.csv"):
+            with self.subTest(name):
+                path = Path(f"{self.folder.name}/{name}")
+                self.assertEqual(self.ran(".", "--results", name)[1], SAID)
+                first = path.read_text()
+                self.assertEqual(len(many.read_results(str(path))), 5)
+                self.assertEqual(self.ran(".", "--results", name)[1], SAID)
+                self.assertEqual(path.read_text(), first)  # Nothing was judged again.
+                path.write_text(first[:-20])
+                Path(f"{self.folder.name}/a.log").write_text(LOGS["b.log"])
+                self.assertEqual(self.ran(".", "--results", name)[1].splitlines()[0], "a.log: no 5 11 BoundsEscape")
+                self.assertEqual(len(many.read_results(str(path))), 6)
+                Path(f"{self.folder.name}/a.log").write_text(LOGS["a.log"])
+                self.ran(".", "--results", name, "--freed", "used")
+                self.assertEqual(sum(it.asks == "used" for it in many.read_results(str(path))), 5)
+        with open(f"{self.folder.name}/results.csv", newline="") as rows:
+            self.assertEqual({row["verdict"] for row in csv.DictReader(rows)} & {"yes 2 1", "no 4 37 NoOwner"}, {"yes 2 1", "no 4 37 NoOwner"})
+        Path(f"{self.folder.name}/bad.jsonl").write_text("{}\n")
+        self.assertEqual(self.ran(".", "--results", "bad.jsonl")[::2], (2, "capcheck: bad.jsonl isn't a file of results\n"))
+
+    def test_ci(self):
+        self.ran(".", "--junit", "junit.xml")
+        suite = xml.parse(f"{self.folder.name}/junit.xml").getroot()
+        self.assertEqual((suite.get("tests"), suite.get("failures"), suite.get("errors")), ("5", "2", "0"))
+        self.assertEqual([it.find("failure").get("message") for it in suite if it.find("failure") is not None], ["no 5 11 BoundsEscape", "no 4 37 NoOwner"])
+        lines = self.ran(".", "--annotations")[1].splitlines()
+        self.assertTrue(lines[0].startswith("::error file=b.log,line=5::no 5 11 BoundsEscape%0A"), lines[0])
+        self.assertEqual(json.loads(json.dumps(many.judge_file(f"{self.folder.name}/a.log")._asdict()))["verdict"], "yes 2 1")
+
+
+if __name__ == "__main__":
+    unittest.main()
