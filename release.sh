@@ -1,6 +1,7 @@
 #!/bin/sh
 # Makes an archive that runs without the Rattle kit, out/capcheck-VERSION-x86_64-linux.tar.gz, and tries it: it is unpacked in
-# an empty folder, and run there without this machine's environment.
+# an empty folder, and run there without this machine's environment. Of a version that isn't released, such as 1.3.0-dev, its
+# name has the commit too, as 1.3.0-dev-0123abcd.
 #
 #   sh release.sh
 #
@@ -11,7 +12,11 @@
 set -eu
 cd "$(dirname "$0")"
 version=$(sed -n 's/^#define CAPCHECK_VERSION_STRING "\(.*\)"$/\1/p' include/capcheck.h)
-name=capcheck-$version-x86_64-linux
+commit=$(git rev-parse --short=8 HEAD)
+case $version in
+    *-dev) name=capcheck-$version-$commit-x86_64-linux ;;
+    *) name=capcheck-$version-x86_64-linux ;;
+esac
 work=$(mktemp -d)
 trap 'rm -rf "$work"' EXIT
 to=$work/$name
@@ -28,7 +33,7 @@ rt version > "$to/KIT"
 needed=$(objdump -p "$to"/bin/* "$to"/lib/*.so.1 | sed -n 's/^ *NEEDED *//p' | grep -v '^libcapcheck_' | sort -u)
 glibc=$(objdump -T "$to"/bin/* "$to"/lib/*.so.1 | grep -o 'GLIBC_[0-9.]*' | sort -uV | tail -n 1)
 cat > "$to/RELEASE.txt" <<TEXT
-Nawhorimo $version for x86-64-v2 Linux. Programs and shared libraries need $(echo $needed) alone, ${glibc#GLIBC_} or later.
+Nawhorimo $version (commit $commit) for x86-64-v2 Linux. Programs and shared libraries need $(echo $needed) alone, ${glibc#GLIBC_} or later.
 
 Unpack it anywhere, and add bin/ to your PATH.
 

@@ -1,5 +1,6 @@
 /*
- * Hands one step over to a judge that is linked in, again and again, by its numbers, or by the line that it writes each time:
+ * Hands one step over to a judge that is linked in, again and again, by its numbers, or by the line that it writes each time; to a
+ * judge of run logs by its kind and its numbers:
  *
  *     steps KIND COUNT step|line
  *
@@ -19,13 +20,16 @@
 
 #ifdef RUN
 #define ASK(question) capcheck_run_judge_##question
-#define STEP(kind) capcheck_run_step_##kind
+#define READY(kind, ...) step = capcheck_read_run_line(line, capcheck_line_##kind(line, __VA_ARGS__))
+#define STEP(kind, ...) capcheck_run_step(&judge, &step)
 #define OPEN() capcheck_run_judge_open(&judge, (capcheck_asks)CAPCHECK_ASKS_HELD)
 #define FIRST "run 1\nmode strict\n"
 static capcheck_run_judge judge = CAPCHECK_NO_RUN_JUDGE_YET;
+static capcheck_run_line step;
 #else
 #define ASK(question) capcheck_judge_##question
-#define STEP(kind) capcheck_judge_##kind
+#define READY(kind, ...) (void)line
+#define STEP(kind, ...) capcheck_judge_##kind(&judge, __VA_ARGS__)
 #define OPEN() capcheck_judge_open(&judge)
 #define FIRST "capcheck 1\n"
 static capcheck_judge judge = CAPCHECK_NO_JUDGE_YET;
@@ -41,17 +45,25 @@ static void must_go_on(uint8_t state) {
         stop("a step is refused");
 }
 
+/* Makes a step once. */
+#define DONE(kind, ...)                                                                                          \
+    do {                                                                                                         \
+        READY(kind, __VA_ARGS__);                                                                                \
+        must_go_on(STEP(kind, __VA_ARGS__));                                                                     \
+    } while (0)
+
 /* The lines before the first step, and the steps that give each kind what it works on. */
 static void begin(void) {
+    char line[CAPCHECK_LINE_SIZE];
     static const char first[] = FIRST "root c1 ffff1ffffc0180040000000000000000\n";
     must_go_on(OPEN());
     if (ASK(lines)(&judge, first, sizeof first - 1).bytes != sizeof first - 1)
         stop("the first lines are refused");
-    must_go_on(STEP(setaddr)(&judge, 2, 1, 0x1000, AT(0x1000)));
-    must_go_on(STEP(setaddr)(&judge, 3, 1, 5, AT(5)));
-    must_go_on(STEP(seal)(&judge, 4, 2, 3, CAP(1, 0xffff00002c018004u, 0x1000)));
-    must_go_on(STEP(sc)(&judge, 1, 2, 0));
-    must_go_on(STEP(store)(&judge, 2, 16, 8, 0x0123456789abcdefu));
+    DONE(setaddr, 2, 1, 0x1000, AT(0x1000));
+    DONE(setaddr, 3, 1, 5, AT(5));
+    DONE(seal, 4, 2, 3, CAP(1, 0xffff00002c018004u, 0x1000));
+    DONE(sc, 1, 2, 0);
+    DONE(store, 2, 16, 8, 0x0123456789abcdefu);
 }
 
 /* A kind of step with its operands, again and again. */
@@ -59,9 +71,11 @@ static void begin(void) {
     if (by_lines)                                                                                                \
         for (unsigned long i = 0; i < count; i++)                                                                \
             must_go_on(ASK(line)(&judge, line, capcheck_line_##kind(line, __VA_ARGS__)));                         \
-    else                                                                                                         \
+    else {                                                                                                       \
+        READY(kind, __VA_ARGS__);                                                                                \
         for (unsigned long i = 0; i < count; i++)                                                                \
-            must_go_on(STEP(kind)(&judge, __VA_ARGS__));
+            must_go_on(STEP(kind, __VA_ARGS__));                                                                 \
+    }
 
 int main(int argc, char **argv) {
     if (argc != 4)

@@ -229,10 +229,10 @@ class Asked:
         """The number of the object that owns a place, which is passed in two registers; 0 if none does."""
         return self.number("owner", place.number, place.kind)
 
-    def object(self, number):
-        """An object with its first holder; None if there is none."""
+    def object(self, number, freed=False):
+        """An object with its first holder; None if there is none, or if only freed ones are wanted and it is live."""
         base, high, low, held, line, state = struct.unpack("<QQQQQB", self.answer("object", 41, number))
-        if state == _NO_SUCH_OBJECT:
+        if state == _NO_SUCH_OBJECT or (freed and state == _LIVE):
             return None
         with self._asking():  # A place comes in two registers, as a judge would: that type is there.
             called = "((capcheck_run_judge (*)(unsigned long, unsigned long))capcheck_run_judge_holder)"
@@ -241,7 +241,15 @@ class Asked:
         return f"{Object(number, line, base, high << 64 | low, state == _LIVE, held)} {holder or 'no place'}"
 
     def capability(self, name, number):
-        high, low, tag = struct.unpack("<QQB", self.answer(name, 17, number))
+        """What a register, a special register or a granule holds."""
+        if self.prefix == "capcheck_run_judge":
+            kind = {"register": _REGISTER, "granule": _GRANULE, "special": _SPECIAL}[name]
+            name, numbers = "held", (number, kind)
+        elif name == "special":
+            raise gdb.GdbError("only a judge of run logs has special registers")
+        else:
+            numbers = (number,)
+        high, low, tag = struct.unpack("<QQB", self.answer(name, 17, *numbers))
         return Capability(high << 64 | low, tag == 1)
 
     def expected(self):
@@ -272,29 +280,42 @@ JUDGE is a capcheck_judge or a capcheck_run_judge of the program, or a pointer t
 class AskJudge(gdb.Command):
     """Ask a judge of the program: capcheck-judge JUDGE QUESTION
 
-JUDGE is a capcheck_judge of the program, or a pointer to one. QUESTION is one of
+JUDGE is a capcheck_judge or a capcheck_run_judge of the program, or a pointer to one. QUESTION is one of
   register N      what the model holds in a register, 0 to 31
+  special N       of a capcheck_run_judge: what it holds in a special register, 0 to 31
   granule A       what it holds in the 16 aligned bytes that contain the address A
   expected        after a `no` for WrongResult, what the rules give
   end             the verdict on the lines so far as a whole log
-After a faulty line, the first two are as before that line."""
+After a faulty line, the first three are as before that line. An address of 16 digits is hexadecimal."""
 
     def __init__(self):
         super().__init__("capcheck-judge", gdb.COMMAND_DATA, gdb.COMPLETE_EXPRESSION)
 
     def invoke(self, text, from_tty):
-        asked = re.fullmatch(r"(.+?)\s+(?:(register|granule)\s+(.+)|(expected|end))", text.strip())
+        asked = re.fullmatch(r"(.+?)\s+(?:(register|special|granule)\s+(.+)|(expected|end))", text.strip())
         if not asked:
-            raise gdb.GdbError("capcheck-judge JUDGE register N | granule A | expected | end")
+            raise gdb.GdbError("capcheck-judge JUDGE register N | special N | granule A | expected | end")
         with _plain_errors():
             judge = Asked(gdb.parse_and_eval(asked[1]))
             if asked[4]:
                 print(judge.expected() if asked[4] == "expected" else judge.verdict("end"))
                 return
-            number = int(gdb.parse_and_eval(asked[3]).cast(gdb.lookup_type("unsigned long")))
-            if asked[2] == "register" and number > 31:
-                raise gdb.GdbError(f"there is no register {number}: they are 0 to 31")
+            number = _number(asked[3], asked[2] == "granule")
+            if asked[2] != "granule":
+                _is_register(number)
             print(_in_one_line(judge.capability(asked[2], number), True))
+
+
+def _number(text, is_address):
+    """A number that GDB knows; an address may be written as logs and diagnoses write it, by its 16 digits."""
+    if is_address and re.fullmatch("[0-9a-f]{16}", text.strip()):
+        return int(text, 16)
+    return int(gdb.parse_and_eval(text).cast(gdb.lookup_type("unsigned long")))
+
+
+def _is_register(number, least=0):
+    if not least <= number < 32:
+        raise gdb.GdbError(f"there is no register {number}: they are {least} to 31")
 
 
 def _run_judge(text):
@@ -308,7 +329,7 @@ class Owner(gdb.Command):
     """Print the object that owns a place: capcheck-owner JUDGE PLACE
 
 JUDGE is a capcheck_run_judge of the program, or a pointer to one. PLACE is a register such as c3, a special register such as
-scr0, or @ and an address. It prints the object as `capdiag run --owners` does, with the first place that holds it. After a
+scr0, or @ and an address, of which 16 digits are hexadecimal. It prints the object as `capdiag run --owners` does, with the first place that holds it. After a
 faulty line, all is as before that line."""
 
     def __init__(self):
@@ -321,27 +342,30 @@ faulty line, all is as before that line."""
         with _plain_errors():
             judge = _run_judge(asked[1])
             if asked[4]:
-                address = int(gdb.parse_and_eval(asked[4]).cast(gdb.lookup_type("unsigned long")))
-                place = Place(address, _GRANULE)
+                place = Place(_number(asked[4], True), _GRANULE)
             else:
                 place = Place(int(asked[3]), _REGISTER if asked[2] == "c" else _SPECIAL)
+                _is_register(place.number, 1 if asked[2] == "c" else 0)
             number = judge.owner(place)
             print(judge.object(number) if number else "no object")
 
 
 class Objects(gdb.Command):
-    """Print the objects that are live or held: capcheck-objects JUDGE
+    """Print the objects that are live or held: capcheck-objects JUDGE [freed]
 
-JUDGE is a capcheck_run_judge of the program, or a pointer to one. Each is printed as by capcheck-owner."""
+JUDGE is a capcheck_run_judge of the program, or a pointer to one. Each is printed as by capcheck-owner. With freed, only those
+that were freed and that a place still holds."""
 
     def __init__(self):
         super().__init__("capcheck-objects", gdb.COMMAND_DATA, gdb.COMPLETE_EXPRESSION)
 
     def invoke(self, text, from_tty):
         with _plain_errors():
-            judge, number = _run_judge(text), 0
+            asked = re.fullmatch(r"(.+?)(\s+freed)?", text.strip())
+            judge, number = _run_judge(asked[1] if asked else text), 0
             while number < 2**32 - 1 and (number := judge.number("next_object", number + 1)):
-                print(judge.object(number))
+                if found := judge.object(number, bool(asked and asked[2])):
+                    print(found)
 
 
 class Number(gdb.Function):

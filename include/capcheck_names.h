@@ -37,7 +37,10 @@ static inline const char *capcheck_refusal_text(uint8_t number) {
     case 23: return "WrongResult";
     case 24: return "LimitPassed";
     case 25: return "BadMode";
+    case 26: return "AddressTaken";
+    case 27: return "OutsideHeap";
     case 28: return "Overlaps";
+    case 29: return "NotLive";
     case 30: return "UnsoundResult";
     case 31: return "BeyondSource";
     case 32: return "SealChanged";
@@ -83,7 +86,10 @@ static inline const char *capcheck_refusal_sentence_text(uint8_t number) {
     case 23: return "The recorded result or value isn't the machine's.";
     case 24: return "A limit on roots, granules or steps is passed.";
     case 25: return "The line after the version line of version 2 is no mode line.";
+    case 26: return "An object lives at this very address.";
+    case 27: return "The rounded bounds don't lie inside the root's.";
     case 28: return "The extent shares an address with that of a live object.";
+    case 29: return "No object lives at the address that is freed.";
     case 30: return "The recorded word isn't sound.";
     case 31: return "The word has bounds or permissions beyond its source's.";
     case 32: return "The seal isn't kept.";
@@ -147,15 +153,15 @@ static inline const char *capcheck_kind_text(uint8_t number) {
     case 15: return "load";
     case 16: return "store";
     case 17: return "end";
-    case 18: return "derive";
-    case 19: return "exchange";
-    case 20: return "invoke";
-    case 21: return "drop";
-    case 22: return "fill";
-    case 23: return "object";
-    case 24: return "free";
-    case 25: return "run";
-    case 26: return "root";
+    case 64: return "derive";
+    case 65: return "exchange";
+    case 66: return "invoke";
+    case 67: return "drop";
+    case 68: return "fill";
+    case 69: return "object";
+    case 70: return "free";
+    case 71: return "run";
+    case 72: return "root";
     default: return "";
     }
 }
@@ -180,15 +186,15 @@ static inline const char *capcheck_kind_sentence_text(uint8_t number) {
     case 15: return "Loads data.";
     case 16: return "Stores data, and clears the tag of the granule.";
     case 17: return "The last line: the number of steps.";
-    case 18: return "Derives a capability, judged only to be no wider than its source.";
-    case 19: return "Exchanges a special register: a call, or CSpecialRW.";
-    case 20: return "Calls by a pair of sealed capabilities, CInvoke.";
-    case 21: return "Removes the tag of a place.";
-    case 22: return "Fills a granule from outside, without a tag.";
-    case 23: return "Hands out an object, or widens one.";
-    case 24: return "Frees an object.";
-    case 25: return "The first line of a run log: its version.";
-    case 26: return "A capability that a special register holds at the start.";
+    case 64: return "Derives a capability, judged only to be no wider than its source.";
+    case 65: return "Exchanges a special register: a call, or CSpecialRW.";
+    case 66: return "Calls by a pair of sealed capabilities, CInvoke.";
+    case 67: return "Removes the tag of a place.";
+    case 68: return "Fills a granule from outside, without a tag.";
+    case 69: return "Hands out an object, or widens one.";
+    case 70: return "Frees an object.";
+    case 71: return "The first line of a run log: its version.";
+    case 72: return "A capability that a special register holds at the start.";
     default: return "";
     }
 }

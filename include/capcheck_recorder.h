@@ -157,12 +157,12 @@ bool capcheck_recorder_filled(capcheck_recorder *r, uint64_t address, const uint
 
 /* What a register, 1 to 31, holds is a new object's if `object` is 0, or also that of the object with this number. */
 CAPCHECK_CHECKED
-bool capcheck_recorder_object(capcheck_recorder *r, uint64_t target, uint64_t object);
+bool capcheck_recorder_object(capcheck_recorder *r, uint64_t source, uint64_t object);
 
 /* The object that owns a register is freed if `object` is 0. Otherwise the object with this number is, and the register has
  * to be 0. */
 CAPCHECK_CHECKED
-bool capcheck_recorder_freed(capcheck_recorder *r, uint64_t target, uint64_t object);
+bool capcheck_recorder_freed(capcheck_recorder *r, uint64_t source, uint64_t object);
 
 /* ---- Lines of your own ---- */
 

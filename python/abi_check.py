@@ -33,7 +33,6 @@ LEFT_OUT = {
     "capcheck_run_judge_report": "capcheck_run_judge_end_report",
     "capcheck_recorder_to_file": "a file's write",
     **dict.fromkeys(("capcheck_c", "capcheck_scr", "capcheck_granule", "capcheck_nowhere"), "places are strings"),
-    **dict.fromkeys(("CAPCHECK_ADDRESS_TAKEN", "CAPCHECK_OUTSIDE_HEAP", "CAPCHECK_NOT_LIVE"), "HeapVerdict has names"),
 }
 NUMBERS = {"uint64_t": c.c_uint64, "int64_t": c.c_int64, "uint32_t": c.c_uint32, "uint16_t": c.c_uint16, "size_t": c.c_size_t,
            "int16_t": c.c_int16, "uint8_t": c.c_uint8, "bool": c.c_bool, "void": None}

@@ -40,7 +40,7 @@ def _installed():
 def build_wheel(folder, settings=None, metadata=None):
     """Writes the wheel into a folder, and returns its name."""
     installed = _installed()
-    version = re.search(r"(?m)^Version: (.+)$", (installed / "pkgconfig/capcheck.pc").read_text())[1]
+    version = re.search(r"(?m)^Version: (.+)$", (installed / "pkgconfig/capcheck.pc").read_text())[1].replace("-dev", ".dev0")
     tag, about = "py3-none-linux_x86_64", f"capcheck-{version}.dist-info"
     files = [*sorted((HERE / "capcheck").glob("*.py")), HERE / "capcheck/py.typed",
              *(installed / f"lib{name}.so.1" for name in LIBRARIES)]

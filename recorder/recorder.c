@@ -509,20 +509,20 @@ static bool is_object(capcheck_recorder *r, uint64_t object) {
     return r->state == CAPCHECK_GOES_ON;
 }
 
-bool capcheck_recorder_object(capcheck_recorder *r, uint64_t target, uint64_t object) {
+bool capcheck_recorder_object(capcheck_recorder *r, uint64_t source, uint64_t object) {
     char line[CAPCHECK_LINE_SIZE];
-    if (!is_register(r, "target", target, 1) || !is_object(r, object))
+    if (!is_register(r, "source", source, 1) || !is_object(r, object))
         return false;
-    tell_integer(r, target);
-    return step(r, line, capcheck_line_object(line, target, object)) && pass(r);
+    tell_integer(r, source);
+    return step(r, line, capcheck_line_object(line, source, object)) && pass(r);
 }
 
-bool capcheck_recorder_freed(capcheck_recorder *r, uint64_t target, uint64_t object) {
+bool capcheck_recorder_freed(capcheck_recorder *r, uint64_t source, uint64_t object) {
     char line[CAPCHECK_LINE_SIZE];
-    if (!is_register(r, "target", target, object == 0) || !is_object(r, object))
+    if (!is_register(r, "source", source, object == 0) || !is_object(r, object))
         return false;
-    if (object != 0 && target != 0)
-        return stop(r, CAPCHECK_NO_LINE, "free names both c%u and object %llu", (unsigned)target, (unsigned long long)object);
-    tell_integer(r, target);
-    return step(r, line, capcheck_line_free(line, target, object)) && pass(r);
+    if (object != 0 && source != 0)
+        return stop(r, CAPCHECK_NO_LINE, "free names both c%u and object %llu", (unsigned)source, (unsigned long long)object);
+    tell_integer(r, source);
+    return step(r, line, capcheck_line_free(line, source, object)) && pass(r);
 }

@@ -22,6 +22,8 @@ LEFT_OUT = {
     "capcheck_kind_sentence": "an enum", "capcheck_state_name": "an enum", "capcheck_state_sentence": "an enum",
     "capcheck_judge_report": "capcheck_judge_end_report", "capcheck_judge_text": "a debugger's",
     "capcheck_judge_memory": "the judge uses malloc", "capcheck_run_judge_report": "capcheck_run_judge_end_report",
+    **{f"capcheck_judge_{it}": "capcheck_judge_step" for it in ("move", "cleartag", "setbounds", "setboundsexact", "setaddr", "andperm",
+                                                                "seal", "unseal", "lc", "sc", "load", "store")},
 }
 NUMBERS = {"uint64_t": "u64", "int64_t": "i64", "uint32_t": "u32", "uint16_t": "u16", "size_t": "usize", "int16_t": "i16",
            "uint8_t": "u8", "char": "u8", "bool": "bool", "void": "c_void"}

@@ -185,8 +185,9 @@ status=0
 "$work/stepped" --bug > "$work/log" 2> "$work/stepping" || status=$?
 [ "$status" = 1 ] && cmp "$work/complaints" "$work/stepping" || { echo 'check.sh: the emulator by steps stops elsewhere' >&2; exit 1; }
 
-# The recorder: which lines it writes, and the faults that each of its ways finds, as C and as C++; and that the emulator's log
-# by it has the lines of the emulator's own calls, up to the faulty one.
+# The recorder: which lines it writes, and the faults that each of its ways finds, as C and as C++; that the judge of run logs bears
+# each refusal of memory, by the recorder and without it; and that the emulator's log by the recorder has the lines of the
+# emulator's own calls, up to the faulty one.
 recorder="recorder/out/libcapcheck_recorder.a $libraries"
 quietly sh recorder/build.sh
 for compiler in "${CC:-cc} -std=c99" "${CXX:-c++} -std=c++11 -x c++"; do
@@ -196,6 +197,8 @@ for compiler in "${CC:-cc} -std=c99" "${CXX:-c++} -std=c++11 -x c++"; do
     [ "$("$diagnosis" run "$work/log")" = 'yes 80 4 2' ] || { echo 'check.sh: the log of hooks gets another verdict' >&2; exit 1; }
     quietly $compiler $strict -Wconversion -Wshadow examples/emulator/faults.c -x none $recorder -o "$work/faults"
     quietly "$work/faults"
+    quietly $compiler $strict -Wconversion -Wshadow examples/emulator/run_memory.c -x none $recorder -o "$work/run_memory"
+    quietly "$work/run_memory"
 done
 if command -v valgrind > "$work/found"; then
     quietly valgrind -q --leak-check=full --error-exitcode=9 "$work/hooks"

@@ -260,7 +260,7 @@ static void out_of_range(capcheck_cap all) {
     FAILS(capcheck_recorder_stored(&recorder, capcheck_c(1), 0, 2, 0x10000), "the value 10000 has more than 2 bytes");
     FAILS(capcheck_recorder_loaded(&recorder, capcheck_granule(16), 0, 8, 0), "the authority is neither a register nor a special register");
     FAILS(capcheck_recorder_filled(&recorder, 0x1008, bytes), "the granule's address 1008 isn't a multiple of 16");
-    FAILS(capcheck_recorder_object(&recorder, 0, 0), "the target is c0: the registers are c1 to c31");
+    FAILS(capcheck_recorder_object(&recorder, 0, 0), "the source is c0: the registers are c1 to c31");
     FAILS(capcheck_recorder_object(&recorder, 1, UINT64_C(1) << 32), "the object is 4294967296: their numbers are below 2^32");
     FAILS(capcheck_recorder_freed(&recorder, 2, 1), "free names both c2 and object 1");
     FAILS(capcheck_recorder_line(&recorder, "move c2 c1\n", 11), "the text isn't one line of a run log");

@@ -112,32 +112,10 @@ static capcheck_run_answer in_pieces(const char *log, size_t length, size_t size
     return end;
 }
 
-/* Passes a step by its numbers; any other line as it is. */
+/* Passes a step by its numbers; any other line, which is no step, as it is. */
 static uint8_t pass_numbers(capcheck_run_judge *judge, const capcheck_run_line *it, const char *text, size_t length) {
-    const capcheck_line *l = &it->line;
-    switch (l->kind) {
-    case CAPCHECK_KIND_MOVE: return capcheck_run_step_move(judge, l->target, l->source, l->cap);
-    case CAPCHECK_KIND_CLEARTAG: return capcheck_run_step_cleartag(judge, l->target, l->source, l->cap);
-    case CAPCHECK_KIND_SETBOUNDS: return capcheck_run_step_setbounds(judge, l->target, l->source, l->number, l->cap);
-    case CAPCHECK_KIND_SETBOUNDSEXACT: return capcheck_run_step_setboundsexact(judge, l->target, l->source, l->number, l->cap);
-    case CAPCHECK_KIND_SETADDR: return capcheck_run_step_setaddr(judge, l->target, l->source, l->number, l->cap);
-    case CAPCHECK_KIND_ANDPERM: return capcheck_run_step_andperm(judge, l->target, l->source, l->number, l->cap);
-    case CAPCHECK_KIND_SEAL: return capcheck_run_step_seal(judge, l->target, l->source, l->authority, l->cap);
-    case CAPCHECK_KIND_UNSEAL: return capcheck_run_step_unseal(judge, l->target, l->source, l->authority, l->cap);
-    case CAPCHECK_KIND_LC: return capcheck_run_step_lc(judge, l->target, l->authority, l->offset, l->cap);
-    case CAPCHECK_KIND_SC: return capcheck_run_step_sc(judge, l->source, l->authority, l->offset);
-    case CAPCHECK_KIND_LOAD: return capcheck_run_step_load(judge, l->authority, l->offset, l->size, l->number);
-    case CAPCHECK_KIND_STORE: return capcheck_run_step_store(judge, l->authority, l->offset, l->size, l->number);
-    case CAPCHECK_KIND_DERIVE: return capcheck_run_step_derive(judge, it->target, it->source, l->cap);
-    case CAPCHECK_KIND_EXCHANGE:
-        return capcheck_run_step_exchange(judge, l->target, l->source, l->number, l->cap, it->second);
-    case CAPCHECK_KIND_INVOKE: return capcheck_run_step_invoke(judge, l->source, l->authority, l->cap.word, it->second.word);
-    case CAPCHECK_KIND_DROP: return capcheck_run_step_drop(judge, it->target);
-    case CAPCHECK_KIND_FILL: return capcheck_run_step_fill(judge, l->number, l->cap.word);
-    case CAPCHECK_KIND_OBJECT: return capcheck_run_step_object(judge, l->source, l->number);
-    case CAPCHECK_KIND_FREE: return capcheck_run_step_free(judge, l->source, l->number);
-    default: return capcheck_run_judge_line(judge, text, length);
-    }
+    uint8_t state = capcheck_run_step(judge, it);
+    return state == CAPCHECK_NO_LINE ? capcheck_run_judge_line(judge, text, length) : state;
 }
 
 /* Passes a log line by line, or by lines whose steps are passed by their numbers, and returns the verdict. */
@@ -312,50 +290,112 @@ static void holders(void) {
     EXPECT(is_place(capcheck_run_judge_holder(&judge, 2), CAPCHECK_NO_PLACE, 0));
     EXPECT(capcheck_run_judge_next_object(&judge, 0) == 1 && capcheck_run_judge_next_object(&judge, 1) == 1);
     EXPECT(capcheck_run_judge_next_object(&judge, 2) == 0 && capcheck_run_judge_next_object(&judge, UINT32_MAX) == 0);
-    EXPECT(capcheck_run_step_drop(&judge, at(CAPCHECK_REGISTER, 2)) == CAPCHECK_GOES_ON);
+    EXPECT(pass(&judge, "drop c2\n") == CAPCHECK_GOES_ON);
     EXPECT(is_place(capcheck_run_judge_holder(&judge, 1), CAPCHECK_GRANULE, 16));
-    EXPECT(capcheck_run_step_free(&judge, 0, 1) == CAPCHECK_GOES_ON);
-    EXPECT(capcheck_run_step_drop(&judge, at(CAPCHECK_GRANULE, 16)) == CAPCHECK_GOES_ON);
+    EXPECT(pass(&judge, "free 1\n") == CAPCHECK_GOES_ON);
+    EXPECT(pass(&judge, "drop @0000000000000010\n") == CAPCHECK_GOES_ON);
     EXPECT(capcheck_run_judge_next_object(&judge, 1) == 0 && is_place(capcheck_run_judge_holder(&judge, 1), CAPCHECK_NO_PLACE, 0));
     capcheck_run_judge_close(&judge);
 }
 
-static capcheck_cap any(void) {
-    capcheck_cap cap = CAPCHECK_NULL;
-    return cap;
+/* Passes a step whose kind has these registers and this number. All else has numbers that no line has. */
+static uint8_t step(capcheck_run_judge *judge, uint8_t kind, uint8_t target, uint8_t source, uint8_t authority, uint64_t number) {
+    capcheck_run_line it;
+    memset(&it, 0xff, sizeof it);
+    it.line.kind = kind;
+    it.line.target = target;
+    it.line.source = source;
+    it.line.authority = authority;
+    it.line.number = number;
+    return capcheck_run_step(judge, &it);
 }
 
-/* Numbers out of range are no line, and change nothing; without a judge there is none. */
+/* Passes a step that accesses memory. */
+static uint8_t access_step(capcheck_run_judge *judge, uint8_t kind, int16_t offset, uint8_t size, uint64_t number) {
+    capcheck_run_line it;
+    memset(&it, 0, sizeof it);
+    it.line.kind = kind;
+    it.line.target = it.line.source = it.line.authority = 1;
+    it.line.offset = offset;
+    it.line.size = size;
+    it.line.number = number;
+    return capcheck_run_step(judge, &it);
+}
+
+/* Passes a step that names places. */
+static uint8_t place_step(capcheck_run_judge *judge, uint8_t kind, capcheck_place target, capcheck_place source) {
+    capcheck_run_line it;
+    memset(&it, 0xff, sizeof it);
+    it.line.kind = kind;
+    it.target = target;
+    it.source = source;
+    return capcheck_run_step(judge, &it);
+}
+
+/* Numbers out of range are no line, and change nothing, and so are kinds that are no step's; without a judge there is none. */
 static void out_of_range(void) {
     capcheck_run_judge judge = CAPCHECK_NO_RUN_JUDGE_YET;
     capcheck_place c0 = at(CAPCHECK_REGISTER, 0), c1 = at(CAPCHECK_REGISTER, 1), scr32 = at(CAPCHECK_SPECIAL, 32);
-    capcheck_word word = capcheck_null();
+    unsigned kind;
     int open;
     for (open = 0; open < 2; open++) {
         uint8_t none = open ? CAPCHECK_NO_LINE : CAPCHECK_NO_JUDGE;
-        EXPECT(capcheck_run_step_move(&judge, 0, 1, any()) == none && capcheck_run_step_cleartag(&judge, 1, 32, any()) == none);
-        EXPECT(capcheck_run_step_setbounds(&judge, 32, 1, 0, any()) == none && capcheck_run_step_setboundsexact(&judge, 0, 1, 0, any()) == none);
-        EXPECT(capcheck_run_step_setaddr(&judge, 0, 1, 0, any()) == none && capcheck_run_step_andperm(&judge, 0, 1, 0, any()) == none);
-        EXPECT(capcheck_run_step_seal(&judge, 1, 1, 32, any()) == none && capcheck_run_step_unseal(&judge, 1, 32, 1, any()) == none);
-        EXPECT(capcheck_run_step_lc(&judge, 1, 1, 2048, any()) == none && capcheck_run_step_sc(&judge, 1, 1, -2049) == none);
-        EXPECT(capcheck_run_step_load(&judge, 1, 0, 3, 0) == none && capcheck_run_step_store(&judge, 1, 0, 1, 256) == none);
-        EXPECT(capcheck_run_step_derive(&judge, c0, c1, any()) == none && capcheck_run_step_derive(&judge, c1, scr32, any()) == none);
-        EXPECT(capcheck_run_step_exchange(&judge, 0, 1, 0, any(), any()) == none);
-        EXPECT(capcheck_run_step_exchange(&judge, 1, 1, 32, any(), any()) == none);
-        EXPECT(capcheck_run_step_invoke(&judge, 32, 1, word, word) == none && capcheck_run_step_drop(&judge, c0) == none);
-        EXPECT(capcheck_run_step_fill(&judge, 8, word) == none && capcheck_run_step_object(&judge, 0, 0) == none);
-        EXPECT(capcheck_run_step_object(&judge, 1, UINT64_C(1) << 32) == none && capcheck_run_step_free(&judge, 1, 1) == none);
-        EXPECT(capcheck_run_step_free(&judge, 0, 0) == none && capcheck_run_judge_line(&judge, "run 1", 5) == none);
+        for (kind = CAPCHECK_KIND_MOVE; kind <= CAPCHECK_KIND_UNSEAL; kind++) {
+            EXPECT(step(&judge, (uint8_t)kind, 0, 1, 1, 0) == none && step(&judge, (uint8_t)kind, 32, 1, 1, 0) == none);
+            EXPECT(step(&judge, (uint8_t)kind, 1, 32, 1, 0) == none);
+        }
+        EXPECT(step(&judge, CAPCHECK_KIND_SEAL, 1, 1, 32, 0) == none && step(&judge, CAPCHECK_KIND_UNSEAL, 1, 1, 32, 0) == none);
+        for (kind = CAPCHECK_KIND_LC; kind <= CAPCHECK_KIND_STORE; kind++)
+            EXPECT(access_step(&judge, (uint8_t)kind, 2048, 1, 0) == none && access_step(&judge, (uint8_t)kind, -2049, 1, 0) == none);
+        EXPECT(access_step(&judge, CAPCHECK_KIND_LOAD, 0, 3, 0) == none && access_step(&judge, CAPCHECK_KIND_STORE, 0, 1, 256) == none);
+        EXPECT(place_step(&judge, CAPCHECK_KIND_DERIVE, c0, c1) == none && place_step(&judge, CAPCHECK_KIND_DERIVE, c1, scr32) == none);
+        EXPECT(place_step(&judge, CAPCHECK_KIND_DERIVE, at(CAPCHECK_GRANULE, 0), c1) == none);
+        EXPECT(place_step(&judge, CAPCHECK_KIND_DROP, c0, c1) == none && place_step(&judge, CAPCHECK_KIND_DROP, at(CAPCHECK_GRANULE, 8), c1) == none);
+        EXPECT(step(&judge, CAPCHECK_KIND_EXCHANGE, 0, 1, 0, 0) == none && step(&judge, CAPCHECK_KIND_EXCHANGE, 1, 1, 0, 32) == none);
+        EXPECT(step(&judge, CAPCHECK_KIND_INVOKE, 0, 32, 1, 0) == none && step(&judge, CAPCHECK_KIND_INVOKE, 0, 1, 32, 0) == none);
+        EXPECT(step(&judge, CAPCHECK_KIND_FILL, 0, 0, 0, 8) == none && step(&judge, CAPCHECK_KIND_OBJECT, 1, 0, 0, 0) == none);
+        EXPECT(step(&judge, CAPCHECK_KIND_OBJECT, 0, 1, 0, UINT64_C(1) << 32) == none && step(&judge, CAPCHECK_KIND_FREE, 0, 1, 0, 1) == none);
+        EXPECT(step(&judge, CAPCHECK_KIND_FREE, 1, 0, 0, 0) == none && capcheck_run_judge_line(&judge, "run 1", 5) == none);
+        for (kind = 0; kind < 256; kind++)
+            if (kind < CAPCHECK_KIND_MOVE || (CAPCHECK_KIND_STORE < kind && kind < CAPCHECK_KIND_DERIVE) || CAPCHECK_KIND_FREE < kind)
+                EXPECT(step(&judge, (uint8_t)kind, 1, 1, 1, 0) == none);
         if (!open)
             EXPECT(capcheck_run_judge_open(&judge, usual) == CAPCHECK_GOES_ON && pass(&judge, BEGIN) == CAPCHECK_GOES_ON);
     }
     EXPECT(capcheck_run_judge_line(&judge, "drop c1\ndrop c1\n", 16) == CAPCHECK_NO_LINE);
-    EXPECT(capcheck_run_step_drop(&judge, c1) == CAPCHECK_GOES_ON && capcheck_run_judge_line(&judge, "end 1\n", 6) == CAPCHECK_GOES_ON);
+    EXPECT(place_step(&judge, CAPCHECK_KIND_DROP, c1, c0) == CAPCHECK_GOES_ON && capcheck_run_judge_line(&judge, "end 1\n", 6) == CAPCHECK_GOES_ON);
     EXPECT(capcheck_run_judge_end(&judge).state == CAPCHECK_YES);
-    EXPECT(capcheck_run_step_drop(&judge, c1) == CAPCHECK_NO); /* a step after the end line */
+    EXPECT(place_step(&judge, CAPCHECK_KIND_DROP, c1, c0) == CAPCHECK_NO); /* a step after the end line */
     EXPECT(capcheck_run_judge_answer(&judge).line == 6 && capcheck_run_judge_answer(&judge).refusal == CAPCHECK_MISPLACED);
-    EXPECT(capcheck_run_step_move(&judge, 1, 2, any()) == CAPCHECK_NO && capcheck_run_judge_answer(&judge).line == 6);
+    EXPECT(step(&judge, CAPCHECK_KIND_MOVE, 1, 2, 0, 0) == CAPCHECK_NO && capcheck_run_judge_answer(&judge).line == 6);
     capcheck_run_judge_close(&judge);
+}
+
+static bool is_cap(capcheck_cap cap, uint64_t high, uint64_t low, uint8_t tag) {
+    return cap.word.high == high && cap.word.low == low && cap.tag == tag;
+}
+
+static bool expects_nothing(const capcheck_run_judge *judge) {
+    capcheck_expected is = capcheck_run_judge_expected(judge);
+    return is.kind == CAPCHECK_EXPECTS_NOTHING && is.number == 0 && is.size == 0 && is_cap(is.cap, 0x00001ffffc018004, 0, 0);
+}
+
+/* What the rules give for a step that records another result. */
+static void expected(void) {
+    capcheck_run_judge judge = CAPCHECK_NO_RUN_JUDGE_YET;
+    capcheck_expected is;
+    EXPECT(expects_nothing(&judge));
+    EXPECT(capcheck_run_judge_open(&judge, usual) == CAPCHECK_GOES_ON && pass(&judge, BEGIN) == CAPCHECK_GOES_ON && expects_nothing(&judge));
+    EXPECT(pass(&judge, "store c1 8 2 1234\nload c1 8 2 = 1235\n") == CAPCHECK_NO);
+    is = capcheck_run_judge_expected(&judge);
+    EXPECT(is.kind == CAPCHECK_EXPECTS_NUMBER && is.number == 0x1234 && is.size == 2 && is_cap(is.cap, 0x00001ffffc018004, 0, 0));
+    EXPECT(capcheck_run_judge_open(&judge, usual) == CAPCHECK_GOES_ON && pass(&judge, BEGIN) == CAPCHECK_GOES_ON);
+    EXPECT(pass(&judge, "setaddr c2 c1 0000000000000010 = 1 " ALL "0000000000000018\n") == CAPCHECK_NO);
+    is = capcheck_run_judge_expected(&judge);
+    EXPECT(is.kind == CAPCHECK_EXPECTS_CAPABILITY && is.number == 0 && is.size == 0 && is_cap(is.cap, 0xffff1ffffc018004, 16, 1));
+    EXPECT(capcheck_run_judge_open(&judge, usual) == CAPCHECK_GOES_ON && pass(&judge, BEGIN "object c2\n") == CAPCHECK_NO && expects_nothing(&judge));
+    capcheck_run_judge_close(&judge);
+    EXPECT(expects_nothing(&judge));
 }
 
 /* The diagnosis, in a room that is too small and in one that isn't. */
@@ -369,7 +409,7 @@ static void reports(void) {
     EXPECT(capcheck_run_judge_report(&judge, text, sizeof text) == 0);
     length = capcheck_run_judge_end_report(&judge, text, sizeof text);
     EXPECT(length > 17 && memcmp(text, "no 4 5 Truncated\n", 17) == 0);
-    EXPECT(capcheck_run_step_object(&judge, 2, 0) == CAPCHECK_NO);
+    EXPECT(step(&judge, CAPCHECK_KIND_OBJECT, 0, 2, 0, 0) == CAPCHECK_NO);
     length = capcheck_run_judge_report(&judge, text, sizeof text);
     EXPECT(length >= strlen(wanted) && memcmp(text, wanted, strlen(wanted)) == 0);
     EXPECT(capcheck_run_judge_report(&judge, text, 1) == length && capcheck_run_judge_end_report(&judge, text, sizeof text) == length);
@@ -401,6 +441,7 @@ int main(int count, char **words) {
     objects();
     holders();
     out_of_range();
+    expected();
     reports();
     asked();
     return failures == 0 ? 0 : 1;

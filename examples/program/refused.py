@@ -49,18 +49,19 @@ class Room:
         if given != wanted:
             self.wrong.append(f"{what}\n  gives  {given}\n  wanted {wanted}")
 
-    def each(self, words, wanted, program="capcheck", spare=False):
+    def each(self, words, wanted, program="capcheck", spare=False, before=(b"",)):
         """Refuses each request of a run in turn, alone and with all later ones, until none is reached. If a run has requests
-        to spare, which ask for more than it needs, one that is refused alone may make no difference."""
-        lacks = (3, b"", f"{program}: no memory\n".encode())
+        to spare, which ask for more than it needs, one that is refused alone may make no difference. A run of several files may
+        have written what it says of those before: then `before` has each text that it may have written."""
+        lacks = [(3, text, f"{program}: no memory\n".encode()) for text in before]
         for number in itertools.count(1):
             ran, made = self.run(words, number, program)
             if made < number:
                 self.wants(f"{words}, no request refused", ran, wanted)
                 return
-            self.wants(f"{words}, request {number} refused", ran, wanted if spare and ran == wanted else lacks)
+            self.wants(f"{words}, request {number} refused", ran, wanted if spare and ran == wanted else ran if ran in lacks else lacks)
             ran = self.run(words, f"{number}+", program)[0]
-            self.wants(f"{words}, request {number} and all later ones refused", ran, lacks)
+            self.wants(f"{words}, request {number} and all later ones refused", ran, ran if ran in lacks else lacks)
 
 
 def each_request(room):
@@ -85,6 +86,40 @@ def each_object(room):
         wanted = room.run(words, program="capdiag")[0]
         room.wants(f"{words}, its verdict", (wanted[0], wanted[1][:12], wanted[2]), (0, b"yes 200 200\n", b""))
         room.each(words, wanted, "capdiag")
+
+
+def run_log(objects):
+    """The lines of a run log that hands out objects of 64 bytes, each with a copy in a page of its own; each second one is freed,
+    and its copies lose their tags."""
+    lines = ["run 1\n", "mode strict\n", f"root c1 {ROOT}\n"]
+    for number in range(1, objects + 1):
+        address, there = 0x1000 + 0x100 * number, f"{0x100000 * number:016x}"
+        word = f"{0xffff << 48 | 0x3ffff << 27 | (address + 64) % 2**12 << 14 | address % 2**14:016x}{address:016x}"
+        lines += [f"setaddr c2 c1 {address:016x} = 1 {ROOT[:16]}{address:016x}\n", f"setbounds c2 c2 0000000000000040 = 1 {word}\n",
+                  "object c2\n", f"setaddr c3 c1 {there} = 1 {ROOT[:16]}{there}\n", "sc c2 c3 0\n"]
+        if number % 2:
+            lines += ["free c2\n", "drop c2\n", f"drop @{there}\n"]
+    return lines
+
+
+def each_run(room):
+    """Each request of the judge of run logs is refused in turn: of an accepted log, of a rejected one, and of several files."""
+    lines = run_log(9)
+    accepted, rejected = [*lines, f"end {len(lines) - 3}\n"], [*lines, "object c1\n", "object c3\n"]
+    for log, orders in (accepted, (["run"], ["run", "log"], ["run", "--owners"], ["run", "--freed", "both", "--owned"], ["why"], ["why", "log"])), \
+                       (rejected, (["run"], ["run", "--why"], ["run", "--why", "--json"], ["run", "--why", "--context", "3"], ["why"],
+                                   ["why", "--json", "--context", "3", "log"])):
+        room.put("log", "".join(log))
+        for words in orders:
+            wanted = room.run(words, program="capdiag")[0]
+            room.wants(f"{words}, its status", (wanted[0], wanted[2]), (0 if log is accepted else 1, b""))
+            room.each(words, wanted, "capdiag", spare=True)
+    room.put("other", "".join(accepted))
+    for words in (["run", "--owners", "other", "log"], ["run", "--why", "log", "other"], ["why", "--context", "2", "other", "log"]):
+        wanted, told = room.run(words, program="capdiag")[0], room.run(words[:-1], program="capdiag")[0][1]
+        name = f"file {words[-2]}\n".encode()
+        first = next(text for text in (told, told.replace(b"\n", b"\n" + name, 1)) if wanted[1].startswith(text))
+        room.each(words, wanted, "capdiag", spare=True, before=(b"", first))
 
 
 def each_page(room):
@@ -122,7 +157,7 @@ def page(room):
 def main():
     with tempfile.TemporaryDirectory() as folder:
         room = Room(folder)
-        for part in (each_request, each_object, each_page, steps, page):
+        for part in (each_request, each_object, each_run, each_page, steps, page):
             part(room)
     print("\n".join([*room.wrong, f"{room.count} answers where memory was refused, {len(room.wrong)} otherwise than is wanted"]))
     return 1 if room.wrong else 0

@@ -168,7 +168,7 @@ _SPECIAL, _OBJECT = ("special", u64, 0, 32), ("object", u64, 0, 2**32)
 _RUN_NUMBERS: dict[str, tuple] = {
     "run_version": (), "root_special": (_SPECIAL,), "derive": (), "exchange": (_TARGET, _SOURCE, _SPECIAL),
     "invoke": (("code", u64, 0, 32), ("datum", u64, 0, 32)), "drop": (), "fill": (("address", u64, 0, 2**64),),
-    "object": (_TARGET, _OBJECT), "free": (("target", u64, 0, 32), _OBJECT),
+    "object": (("source", u64, 1, 32), _OBJECT), "free": (_SOURCE, _OBJECT),
 }
 RANGES |= {name: [(it, least, limit) for it, _, least, limit in numbers] for name, numbers in _RUN_NUMBERS.items()}
 _REST = {"root_special": (Wide,), "derive": (Place, Place, Cap), "exchange": (Cap, Cap), "invoke": (Wide, Wide), "drop": (Place,),
@@ -202,14 +202,15 @@ JUDGE: dict[str, tuple] = {
     "open": (u8, _judge), "line": (u8, _judge, text, size), "lines": (Taken, _judge, pointer, size),
     "answer": (Answer, _judge), "end": (Answer, _judge), "register": (OptionalCap, _judge, u64),
     "granule": (OptionalCap, _judge, u64), "origin": (Place, _judge, Place), "expected": (Expected, _judge),
-    "end_report": (u64, _judge, text, size), "close": (None, _judge),
+    "step": (u8, _judge, c.POINTER(Line)), "end_report": (u64, _judge, text, size), "close": (None, _judge),
 }
 _run_judge = c.POINTER(RunJudge)
 RUN_JUDGE: dict[str, tuple] = {
     "open": (u8, _run_judge, Asks), "line": (u8, _run_judge, text, size), "lines": (Taken, _run_judge, pointer, size),
     "answer": (RunAnswer, _run_judge), "end": (RunAnswer, _run_judge), "held": (OptionalCap, _run_judge, Place),
     "owner": (u32, _run_judge, Place), "object": (Object, _run_judge, u32), "next_object": (u32, _run_judge, u32),
-    "holder": (Place, _run_judge, u32), "end_report": (u64, _run_judge, text, size), "close": (None, _run_judge),
+    "holder": (Place, _run_judge, u32), "expected": (Expected, _run_judge), "end_report": (u64, _run_judge, text, size),
+    "close": (None, _run_judge),
 }
 _recorder = c.POINTER(Recorder)
 RECORDER: dict[str, tuple] = {
@@ -286,7 +287,7 @@ _declare(words, "capcheck_line_", {name: (size, text, *numbers) for name, number
 _declare(judges, "capcheck_judge_", JUDGE)
 _declare(judges, "capcheck_judge_", {name: (u8, _judge, *numbers) for name, numbers in STEPS.items()})
 _declare(judges, "capcheck_run_judge_", RUN_JUDGE)
-_declare(judges, "capcheck_run_step_", {name: (u8, _run_judge, *numbers) for name, numbers in (STEPS | RUN_STEPS).items()})
+_declare(judges, "capcheck_run_", {"step": (u8, _run_judge, c.POINTER(RunLine))})
 _declare(recorders, "capcheck_recorder_", RECORDER)
 _declare(whole_logs, "capcheck_judge_", {"bytes": (Answer, pointer, size)})
 _declare(whole_logs, "capcheck_run_judge_", {"bytes": (RunAnswer, pointer, size, Asks)})

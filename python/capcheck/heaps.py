@@ -8,26 +8,28 @@ from typing import Any, NamedTuple
 from . import _abi
 from ._abi import whole_logs as _whole_logs
 from .judges import _bytes, _checked
+from .words import Refusal
 
 _MOST_TEXT = 1280
 
 
 class HeapVerdict(NamedTuple):
     """The verdict on a log of an allocator; true if the log is accepted. A rejected one has no events and live objects, an
-    accepted one no faulty line and no refusal: they are None. The refusal is its name, such as Overlaps."""
+    accepted one no faulty line and no refusal: they are None."""
     yes: bool
     events: int | None = None
     live: int | None = None
     line: int | None = None
-    number: int | None = None
-    refusal: str | None = None
+    refusal: Refusal | None = None
 
     def __bool__(self) -> bool:
         return self.yes
 
     def __str__(self) -> str:
         """As `capdiag heap` prints it."""
-        return f"yes {self.events} {self.live}" if self.yes else f"no {self.line} {self.number} {self.refusal}"
+        if self.refusal is None:
+            return f"yes {self.events} {self.live}"
+        return f"no {self.line} {self.refusal.value} {self.refusal.title}"
 
 
 def why(log: Any) -> str:
@@ -48,4 +50,4 @@ def judge(log: Any) -> HeapVerdict:
     said, *words = why(log).split("\n", 1)[0].split()
     if said == "yes":
         return HeapVerdict(True, *map(int, words))
-    return HeapVerdict(False, None, None, int(words[0]), int(words[1]), words[2])
+    return HeapVerdict(False, line=int(words[0]), refusal=Refusal(int(words[1])))

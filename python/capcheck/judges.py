@@ -111,7 +111,77 @@ def _verdict(answer: _abi.Answer) -> Verdict:
     return Verdict(False, line=answer.line, refusal=Refusal(answer.refusal))
 
 
-class Judge:
+def _expected(found: _abi.Expected) -> Capability | int | None:
+    if found.kind == _EXPECTS_CAPABILITY:
+        return _capability(found.cap)
+    return found.number if found.kind == _EXPECTS_NUMBER else None
+
+
+class _Steps:
+    """Steps by their numbers: each call does what `feed` does with the line that the function of `lines` writes."""
+
+    def _step(self, name: str, *values: Any) -> bool:
+        raise NotImplementedError
+
+    def __copy__(self) -> Any:
+        raise TypeError(f"a {type(self).__name__} can't be copied: its handle has one owner")
+
+    def __deepcopy__(self, memo: Any) -> Any:
+        return self.__copy__()
+
+    def __reduce__(self) -> Any:
+        raise TypeError(f"a {type(self).__name__} can't be pickled: its state is the library's")
+
+    def move(self, target: int, source: int, recorded: Capability) -> bool:
+        """A copy of a register."""
+        return self._step("move", target, source, _passed(recorded, "recorded"))
+
+    def cleartag(self, target: int, source: int, recorded: Capability) -> bool:
+        """A copy without the tag."""
+        return self._step("cleartag", target, source, _passed(recorded, "recorded"))
+
+    def setbounds(self, target: int, source: int, length: int, recorded: Capability) -> bool:
+        """Bounds of `length` bytes from the address, rounded."""
+        return self._step("setbounds", target, source, length, _passed(recorded, "recorded"))
+
+    def setboundsexact(self, target: int, source: int, length: int, recorded: Capability) -> bool:
+        """Such bounds, refused if they are rounded."""
+        return self._step("setboundsexact", target, source, length, _passed(recorded, "recorded"))
+
+    def setaddr(self, target: int, source: int, address: int, recorded: Capability) -> bool:
+        """Another address."""
+        return self._step("setaddr", target, source, address, _passed(recorded, "recorded"))
+
+    def andperm(self, target: int, source: int, mask: int, recorded: Capability) -> bool:
+        """Permissions are removed: those that the mask lacks."""
+        return self._step("andperm", target, source, _mask(mask), _passed(recorded, "recorded"))
+
+    def seal(self, target: int, source: int, authority: int, recorded: Capability) -> bool:
+        """A capability is sealed by an authority."""
+        return self._step("seal", target, source, authority, _passed(recorded, "recorded"))
+
+    def unseal(self, target: int, source: int, authority: int, recorded: Capability) -> bool:
+        """A capability is unsealed by an authority."""
+        return self._step("unseal", target, source, authority, _passed(recorded, "recorded"))
+
+    def lc(self, target: int, authority: int, offset: int, recorded: Capability) -> bool:
+        """A load of a capability."""
+        return self._step("lc", target, authority, offset, _passed(recorded, "recorded"))
+
+    def sc(self, source: int, authority: int, offset: int) -> bool:
+        """A store of a capability."""
+        return self._step("sc", source, authority, offset)
+
+    def load(self, authority: int, offset: int, size: int, value: int) -> bool:
+        """A load of data."""
+        return self._step("load", authority, offset, size, value)
+
+    def store(self, authority: int, offset: int, size: int, value: int) -> bool:
+        """A store of data."""
+        return self._step("store", authority, offset, size, value)
+
+
+class Judge(_Steps):
     """A judge that is fed the bytes of a log, or its steps, as they are made.
 
         with Judge() as judge:
@@ -194,10 +264,7 @@ class Judge:
     @property
     def expected(self) -> Capability | int | None:
         """After WRONG_RESULT: what the rules give, a capability or the number that is loaded. Otherwise None."""
-        found = _c.capcheck_judge_expected(self._open)
-        if found.kind == _EXPECTS_CAPABILITY:
-            return _capability(found.cap)
-        return found.number if found.kind == _EXPECTS_NUMBER else None
+        return _expected(_c.capcheck_judge_expected(self._open))
 
     def register(self, number: int) -> Capability:
         """What the model holds in a register, 0 to 31; after a faulty line, what it held before that line."""
@@ -220,8 +287,6 @@ class Judge:
             return f"c{found.number}"
         return f"@{found.number:016x}" if found.kind == _GRANULE else None
 
-    # ---- Steps by their numbers: each does what feed does with the line that the function of `lines` writes ----
-
     def _step(self, name: str, *values: Any) -> bool:
         pointer = self._open
         if self._rest:
@@ -231,54 +296,6 @@ class Judge:
         if state == State.NO_LINE:
             raise _abi.refused(name, values)
         return self._passes(state)
-
-    def move(self, target: int, source: int, recorded: Capability) -> bool:
-        """A copy of a register."""
-        return self._step("move", target, source, _passed(recorded, "recorded"))
-
-    def cleartag(self, target: int, source: int, recorded: Capability) -> bool:
-        """A copy without the tag."""
-        return self._step("cleartag", target, source, _passed(recorded, "recorded"))
-
-    def setbounds(self, target: int, source: int, length: int, recorded: Capability) -> bool:
-        """Bounds of `length` bytes from the address, rounded."""
-        return self._step("setbounds", target, source, length, _passed(recorded, "recorded"))
-
-    def setboundsexact(self, target: int, source: int, length: int, recorded: Capability) -> bool:
-        """Such bounds, refused if they are rounded."""
-        return self._step("setboundsexact", target, source, length, _passed(recorded, "recorded"))
-
-    def setaddr(self, target: int, source: int, address: int, recorded: Capability) -> bool:
-        """Another address."""
-        return self._step("setaddr", target, source, address, _passed(recorded, "recorded"))
-
-    def andperm(self, target: int, source: int, mask: int, recorded: Capability) -> bool:
-        """Permissions are removed: those that the mask lacks."""
-        return self._step("andperm", target, source, _mask(mask), _passed(recorded, "recorded"))
-
-    def seal(self, target: int, source: int, authority: int, recorded: Capability) -> bool:
-        """A capability is sealed by an authority."""
-        return self._step("seal", target, source, authority, _passed(recorded, "recorded"))
-
-    def unseal(self, target: int, source: int, authority: int, recorded: Capability) -> bool:
-        """A capability is unsealed by an authority."""
-        return self._step("unseal", target, source, authority, _passed(recorded, "recorded"))
-
-    def lc(self, target: int, authority: int, offset: int, recorded: Capability) -> bool:
-        """A load of a capability."""
-        return self._step("lc", target, authority, offset, _passed(recorded, "recorded"))
-
-    def sc(self, source: int, authority: int, offset: int) -> bool:
-        """A store of a capability."""
-        return self._step("sc", source, authority, offset)
-
-    def load(self, authority: int, offset: int, size: int, value: int) -> bool:
-        """A load of data."""
-        return self._step("load", authority, offset, size, value)
-
-    def store(self, authority: int, offset: int, size: int, value: int) -> bool:
-        """A store of data."""
-        return self._step("store", authority, offset, size, value)
 
 
 def judge_bytes(log: Any) -> Verdict:

@@ -16,7 +16,7 @@ _MANY = 1024
 
 
 class Kind(IntEnum):
-    """The kinds of lines, named like the functions that write them; from DERIVE on, those of `runs`."""
+    """The kinds of lines, named like the functions that write them; those of `runs` from 64 on."""
     VERSION = 1
     MODE = 2
     ROOT = 3
@@ -34,15 +34,15 @@ class Kind(IntEnum):
     LOAD = 15
     STORE = 16
     END = 17
-    DERIVE = 18
-    EXCHANGE = 19
-    INVOKE = 20
-    DROP = 21
-    FILL = 22
-    OBJECT = 23
-    FREE = 24
-    RUN_VERSION = 25
-    ROOT_SPECIAL = 26
+    DERIVE = 64
+    EXCHANGE = 65
+    INVOKE = 66
+    DROP = 67
+    FILL = 68
+    OBJECT = 69
+    FREE = 70
+    RUN_VERSION = 71
+    ROOT_SPECIAL = 72
 
     @property
     def word(self) -> str:

@@ -198,13 +198,13 @@ class Recorder:
             raise ValueError(f"a granule has 16 bytes, and not {len(memory)}")
         self._done(_c.capcheck_recorder_filled(self._pointer, _number(address, "address"), bytes(memory)))
 
-    def object(self, target: int, number: int = 0) -> None:
+    def object(self, source: int, number: int = 0) -> None:
         """What a register holds is a new object's, or also that of the object with a number."""
-        self._done(_c.capcheck_recorder_object(self._pointer, _number(target, "target"), _number(number, "number")))
+        self._done(_c.capcheck_recorder_object(self._pointer, _number(source, "source"), _number(number, "number")))
 
-    def freed(self, target: int, number: int = 0) -> None:
+    def freed(self, source: int, number: int = 0) -> None:
         """The object that owns a register is freed; or, of the register 0, the object with a number."""
-        self._done(_c.capcheck_recorder_freed(self._pointer, _number(target, "target"), _number(number, "number")))
+        self._done(_c.capcheck_recorder_freed(self._pointer, _number(source, "source"), _number(number, "number")))
 
     def line(self, line: bytes) -> None:
         """Records a step by its line. Integers in the registers that it reads are told before."""

@@ -11,7 +11,7 @@ from typing import Any, NamedTuple
 
 from . import _abi, lines
 from ._abi import judges as _c, whole_logs as _whole_logs, words as _words
-from .judges import _REPORT_SIZE, Rejected, State, _bytes, _checked
+from .judges import _REPORT_SIZE, Rejected, State, _Steps, _bytes, _checked, _expected
 from .lines import Kind, _write
 from .words import Capability, Refusal, _address, _capability, _mask, _passed
 
@@ -87,14 +87,14 @@ def fill(address: int, cap: Capability) -> bytes:
     return _write("fill", address, _passed(cap, "cap").word)
 
 
-def hand_out(target: int, number: int = 0) -> bytes:
+def hand_out(source: int, number: int = 0) -> bytes:
     """What a register holds is a new object's, or also that of the object with a number."""
-    return _write("object", target, number)
+    return _write("object", source, number)
 
 
-def free(target: int, number: int = 0) -> bytes:
+def free(source: int, number: int = 0) -> bytes:
     """The object that owns a register is freed; or, of the register 0, the object with a number."""
-    return _write("free", target, number)
+    return _write("free", source, number)
 
 
 _LINES = {Kind.RUN_VERSION: version, Kind.DERIVE: derive, Kind.EXCHANGE: exchange, Kind.INVOKE: invoke, Kind.DROP: drop,
@@ -133,6 +133,26 @@ def _operands(found: _abi.RunLine) -> tuple[Any, ...]:
     named = lines.Line._fields
     numbers = [getattr(line, it if it in named else "number") for it, _, _ in _abi.RANGES[Kind(kind).name.lower()]]
     return (*numbers, *([cap] if len(_abi.LINES[Kind(kind).name.lower()]) > len(numbers) else []))
+
+
+def _made(line: RunLine) -> _abi.RunLine:
+    """A step as C takes it: the inverse of `_operands`."""
+    made, kind, it = _abi.RunLine(), line.kind, line.operands
+    into = made.line
+    into.kind = kind
+    if kind is Kind.DERIVE:
+        made.target, made.source, into.cap = _place(it[0]), _place(it[1]), _passed(it[2], "recorded")
+    elif kind is Kind.DROP:
+        made.target = _place(it[0])
+    elif kind is Kind.INVOKE:
+        into.source, into.authority, into.cap, made.second = it[0], it[1], _passed(it[2], "code_cap"), _passed(it[3], "datum_cap")
+    else:
+        numbers = _abi.RANGES[kind.name.lower()]
+        for (name, _, _), value in zip(numbers, it):
+            setattr(into, name if name in lines.Line._fields else "number", _mask(value) if name == "mask" else value)
+        for name, value in zip(("cap", "second"), it[len(numbers):]):
+            setattr(into if name == "cap" else made, name, _passed(value, "cap" if kind is Kind.FILL else "recorded"))
+    return made
 
 
 def read(log: Any) -> Iterator[RunLine]:
@@ -199,7 +219,7 @@ def _asks(freed: str, owned: bool) -> _abi.Asks:
     return _abi.Asks(*_FREED_CHOICES[freed], bool(owned))
 
 
-class RunJudge:
+class RunJudge(_Steps):
     """A judge that is fed the bytes of a run log, or its steps, as they are made.
 
         with RunJudge() as judge:
@@ -262,19 +282,23 @@ class RunJudge:
 
     def step(self, line: RunLine) -> bool:
         """Passes a step by its numbers: any line of a run log but the header, the roots and the end, which `feed` takes."""
+        if not isinstance(line, RunLine):
+            raise TypeError(f"a step is a RunLine, and not {type(line).__name__}")
         name = line.kind.name.lower()
         if name not in _abi.STEPS and name not in _abi.RUN_STEPS:
             raise ValueError(f"{name} isn't a step")
+        return self._pass(name, line)
+
+    def _step(self, name: str, *values: Any) -> bool:
+        """A step of other logs, as the calls of `Judge` pass it."""
+        return self._pass(name, RunLine(Kind[name.upper()], tuple(_capability(it) if isinstance(it, _abi.Cap) else it for it in values)))
+
+    def _pass(self, name: str, line: RunLine) -> bool:
+        pointer = self._open
         if self._rest:
             raise ValueError("the last line that was fed is incomplete")
-        if name in _abi.STEPS:
-            _abi.check(name, line.operands)
-        values = [_place(it) if isinstance(it, str) else it._cap if isinstance(it, Capability) else it for it in line.operands]
-        if line.kind is Kind.ANDPERM:
-            values[2] = _mask(values[2])
-        if line.kind in (Kind.INVOKE, Kind.FILL):
-            values = [it.word if isinstance(it, _abi.Cap) else it for it in values]
-        state = getattr(_c, f"capcheck_run_step_{name}")(self._open, *values)
+        _abi.check(name, line.operands)
+        state = _c.capcheck_run_step(pointer, ctypes.byref(_made(line)))
         if state == State.NO_LINE:
             raise _abi.refused(name, tuple(line.operands))
         return self._passes(state)
@@ -298,6 +322,22 @@ class RunJudge:
         text = ctypes.create_string_buffer(_REPORT_SIZE)
         length = _c.capcheck_run_judge_end_report(self._open, text, _REPORT_SIZE)
         return text.raw[:length].decode()
+
+    @property
+    def expected(self) -> Capability | int | None:
+        """After WRONG_RESULT of a step of other logs: what the rules give, a capability or the number that is loaded. Otherwise
+        None."""
+        return _expected(_c.capcheck_run_judge_expected(self._open))
+
+    def register(self, number: int) -> Capability:
+        """What a register holds, 0 to 31; after a faulty line, what it held before that line."""
+        if not 0 <= index(number) < 32:
+            raise ValueError(f"register {number} isn't from 0 to 31")
+        return _capability(_c.capcheck_run_judge_held(self._open, _abi.Place(number, _REGISTER)).cap)
+
+    def granule(self, address: int) -> Capability:
+        """The same of the granule (16 aligned bytes of memory) that contains an address."""
+        return _capability(_c.capcheck_run_judge_held(self._open, _abi.Place(_address(address), _GRANULE)).cap)
 
     def held(self, place: str) -> Capability:
         """What a place holds, other than c0; after a faulty line, what it held before that line."""

@@ -7,7 +7,7 @@ from collections.abc import Callable, Iterator
 from contextlib import suppress
 from typing import Any
 
-from . import lines, runs
+from . import _abi, lines, runs
 from .judges import Judge, _bytes, judge_bytes, why
 from .lines import Kind
 from .words import NULL, Capability
@@ -114,7 +114,7 @@ def _places(line: runs.RunLine, addresses: dict[str, int]) -> tuple[list[str], l
         return sources, [f"c{it[0]}"] if kind == Kind.LC else [granule] if kind in (Kind.SC, Kind.STORE) else []
     elif kind in (Kind.SEAL, Kind.UNSEAL):
         sources, written = [f"c{it[1]}", f"c{it[2]}"], {f"c{it[0]}": it[3]}
-    elif Kind.MOVE <= kind <= Kind.ANDPERM:
+    elif kind.name.lower() in _abi.STEPS:
         sources, written = [f"c{it[1]}"], {f"c{it[0]}": it[-1]}
     else:
         return [], []

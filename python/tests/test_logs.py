@@ -1,4 +1,5 @@
 """Logs: reading and writing lines, judging, diagnoses, shortening. python/check.sh sets CAPDIAG, a built program."""
+import copy
 import io
 import mmap
 import os
@@ -335,6 +336,37 @@ class RunLogs(unittest.TestCase):
                       lambda: runs.hand_out(0), lambda: runs.exchange(0, 1, 0, root, root), lambda: RunJudge("never")):
             self.assertRaises(ValueError, wrong)
 
+    def test_calls_of_a_judge(self):
+        root, part = Capability.root(), Capability.root(0x1000, 64)
+        moved, start = root.set_address(0x1000), runs.version() + lines.mode("clear") + runs.root("c1", root)
+        with RunJudge() as judge:
+            self.assertTrue(judge.feed(start) and judge.expected is None)
+            self.assertTrue(judge.setaddr(2, 1, 0x1000, moved) and judge.setboundsexact(2, 2, 64, part) and judge.sc(2, 2, 16))
+            self.assertTrue(judge.andperm(3, 2, ~0, part) and judge.lc(4, 2, 16, part) and judge.cleartag(5, 2, part.clear_tag()))
+            self.assertTrue(judge.store(2, 0, 2, 0x1234) and judge.load(2, 1, 1, 0x12))
+            self.assertEqual((judge.register(2), judge.register(0), judge.granule(0x1018)), (part, NULL, part))
+            self.assertFalse(judge.load(2, 0, 2, 0x1235))
+            self.assertEqual((judge.expected, judge.verdict.refusal), (0x1234, Refusal.WRONG_RESULT))
+        with RunJudge() as judge:
+            self.assertTrue(judge.feed(start))
+            self.assertFalse(judge.move(2, 1, moved))
+            self.assertEqual(judge.expected, root)
+        for number in (-1, 32, 257, 2**32 + 1, 2**64 + 1):
+            with RunJudge() as judge:
+                for wrong in (lambda: judge.move(number, 1, root), lambda: judge.load(1, 0, number, 0), lambda: judge.sc(1, number, 0),
+                              lambda: judge.step(capcheck.RunLine(Kind.OBJECT, (number, 0))), lambda: judge.register(number),
+                              lambda: judge.step(capcheck.RunLine(Kind.EXCHANGE, (1, 1, number, root, root)))):
+                    self.assertRaises(ValueError, wrong)
+        with RunJudge() as judge:
+            self.assertRaises(TypeError, judge.step, None)
+            self.assertRaises(TypeError, judge.step, capcheck.RunLine(Kind.MOVE, (1, 1, None)))
+
+    def test_copies(self):
+        for judge in (Judge(), RunJudge()):
+            for copied in (copy.copy, copy.deepcopy, pickle.dumps):
+                self.assertRaisesRegex(TypeError, type(judge).__name__, copied, judge)
+            self.assertIsNone(judge.verdict)
+
 
 class Heaps(unittest.TestCase):
     def test_corpus(self):
@@ -346,7 +378,8 @@ class Heaps(unittest.TestCase):
     def test_values(self):
         start = b"heap 1\nroot 0000000000001000 00000000000100000\nmalloc 0000000000001000 0000000000001001\n"
         verdict = heaps.judge(io.BytesIO(start + b"malloc 0000000000002001 0000000000000010\nend 2\n"))
-        self.assertEqual((bool(verdict), verdict.line, verdict.refusal, verdict.live), (False, 4, "Overlaps", None))
+        self.assertEqual((bool(verdict), verdict.line, verdict.refusal, verdict.live), (False, 4, Refusal.OVERLAPS, None))
+        self.assertEqual(Refusal.NOT_LIVE.sentence, "No object lives at the address that is freed.")
         verdict = heaps.judge(memoryview(start + b"end 1\n"))
         self.assertEqual((bool(verdict), verdict.events, verdict.live, verdict.refusal), (True, 1, 1, None))
         self.assertRaises(TypeError, heaps.why, "a log")

@@ -1,40 +1,10 @@
 //! Logs of allocators: whether each live object can have a capability whose bounds reach no other object.
 use crate::abi;
 use crate::judges::{Fault, NO, YES};
+use crate::refusals::Refusal;
 use std::fmt;
 
 const TEXT_SIZE: usize = 1280;
-
-macro_rules! heap_refusals {
-    ($($name:ident = $number:literal),+ $(,)?) => {
-        /// Why a line of an allocator's log is refused. The numbers and names are those of a verdict of `capdiag heap`.
-        #[derive(Clone, Copy, Debug, PartialEq, Eq, Hash)]
-        #[repr(u8)]
-        #[allow(missing_docs)]
-        pub enum HeapRefusal { $($name = $number),+ }
-
-        impl HeapRefusal {
-            /// The refusal with a number; none for any other number.
-            pub fn of(number: u8) -> Option<HeapRefusal> {
-                match number {
-                    $($number => Some(HeapRefusal::$name),)+
-                    _ => None,
-                }
-            }
-        }
-    };
-}
-
-heap_refusals! {
-    BadHeader = 1, LineTooLong = 2, BadLine = 3, Misplaced = 4, Truncated = 5, WrongCount = 6, LimitPassed = 24,
-    AddressTaken = 26, OutsideHeap = 27, Overlaps = 28, NotLive = 29,
-}
-
-impl fmt::Display for HeapRefusal {
-    fn fmt(&self, to: &mut fmt::Formatter<'_>) -> fmt::Result {
-        to.pad(&format!("{self:?}"))
-    }
-}
 
 /// The verdict on a log of an allocator. It is displayed as `capdiag heap` prints it.
 #[derive(Clone, Copy, Debug, PartialEq, Eq, Hash)]
@@ -51,7 +21,7 @@ pub enum HeapVerdict {
         /// The number of the faulty line, counted from 1.
         line: u64,
         /// The first check that this line fails.
-        refusal: HeapRefusal,
+        refusal: Refusal,
     },
 }
 
@@ -77,7 +47,7 @@ pub fn explain_heap_bytes(log: &[u8]) -> Result<(HeapVerdict, String), Fault> {
     let abi::HeapAnswer { line, live, events, state, refusal } = found.answer;
     let verdict = match state {
         YES => HeapVerdict::Yes { events, live },
-        NO => HeapVerdict::No { line, refusal: HeapRefusal::of(refusal).expect("a refused line has a refusal") },
+        NO => HeapVerdict::No { line, refusal: Refusal::of(refusal).expect("a refused line has a refusal") },
         _ => return Err(Fault::NoMemory),
     };
     Ok((verdict, String::from_utf8_lossy(&text[..found.length as usize]).into_owned()))

@@ -92,6 +92,16 @@ pub enum Expected {
     },
 }
 
+impl Expected {
+    pub(crate) fn of(found: abi::Expected) -> Option<Expected> {
+        match found.kind {
+            1 => Some(Expected::Capability(found.cap.into())),
+            2 => Some(Expected::Number { number: found.number, size: found.size }),
+            _ => None,
+        }
+    }
+}
+
 fn refusal_of(answer: abi::Answer) -> Refusal {
     Refusal::of(answer.refusal).expect("a refused line has a refusal")
 }
@@ -143,7 +153,8 @@ impl Judge {
     }
 
     /// Passes the whole lines that some bytes begin with, and returns how many bytes they have: pass the rest again, with more
-    /// after it. After [`Fault::NoMemory`], [`Judge::lines_taken`] says how far it came.
+    /// after it. If the log ends there and the verdict is a yes, pass the rest with a line feed: nothing may follow the end line.
+    /// After [`Fault::NoMemory`], [`Judge::lines_taken`] says how far it came.
     pub fn lines(&mut self, bytes: &[u8]) -> Result<usize, Fault> {
         let (taken, state) = self.lines_taken(bytes);
         state.map(|()| taken)
@@ -157,45 +168,10 @@ impl Judge {
 
     /// Passes the next line by its numbers. No text is made of a step that passes.
     pub fn pass(&mut self, line: &Line) -> Result<(), Fault> {
-        let judge = self.judge.get();
-        let state = unsafe {
-            match *line {
-                Line::Move { target, source, recorded } => abi::capcheck_judge_move(judge, target, source, recorded.into()),
-                Line::ClearTag { target, source, recorded } => {
-                    abi::capcheck_judge_cleartag(judge, target, source, recorded.into())
-                }
-                Line::SetBounds { target, source, length, recorded } => {
-                    abi::capcheck_judge_setbounds(judge, target, source, length, recorded.into())
-                }
-                Line::SetBoundsExact { target, source, length, recorded } => {
-                    abi::capcheck_judge_setboundsexact(judge, target, source, length, recorded.into())
-                }
-                Line::SetAddress { target, source, address, recorded } => {
-                    abi::capcheck_judge_setaddr(judge, target, source, address, recorded.into())
-                }
-                Line::AndPermissions { target, source, mask, recorded } => {
-                    abi::capcheck_judge_andperm(judge, target, source, mask, recorded.into())
-                }
-                Line::Seal { target, source, authority, recorded } => {
-                    abi::capcheck_judge_seal(judge, target, source, authority, recorded.into())
-                }
-                Line::Unseal { target, source, authority, recorded } => {
-                    abi::capcheck_judge_unseal(judge, target, source, authority, recorded.into())
-                }
-                Line::LoadCapability { target, authority, offset, recorded } => {
-                    abi::capcheck_judge_lc(judge, target, authority, offset, recorded.into())
-                }
-                Line::StoreCapability { source, authority, offset } => abi::capcheck_judge_sc(judge, source, authority, offset),
-                Line::Load { authority, offset, size, value } => abi::capcheck_judge_load(judge, authority, offset, size, value),
-                Line::Store { authority, offset, size, value } => {
-                    abi::capcheck_judge_store(judge, authority, offset, size, value)
-                }
-                Line::Version(_) | Line::Mode { .. } | Line::Root { .. } | Line::RootAt { .. } | Line::End { .. } => {
-                    return self.line(&line.write().map_err(|_| Fault::NoLine)?);
-                }
-            }
-        };
-        self.passed(state)
+        match line.step() {
+            Some(step) => self.passed(unsafe { abi::capcheck_judge_step(self.judge.get(), &step) }),
+            None => self.line(&line.write().map_err(|_| Fault::NoLine)?),
+        }
     }
 
     /// The verdict on the lines so far as a whole log. More may follow.
@@ -239,12 +215,7 @@ impl Judge {
 
     /// After [`Refusal::WrongResult`], what the rules give.
     pub fn expected(&self) -> Option<Expected> {
-        let found = unsafe { abi::capcheck_judge_expected(self.judge.get()) };
-        match found.kind {
-            1 => Some(Expected::Capability(found.cap.into())),
-            2 => Some(Expected::Number { number: found.number, size: found.size }),
-            _ => None,
-        }
+        Expected::of(unsafe { abi::capcheck_judge_expected(self.judge.get()) })
     }
 
     /// What `capdiag why` prints of the lines so far as a whole log: the verdict, and after a `no` the diagnosis.

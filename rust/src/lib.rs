@@ -32,14 +32,14 @@ mod refusals;
 mod runs;
 mod words;
 
-pub use heaps::{explain_heap_bytes, judge_heap_bytes, HeapRefusal, HeapVerdict};
+pub use heaps::{explain_heap_bytes, judge_heap_bytes, HeapVerdict};
 pub use judges::{judge_bytes, Expected, Fault, Judge, Place, Verdict};
 pub use lines::{read_lines, Line, LineText, OutOfRange, ReadLines};
 pub use refusals::Refusal;
 pub use runs::{judge_run_bytes, Asks, Object, RunJudge, RunLine, RunPlace, RunVerdict};
 pub use words::*;
 
-/// The version of the libraries, such as `1.2.0`.
+/// The version of the libraries, such as `1.3.0-dev`.
 pub fn version() -> String {
     abi::text(&unsafe { abi::capcheck_version() }.text)
 }

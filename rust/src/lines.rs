@@ -185,6 +185,33 @@ impl Line {
         }
     }
 
+    /// A step as C takes it by its kind; none for a line that is no step.
+    pub(crate) fn step(&self) -> Option<abi::Line> {
+        Some(match *self {
+            Line::Move { target, source, recorded } => recording(5, target, source, 0, recorded),
+            Line::ClearTag { target, source, recorded } => recording(6, target, source, 0, recorded),
+            Line::SetBounds { target, source, length, recorded } => recording(7, target, source, length, recorded),
+            Line::SetBoundsExact { target, source, length, recorded } => recording(8, target, source, length, recorded),
+            Line::SetAddress { target, source, address, recorded } => recording(9, target, source, address, recorded),
+            Line::AndPermissions { target, source, mask, recorded } => recording(10, target, source, mask, recorded),
+            Line::Seal { target, source, authority, recorded } => {
+                abi::Line { authority: register(authority), ..recording(11, target, source, 0, recorded) }
+            }
+            Line::Unseal { target, source, authority, recorded } => {
+                abi::Line { authority: register(authority), ..recording(12, target, source, 0, recorded) }
+            }
+            Line::LoadCapability { target, authority, offset, recorded } => {
+                abi::Line { cap: recorded.into(), target: register(target), ..access(13, authority, offset, 0, 0) }
+            }
+            Line::StoreCapability { source, authority, offset } => {
+                abi::Line { source: register(source), ..access(14, authority, offset, 0, 0) }
+            }
+            Line::Load { authority, offset, size, value } => access(15, authority, offset, size, value),
+            Line::Store { authority, offset, size, value } => access(16, authority, offset, size, value),
+            Line::Version(_) | Line::Mode { .. } | Line::Root { .. } | Line::RootAt { .. } | Line::End { .. } => return None,
+        })
+    }
+
     /// Reads the line at the front of some bytes, with its line feed: the line and its length, or none.
     pub fn read(bytes: &[u8]) -> Option<(Line, usize)> {
         let found = unsafe { abi::capcheck_read_line(bytes.as_ptr(), bytes.len()) };
@@ -218,6 +245,23 @@ impl Line {
             _ => return None,
         })
     }
+}
+
+/// A register as C takes it; of a number above 255 it is 255, which is no register either.
+pub(crate) fn register(number: u64) -> u8 {
+    u8::try_from(number).unwrap_or(u8::MAX)
+}
+
+/// A line of a kind that has these registers, this number and this capability.
+pub(crate) fn recording(kind: u8, target: u64, source: u64, number: u64, cap: Capability) -> abi::Line {
+    let (target, source) = (register(target), register(source));
+    abi::Line { cap: cap.into(), number, length: 0, offset: 0, kind, target, source, authority: 0, size: 0 }
+}
+
+/// A step that accesses memory. An offset or a size that C's types don't have is out of range for C too.
+fn access(kind: u8, authority: u64, offset: i64, size: u64, number: u64) -> abi::Line {
+    let (offset, size) = (i16::try_from(offset).unwrap_or(i16::MAX), u8::try_from(size).unwrap_or(u8::MAX));
+    abi::Line { authority: register(authority), offset, size, ..recording(kind, 0, 0, number, Capability::NULL) }
 }
 
 /// The lines of some bytes, one after another.

@@ -4,8 +4,8 @@ use std::{error, fmt};
 
 macro_rules! refusals {
     ($($name:ident = $number:literal),+ $(,)?) => {
-        /// Why an operation, an access or a line is refused. The numbers are those of a verdict of `capcheck judge`
-        /// or `capdiag run`.
+        /// Why an operation, an access or a line is refused. The numbers are those of a verdict of `capcheck judge`,
+        /// `capdiag run` or `capdiag heap`.
         #[derive(Clone, Copy, Debug, PartialEq, Eq, Hash)]
         #[repr(u8)]
         #[allow(missing_docs)]
@@ -28,7 +28,7 @@ refusals! {
     UnsoundRoot = 8, SourceUntagged = 9, SourceSealed = 10, BoundsEscape = 11, NotExact = 12, NotRepresentable = 13,
     AuthorityUntagged = 14, AuthoritySealed = 15, AuthorityPermission = 16, AuthorityBounds = 17, TypeOutOfRange = 18,
     TypeMismatch = 19, Misaligned = 20, StoreCapPermission = 21, StoreLocalPermission = 22, WrongResult = 23,
-    LimitPassed = 24, BadMode = 25, Overlaps = 28, UnsoundResult = 30, BeyondSource = 31, SealChanged = 32, NotInvokable = 33,
+    LimitPassed = 24, BadMode = 25, AddressTaken = 26, OutsideHeap = 27, Overlaps = 28, NotLive = 29, UnsoundResult = 30, BeyondSource = 31, SealChanged = 32, NotInvokable = 33,
     NoCapability = 34, HasOwner = 35, StillHeld = 36, NoOwner = 37, AlreadyFreed = 38, OwnerFreed = 39, NoObject = 40,
     NotOwned = 41, BadArgument = 255,
 }

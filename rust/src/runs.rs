@@ -1,7 +1,7 @@
 //! Run logs: their lines, their judge, and the objects that own what places hold.
 use crate::abi;
-use crate::judges::{Fault, GOES_ON, NO, NO_MEMORY, REPORT_SIZE, YES};
-use crate::lines::{Line, LineText, OutOfRange};
+use crate::judges::{Expected, Fault, GOES_ON, NO, NO_MEMORY, REPORT_SIZE, YES};
+use crate::lines::{recording, register, Line, LineText, OutOfRange};
 use crate::refusals::Refusal;
 use crate::words::{to_word, Capability};
 use std::cell::UnsafeCell;
@@ -109,14 +109,14 @@ pub enum RunLine {
     /// What a register holds is a new object's if `object` is 0; otherwise it is also that of the object with this number.
     Object {
         /// The register.
-        target: u64,
+        source: u64,
         /// An object's number, or 0.
         object: u64,
     },
     /// Frees the object that owns a register; or, of the register 0, the object with a number.
     Free {
         /// The register, or 0.
-        target: u64,
+        source: u64,
         /// An object's number, or 0.
         object: u64,
     },
@@ -147,9 +147,34 @@ impl RunLine {
                 }
                 RunLine::Drop(place) => abi::capcheck_line_drop(to, place.into()),
                 RunLine::Fill { address, word } => abi::capcheck_line_fill(to, address, to_word(word)),
-                RunLine::Object { target, object } => abi::capcheck_line_object(to, target, object),
-                RunLine::Free { target, object } => abi::capcheck_line_free(to, target, object),
+                RunLine::Object { source, object } => abi::capcheck_line_object(to, source, object),
+                RunLine::Free { source, object } => abi::capcheck_line_free(to, source, object),
             }
+        })
+    }
+
+    /// A step as C takes it by its kind; none for a line that is no step.
+    fn step(&self) -> Option<abi::RunLine> {
+        let (none, null) = (abi::Place { number: 0, kind: 0 }, Capability::NULL);
+        let tagged = |word| Capability::new(word, true);
+        let alone = |line| abi::RunLine { line, second: null.into(), target: none, source: none };
+        Some(match *self {
+            RunLine::Usual(line) => alone(line.step()?),
+            RunLine::Derive { target, source, recorded } => {
+                abi::RunLine { target: target.into(), source: source.into(), ..alone(recording(64, 0, 0, 0, recorded)) }
+            }
+            RunLine::Exchange { target, source, special, recorded, special_recorded } => {
+                abi::RunLine { second: special_recorded.into(), ..alone(recording(65, target, source, special, recorded)) }
+            }
+            RunLine::Invoke { code, datum, code_word, datum_word } => {
+                let line = abi::Line { authority: register(datum), ..recording(66, 0, code, 0, tagged(code_word)) };
+                abi::RunLine { second: tagged(datum_word).into(), ..alone(line) }
+            }
+            RunLine::Drop(place) => abi::RunLine { target: place.into(), ..alone(recording(67, 0, 0, 0, null)) },
+            RunLine::Fill { address, word } => alone(recording(68, 0, 0, address, Capability::new(word, false))),
+            RunLine::Object { source, object } => alone(recording(69, 0, source, object, null)),
+            RunLine::Free { source, object } => alone(recording(70, 0, source, object, null)),
+            RunLine::Version | RunLine::RootSpecial { .. } => return None,
         })
     }
 
@@ -160,18 +185,18 @@ impl RunLine {
         let (target, source, recorded) = (it.target.into(), it.source.into(), Capability::from(it.cap));
         let second = Capability::from(found.second);
         let line = match it.kind {
-            18 => RunLine::Derive { target: place_of(found.target)?, source: place_of(found.source)?, recorded },
-            19 => RunLine::Exchange { target, source, special: it.number, recorded, special_recorded: second },
-            20 => {
+            64 => RunLine::Derive { target: place_of(found.target)?, source: place_of(found.source)?, recorded },
+            65 => RunLine::Exchange { target, source, special: it.number, recorded, special_recorded: second },
+            66 => {
                 let datum = it.authority.into();
                 RunLine::Invoke { code: source, datum, code_word: recorded.word(), datum_word: second.word() }
             }
-            21 => RunLine::Drop(place_of(found.target)?),
-            22 => RunLine::Fill { address: it.number, word: recorded.word() },
-            23 => RunLine::Object { target: source, object: it.number },
-            24 => RunLine::Free { target: source, object: it.number },
-            25 => RunLine::Version,
-            26 => RunLine::RootSpecial { special: target, word: recorded.word() },
+            67 => RunLine::Drop(place_of(found.target)?),
+            68 => RunLine::Fill { address: it.number, word: recorded.word() },
+            69 => RunLine::Object { source, object: it.number },
+            70 => RunLine::Free { source, object: it.number },
+            71 => RunLine::Version,
+            72 => RunLine::RootSpecial { special: target, word: recorded.word() },
             _ => RunLine::Usual(Line::of(it)?),
         };
         Some((line, it.length))
@@ -309,7 +334,8 @@ impl RunJudge {
     }
 
     /// Passes the whole lines that some bytes begin with, and returns how many bytes they have: pass the rest again, with more
-    /// after it. After [`Fault::NoMemory`], [`RunJudge::lines_taken`] says how far it came.
+    /// after it. If the log ends there and the verdict is a yes, pass the rest with a line feed: nothing may follow the end line.
+    /// After [`Fault::NoMemory`], [`RunJudge::lines_taken`] says how far it came.
     pub fn lines(&mut self, bytes: &[u8]) -> Result<usize, Fault> {
         let (taken, state) = self.lines_taken(bytes);
         state.map(|()| taken)
@@ -323,65 +349,11 @@ impl RunJudge {
 
     /// Passes the next line by its numbers. No text is made of a step that passes.
     pub fn pass(&mut self, line: impl Into<RunLine>) -> Result<(), Fault> {
-        let (line, judge) = (line.into(), self.judge.get());
-        let state = unsafe {
-            match line {
-                RunLine::Usual(Line::Move { target, source, recorded }) => {
-                    abi::capcheck_run_step_move(judge, target, source, recorded.into())
-                }
-                RunLine::Usual(Line::ClearTag { target, source, recorded }) => {
-                    abi::capcheck_run_step_cleartag(judge, target, source, recorded.into())
-                }
-                RunLine::Usual(Line::SetBounds { target, source, length, recorded }) => {
-                    abi::capcheck_run_step_setbounds(judge, target, source, length, recorded.into())
-                }
-                RunLine::Usual(Line::SetBoundsExact { target, source, length, recorded }) => {
-                    abi::capcheck_run_step_setboundsexact(judge, target, source, length, recorded.into())
-                }
-                RunLine::Usual(Line::SetAddress { target, source, address, recorded }) => {
-                    abi::capcheck_run_step_setaddr(judge, target, source, address, recorded.into())
-                }
-                RunLine::Usual(Line::AndPermissions { target, source, mask, recorded }) => {
-                    abi::capcheck_run_step_andperm(judge, target, source, mask, recorded.into())
-                }
-                RunLine::Usual(Line::Seal { target, source, authority, recorded }) => {
-                    abi::capcheck_run_step_seal(judge, target, source, authority, recorded.into())
-                }
-                RunLine::Usual(Line::Unseal { target, source, authority, recorded }) => {
-                    abi::capcheck_run_step_unseal(judge, target, source, authority, recorded.into())
-                }
-                RunLine::Usual(Line::LoadCapability { target, authority, offset, recorded }) => {
-                    abi::capcheck_run_step_lc(judge, target, authority, offset, recorded.into())
-                }
-                RunLine::Usual(Line::StoreCapability { source, authority, offset }) => {
-                    abi::capcheck_run_step_sc(judge, source, authority, offset)
-                }
-                RunLine::Usual(Line::Load { authority, offset, size, value }) => {
-                    abi::capcheck_run_step_load(judge, authority, offset, size, value)
-                }
-                RunLine::Usual(Line::Store { authority, offset, size, value }) => {
-                    abi::capcheck_run_step_store(judge, authority, offset, size, value)
-                }
-                RunLine::Derive { target, source, recorded } => {
-                    abi::capcheck_run_step_derive(judge, target.into(), source.into(), recorded.into())
-                }
-                RunLine::Exchange { target, source, special, recorded, special_recorded } => {
-                    let (recorded, special_recorded) = (recorded.into(), special_recorded.into());
-                    abi::capcheck_run_step_exchange(judge, target, source, special, recorded, special_recorded)
-                }
-                RunLine::Invoke { code, datum, code_word, datum_word } => {
-                    abi::capcheck_run_step_invoke(judge, code, datum, to_word(code_word), to_word(datum_word))
-                }
-                RunLine::Drop(place) => abi::capcheck_run_step_drop(judge, place.into()),
-                RunLine::Fill { address, word } => abi::capcheck_run_step_fill(judge, address, to_word(word)),
-                RunLine::Object { target, object } => abi::capcheck_run_step_object(judge, target, object),
-                RunLine::Free { target, object } => abi::capcheck_run_step_free(judge, target, object),
-                RunLine::Usual(_) | RunLine::Version | RunLine::RootSpecial { .. } => {
-                    return self.line(&line.write().map_err(|_| Fault::NoLine)?);
-                }
-            }
-        };
-        self.passed(state)
+        let line = line.into();
+        match line.step() {
+            Some(step) => self.passed(unsafe { abi::capcheck_run_step(self.judge.get(), &step) }),
+            None => self.line(&line.write().map_err(|_| Fault::NoLine)?),
+        }
     }
 
     /// The verdict on the lines so far as a whole log. More may follow.
@@ -393,6 +365,11 @@ impl RunJudge {
     /// Whether all lines so far pass.
     pub fn goes_on(&self) -> Result<(), Fault> {
         self.passed(unsafe { abi::capcheck_run_judge_answer(self.judge.get()) }.state)
+    }
+
+    /// After [`Refusal::WrongResult`] of a step that other logs have too, what the rules give.
+    pub fn expected(&self) -> Option<Expected> {
+        Expected::of(unsafe { abi::capcheck_run_judge_expected(self.judge.get()) })
     }
 
     /// What the model holds in a place; after a faulty line, what it held before that line. None if there is no such

@@ -29,8 +29,8 @@ fn an_object_that_meets_another_is_refused() {
     let log = b"heap 1\nroot 0000000000000000 10000000000000000\n\
         malloc 0000000000001000 0000000000000010\nmalloc 0000000000001008 0000000000000010\n";
     let (verdict, text) = explain_heap_bytes(log).unwrap();
-    assert_eq!(verdict, HeapVerdict::No { line: 4, refusal: HeapRefusal::Overlaps });
+    assert_eq!(verdict, HeapVerdict::No { line: 4, refusal: Refusal::Overlaps });
     assert!(text.starts_with("no 4 28 Overlaps\n"), "{text}");
-    assert_eq!(HeapRefusal::of(29).map(|it| it.to_string()), Some("NotLive".to_string()));
-    assert_eq!(HeapRefusal::of(25), None);
+    assert_eq!(Refusal::of(29).map(|it| it.to_string()), Some("NotLive".to_string()));
+    assert_eq!(Refusal::NotLive.sentence(), "No object lives at the address that is freed.");
 }

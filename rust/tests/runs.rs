@@ -73,17 +73,55 @@ fn an_object_is_told_until_no_place_holds_it() -> Result<(), Box<dyn std::error:
     judge.pass(Line::Mode { clear: false })?;
     judge.pass(Line::Root { target: 1, word: root.word() })?;
     judge.pass(RunLine::Derive { target: register, source: RunPlace::Register(1), recorded: object })?;
-    judge.pass(RunLine::Object { target: 2, object: 0 })?;
+    judge.pass(RunLine::Object { source: 2, object: 0 })?;
     judge.pass(RunLine::Derive { target: special, source: register, recorded: object })?;
-    judge.pass(RunLine::Free { target: 2, object: 0 })?;
+    judge.pass(RunLine::Free { source: 2, object: 0 })?;
     judge.pass(RunLine::Drop(register))?;
     assert_eq!(owners(&judge), ["object 1 5 0000000000001000 00000000000001040 freed 1", "owner scr3 1"]);
     assert_eq!((judge.holder(1), judge.held(special), judge.object(2)), (Some(special), Some(object), None));
     judge.pass(RunLine::Derive { target: register, source: RunPlace::Register(1), recorded: object })?;
-    let refused = judge.pass(RunLine::Object { target: 2, object: 0 });
+    let refused = judge.pass(RunLine::Object { source: 2, object: 0 });
     assert_eq!(refused, Err(Fault::Refused { line: 10, refusal: Refusal::StillHeld }));
     assert!(judge.diagnosis().starts_with("no 10 36 StillHeld\n"));
     assert_eq!(judge.pass(RunLine::Drop(RunPlace::Granule(8))), Err(Fault::NoLine));
-    assert!(RunLine::Free { target: 1, object: 1 }.write().is_err());
+    assert!(RunLine::Free { source: 1, object: 1 }.write().is_err());
+    Ok(())
+}
+
+#[test]
+fn a_number_that_no_line_has_is_no_line() -> Result<(), Box<dyn std::error::Error>> {
+    let (null, mut judge) = (Capability::NULL, RunJudge::new(Asks::default())?);
+    for number in [32, 256 + 1, (1 << 32) + 1, u64::MAX] {
+        let wrong: [RunLine; 5] = [
+            Line::Move { target: number, source: 1, recorded: null }.into(),
+            Line::Load { authority: 1, offset: 0, size: number, value: 0 }.into(),
+            Line::StoreCapability { source: 1, authority: number, offset: 0 }.into(),
+            RunLine::Object { source: number, object: 0 },
+            RunLine::Exchange { target: 1, source: 1, special: number, recorded: null, special_recorded: null },
+        ];
+        for line in wrong {
+            assert_eq!((judge.pass(line), line.write().is_err()), (Err(Fault::NoLine), true), "{line:?}");
+        }
+    }
+    let offset = Line::Load { authority: 1, offset: 65536, size: 1, value: 0 };
+    assert_eq!((judge.pass(offset), Judge::new()?.pass(&offset)), (Err(Fault::NoLine), Err(Fault::NoLine)));
+    Ok(())
+}
+
+#[test]
+fn a_wrong_result_is_told_with_what_the_rules_give() -> Result<(), Box<dyn std::error::Error>> {
+    let root = Capability::root(0, 1 << 64, permissions::ALL_PERMISSIONS).unwrap();
+    for (step, expected) in [
+        (Line::Load { authority: 1, offset: 0, size: 2, value: 7 }, Expected::Number { number: 0, size: 2 }),
+        (Line::ClearTag { target: 2, source: 1, recorded: root }, Expected::Capability(root.clear_tag())),
+    ] {
+        let mut judge = RunJudge::new(Asks::default())?;
+        judge.pass(RunLine::Version)?;
+        judge.pass(Line::Mode { clear: true })?;
+        judge.pass(Line::Root { target: 1, word: root.word() })?;
+        assert_eq!(judge.expected(), None);
+        assert_eq!(judge.pass(step), Err(Fault::Refused { line: 4, refusal: Refusal::WrongResult }));
+        assert_eq!(judge.expected(), Some(expected));
+    }
     Ok(())
 }

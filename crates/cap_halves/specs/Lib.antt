@@ -1,3 +1,4 @@
 pub mod Passed
+pub mod PassedLines
 pub mod PassedRuns
 pub mod PassedSteps

@@ -1,7 +1,6 @@
 -- The places and the steps of runs by C's numbers (this profile's own).
 use Rattle.std.specs.Prelude.{◌≡◌, ℕ, ◌*◌, ◌/◌, ◌%◌, ◌==◌, ◌&&◌, if◌then◌else◌, Option, Some, None}
 use Rattle.cap_word.specs.declared.word.Cap.{Cap}
-use Rattle.cap_run_log.specs.RunLines.{IsRunStepInRange}
 use Rattle.cap_run_log.specs.declared.lines.{RunPlace.RunPlace, RunRegister.RunRegister, RunStep.RunStep}
 use Rattle.cap_run_log.specs.declared.lines.RunPlace.TheVariants as places
 use Rattle.cap_run_log.specs.declared.lines.RunRegister.TheVariants as registers
@@ -74,6 +73,6 @@ free_passed register object =
     else (if register == 0 then Some (steps.FreeNumber object) else None)
 
 -- the step that C's numbers name, if it is in range, and otherwise none
-abbrev pub IsStepFrom : Option RunStep → Option RunStep → Type 0
-IsStepFrom passed (Some step) = (passed ≡ Some step) × IsRunStepInRange step
-IsStepFrom passed None = (step : RunStep) → passed ≡ Some step → ¬ IsRunStepInRange step
+abbrev pub IsStepFrom : {A : Type 0} → (A → Type 0) → Option A → Option A → Type 0
+IsStepFrom IsInRange passed (Some step) = (passed ≡ Some step) × IsInRange step
+IsStepFrom {A = A} IsInRange passed None = (step : A) → passed ≡ Some step → ¬ IsInRange step

@@ -18,7 +18,7 @@ pub fn derive_from(
     source: PassedPlace,
     recorded: Capability,
 ) -> Option<RunStep>
-    ensures step { IsStepFrom (derive_passed target source recorded) result }
+    ensures step { IsStepFrom IsRunStepInRange (derive_passed target source recorded) result }
     ensures range { IfSome result IsRunStepInRange }
 {
     let target = register_from(1, target)?;
@@ -34,7 +34,7 @@ pub fn exchange_from(
     recorded: Capability,
     special_recorded: Capability,
 ) -> Option<RunStep>
-    ensures step { IsStepFrom (Some (exchange_passed target source special recorded special_recorded)) result }
+    ensures step { IsStepFrom IsRunStepInRange (Some (exchange_passed target source special recorded special_recorded)) result }
     ensures range { IfSome result IsRunStepInRange }
 {
     let target = Target::new(target)?;
@@ -53,7 +53,7 @@ pub fn exchange_from(
 
 /// The step `invoke` of C's numbers: the registers of the code and of the datum, 0 to 31.
 pub fn invoke_from(code: u64, datum: u64, code_word: Halves, datum_word: Halves) -> Option<RunStep>
-    ensures step { IsStepFrom (Some (invoke_passed code datum code_word datum_word)) result }
+    ensures step { IsStepFrom IsRunStepInRange (Some (invoke_passed code datum code_word datum_word)) result }
     ensures range { IfSome result IsRunStepInRange }
 {
     let code = Register::new(code)?;
@@ -69,7 +69,7 @@ pub fn invoke_from(code: u64, datum: u64, code_word: Halves, datum_word: Halves)
 /// The step `drop` of C's numbers: the place is a register 1 to 31, a special register, or a granule at an address that is a
 /// multiple of 16.
 pub fn drop_from(place: PassedPlace) -> Option<RunStep>
-    ensures step { IsStepFrom (drop_passed place) result }
+    ensures step { IsStepFrom IsRunStepInRange (drop_passed place) result }
     ensures range { IfSome result IsRunStepInRange }
 {
     Some(RunStep::Drop(place_from(place)?))
@@ -77,7 +77,7 @@ pub fn drop_from(place: PassedPlace) -> Option<RunStep>
 
 /// The step `fill` of C's numbers: an address that is a multiple of 16.
 pub fn fill_from(address: u64, word: Halves) -> Option<RunStep>
-    ensures step { IsStepFrom (fill_passed address word) result }
+    ensures step { IsStepFrom IsRunStepInRange (fill_passed address word) result }
     ensures range { IfSome result IsRunStepInRange }
 {
     if !address.is_multiple_of(16) {
@@ -89,7 +89,7 @@ pub fn fill_from(address: u64, word: Halves) -> Option<RunStep>
 /// The step `object` of C's numbers: a register 1 to 31, and the number of an object, below 2^32; or 0, if what the
 /// register holds is a new object's.
 pub fn object_from(register: u64, object: u64) -> Option<RunStep>
-    ensures step { IsStepFrom (Some (object_passed register object)) result }
+    ensures step { IsStepFrom IsRunStepInRange (Some (object_passed register object)) result }
     ensures range { IfSome result IsRunStepInRange }
 {
     let target = Target::new(register)?;
@@ -105,7 +105,7 @@ pub fn object_from(register: u64, object: u64) -> Option<RunStep>
 /// The step `free` of C's numbers: by a register 1 to 31, and then the object's number is 0; or by the number of an object,
 /// below 2^32, and then the register is 0.
 pub fn free_from(register: u64, object: u64) -> Option<RunStep>
-    ensures step { IsStepFrom (free_passed register object) result }
+    ensures step { IsStepFrom IsRunStepInRange (free_passed register object) result }
     ensures range { IfSome result IsRunStepInRange }
 {
     if object == 0 {

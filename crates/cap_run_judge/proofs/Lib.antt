@@ -9,3 +9,4 @@ pub mod OneVerdict
 mod OwnerLemmas
 mod UsualLogLemmas
 pub mod RunReportLemmas
+pub mod QuestionLemmas

@@ -11,6 +11,7 @@ mod judges;
 mod laws;
 mod output;
 mod owners;
+mod questions;
 mod steps;
 mod streams;
 mod verdict;

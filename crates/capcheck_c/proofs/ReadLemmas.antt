@@ -8,7 +8,7 @@ use Rattle.cap_log.specs.Parts.{Begins, BeginsWithNone}
 use Rattle.cap_streams.specs.Front.{IsLine}
 use Rattle.cap_streams.proofs.FrontLemmas.{IsLine-same}
 use Rattle.cap_log.proofs.SpellingLemmas.{IsLine-spelling, one_spelling}
-use Rattle.capcheck_c.specs.declared.values.LineRead.{LineRead}
+use Rattle.cap_halves.specs.declared.values.PassedLine.{PassedLine}
 use Rattle.capcheck_c.specs.LinesRead.{IsLineRead, IsStepRead, ReadsFront, ReadsLines}
 
 -- bytes begin with one line, and one rest follows it
@@ -28,7 +28,7 @@ front_length bytes line rest begins =
     omega (arith, all)
 
 -- one line more was read
-pub reads_more : (bytes : List ℕ) (reads : List LineRead) (rest : List ℕ) (read : LineRead) → ReadsLines bytes reads rest
+pub reads_more : (bytes : List ℕ) (reads : List PassedLine) (rest : List ℕ) (read : PassedLine) → ReadsLines bytes reads rest
     → (read.kind ≢ 0) → ReadsFront rest read → ReadsLines bytes (reads ++ read ∷ []) (drop read.length rest)
 reads_more bytes [] rest read before some front =
     (some, subst (λ (b : List ℕ). ReadsFront b read) (sym before) front, ap (drop read.length) before)
@@ -36,7 +36,7 @@ reads_more bytes (first ∷ reads) rest read before some front =
     (before.0, before.1, reads_more (drop first.length bytes) reads rest read before.2 some front)
 
 -- what was read lies in front of the rest
-reads_front : (bytes : List ℕ) (reads : List LineRead) (rest : List ℕ) → ReadsLines bytes reads rest
+reads_front : (bytes : List ℕ) (reads : List PassedLine) (rest : List ℕ) → ReadsLines bytes reads rest
     → (front : List ℕ) × (bytes ≡ front ++ rest)
 reads_front bytes [] rest all = ([], all)
 reads_front bytes (read ∷ reads) rest all =
@@ -47,7 +47,7 @@ reads_front bytes (read ∷ reads) rest all =
     )
 
 -- so the rest is what is left of the bytes by its length
-pub rest_of : (bytes : List ℕ) (reads : List LineRead) (rest : List ℕ) → ReadsLines bytes reads rest
+pub rest_of : (bytes : List ℕ) (reads : List PassedLine) (rest : List ℕ) → ReadsLines bytes reads rest
     → (length rest ≤ length bytes) × (drop (length bytes - length rest) bytes ≡ rest)
 rest_of bytes reads rest all =
     let front = reads_front bytes reads rest all in
@@ -58,11 +58,11 @@ rest_of bytes reads rest all =
     )
 
 -- a line that was read has a kind
-step_kind : (step : Step) (read : LineRead) → IsStepRead step read → read.kind ≡ 0 → ⊥
+step_kind : (step : Step) (read : PassedLine) → IsStepRead step read → read.kind ≡ 0 → ⊥
 step_kind (Step.Move step) read is none = omega (arith, none, is.0.kind_is)
 step_kind step read is none = omega (arith, none, is.0.kind_is)
 
-line_kind : (line : Line) (read : LineRead) → IsLineRead line read → read.kind ≡ 0 → ⊥
+line_kind : (line : Line) (read : PassedLine) → IsLineRead line read → read.kind ≡ 0 → ⊥
 line_kind (Line.Version version) read is none = omega (arith, none, is.0.kind_is)
 line_kind (Line.Mode Strict) read is none = omega (arith, none, is.0.kind_is)
 line_kind (Line.Mode Clear) read is none = omega (arith, none, is.0.kind_is)
@@ -72,6 +72,6 @@ line_kind (Line.Step step) read is none = step_kind step read is none
 line_kind (Line.End steps) read is none = omega (arith, none, is.0.kind_is)
 
 -- bytes of which none was read begin with none
-pub none_read : (bytes : List ℕ) (read : LineRead) → ReadsFront bytes read → read.kind ≡ 0
+pub none_read : (bytes : List ℕ) (read : PassedLine) → ReadsFront bytes read → read.kind ≡ 0
     → BeginsWithNone IsInRange spelling 10 bytes
 none_read bytes read front none line rest begins = line_kind line read (front.line line rest begins).0 none

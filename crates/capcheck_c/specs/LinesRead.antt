@@ -7,10 +7,10 @@ use Rattle.cap_log.specs.Parts.{Begins, BeginsWithNone}
 use Rattle.cap_log.specs.declared.kinds.Step.TheVariants as steps
 use Rattle.cap_log.specs.declared.lines.Line.TheVariants as lines
 use Rattle.cap_halves.specs.Passed.{cap_of, no_cap}
-use Rattle.capcheck_c.specs.declared.values.LineRead.{LineRead}
+use Rattle.cap_halves.specs.declared.values.PassedLine.{PassedLine}
 
 -- what was read has this kind, these registers, and this number and capability
-pub record IsOfKind (kind target source authority number : ℕ) (cap : Cap) (read : LineRead) : Type 0 where
+pub record IsOfKind (kind target source authority number : ℕ) (cap : Cap) (read : PassedLine) : Type 0 where
   pub kind_is : read.kind ≡ kind
   pub target_is : read.target ≡ target
   pub source_is : read.source ≡ source
@@ -19,17 +19,17 @@ pub record IsOfKind (kind target source authority number : ℕ) (cap : Cap) (rea
   pub cap_is : cap_of read.cap ≡ cap
 
 -- and it is of no access
-abbrev pub HasNumbers : ℕ → ℕ → ℕ → ℕ → ℕ → Cap → LineRead → Type 0
+abbrev pub HasNumbers : ℕ → ℕ → ℕ → ℕ → ℕ → Cap → PassedLine → Type 0
 HasNumbers kind target source authority number cap read =
     IsOfKind kind target source authority number cap read × (read.offset ≡ pos 0) × (read.size ≡ 0)
 
 -- or of one at this offset, of so many bytes
-abbrev pub ReadsAt : ℕ → ℕ → ℕ → ℕ → ℤ → ℕ → ℕ → Cap → LineRead → Type 0
+abbrev pub ReadsAt : ℕ → ℕ → ℕ → ℕ → ℤ → ℕ → ℕ → Cap → PassedLine → Type 0
 ReadsAt kind target source authority offset size number cap read =
     IsOfKind kind target source authority number cap read × (read.offset ≡ offset) × (read.size ≡ size)
 
 -- what was read is this step
-abbrev pub IsStepRead : Step → LineRead → Type 0
+abbrev pub IsStepRead : Step → PassedLine → Type 0
 IsStepRead (steps.Move step) read = HasNumbers 5 step.target step.source 0 0 step.result read
 IsStepRead (steps.ClearTag step) read = HasNumbers 6 step.target step.source 0 0 step.result read
 IsStepRead (steps.SetBounds step) read = HasNumbers 7 step.target step.source 0 step.number step.result read
@@ -44,7 +44,7 @@ IsStepRead (steps.Load step) read = ReadsAt 15 0 0 step.authority step.offset st
 IsStepRead (steps.Store step) read = ReadsAt 16 0 0 step.authority step.offset step.datum.size step.datum.value no_cap read
 
 -- what was read is this line
-abbrev pub IsLineRead : Line → LineRead → Type 0
+abbrev pub IsLineRead : Line → PassedLine → Type 0
 IsLineRead (lines.Version version) read = HasNumbers 1 0 0 0 version no_cap read
 IsLineRead (lines.Mode Strict) read = HasNumbers 2 0 0 0 0 no_cap read
 IsLineRead (lines.Mode Clear) read = HasNumbers 2 0 0 0 1 no_cap read
@@ -55,13 +55,13 @@ IsLineRead (lines.End steps) read = HasNumbers 17 0 0 0 steps no_cap read
 
 -- what is read at the front of bytes: the line that they begin with, with its line feed, and its length; or that they
 -- begin with none
-pub record ReadsFront (bytes : List ℕ) (read : LineRead) : Type 0 where
+pub record ReadsFront (bytes : List ℕ) (read : PassedLine) : Type 0 where
   pub line : (line : Line) (rest : List ℕ) → Begins IsInRange spelling 10 bytes line rest
       → IsLineRead line read × (read.length ≡ length (spelling line) + 1)
   pub kind : read.kind ≢ 0 → (line : Line) × (rest : List ℕ) × Begins IsInRange spelling 10 bytes line rest
   pub none : BeginsWithNone IsInRange spelling 10 bytes → HasNumbers 0 0 0 0 0 no_cap read × (read.length ≡ 0)
 
 -- what was read, line after line, from the front of bytes, before this rest
-abbrev pub ReadsLines : List ℕ → List LineRead → List ℕ → Type 0
+abbrev pub ReadsLines : List ℕ → List PassedLine → List ℕ → Type 0
 ReadsLines bytes [] rest = bytes ≡ rest
 ReadsLines bytes (read ∷ reads) rest = (read.kind ≢ 0) × ReadsFront bytes read × ReadsLines (drop read.length bytes) reads rest

@@ -28,7 +28,7 @@ state_sentences =
     ∷ codes "The bytes aren't one line with its line feed, or a number is out of range."
     ∷ []
 
--- the word that a line of each kind begins with: the kinds from 18 on are those that only run logs have
+-- the word that a line of each kind begins with: the kinds from 64 on are those that only run logs have
 abbrev pub run_kind_words : List (List ℕ)
 run_kind_words =
     codes "derive"
@@ -43,7 +43,7 @@ run_kind_words =
     ∷ []
 
 abbrev pub kind_text : ℕ → List ℕ
-kind_text kind = if nat_lt kind 18 then text_at kind_words kind else text_at run_kind_words (kind - 18)
+kind_text kind = if nat_lt kind 64 then text_at kind_words kind else text_at run_kind_words (kind - 64)
 
 -- what each kind of line is, by its number
 abbrev pub kind_sentences : List (List ℕ)
@@ -82,7 +82,7 @@ run_kind_sentences =
     ∷ []
 
 abbrev pub kind_sentence : ℕ → List ℕ
-kind_sentence kind = if nat_lt kind 18 then text_at kind_sentences kind else text_at run_kind_sentences (kind - 18)
+kind_sentence kind = if nat_lt kind 64 then text_at kind_sentences kind else text_at run_kind_sentences (kind - 64)
 
 -- why a line is refused
 abbrev pub refusal_sentence : Refusal → List ℕ
@@ -112,13 +112,13 @@ refusal_sentence WrongResult = codes "The recorded result or value isn't the mac
 refusal_sentence LimitPassed = codes "A limit on roots, granules or steps is passed."
 refusal_sentence BadMode = codes "The line after the version line of version 2 is no mode line."
 
--- the names of the refusals that only run logs have, from 26 on, and of every other number none
-abbrev pub run_refusal_names : List (List ℕ)
-run_refusal_names =
-    []
-    ∷ []
+-- the names of the refusals that only run logs and logs of allocators have, from 26 on, and of every other number none
+abbrev pub later_names : List (List ℕ)
+later_names =
+    codes "AddressTaken"
+    ∷ codes "OutsideHeap"
     ∷ codes "Overlaps"
-    ∷ []
+    ∷ codes "NotLive"
     ∷ codes "UnsoundResult"
     ∷ codes "BeyondSource"
     ∷ codes "SealChanged"
@@ -133,16 +133,16 @@ run_refusal_names =
     ∷ codes "NotOwned"
     ∷ []
 
-abbrev pub run_refusal_text : ℕ → List ℕ
-run_refusal_text number = if nat_lt number 26 then [] else text_at run_refusal_names (number - 26)
+abbrev pub later_name : ℕ → List ℕ
+later_name number = if nat_lt number 26 then [] else text_at later_names (number - 26)
 
--- why a line of a run log is refused, in the same order
-abbrev pub run_refusal_sentences : List (List ℕ)
-run_refusal_sentences =
-    []
-    ∷ []
+-- why such a line is refused, in the same order
+abbrev pub later_sentences : List (List ℕ)
+later_sentences =
+    codes "An object lives at this very address."
+    ∷ codes "The rounded bounds don't lie inside the root's."
     ∷ codes "The extent shares an address with that of a live object."
-    ∷ []
+    ∷ codes "No object lives at the address that is freed."
     ∷ codes "The recorded word isn't sound."
     ∷ codes "The word has bounds or permissions beyond its source's."
     ∷ codes "The seal isn't kept."
@@ -157,5 +157,5 @@ run_refusal_sentences =
     ∷ codes "The authority of the access has no owner, and a byte of a live object is touched."
     ∷ []
 
-abbrev pub run_refusal_sentence : ℕ → List ℕ
-run_refusal_sentence number = if nat_lt number 26 then [] else text_at run_refusal_sentences (number - 26)
+abbrev pub later_sentence : ℕ → List ℕ
+later_sentence number = if nat_lt number 26 then [] else text_at later_sentences (number - 26)

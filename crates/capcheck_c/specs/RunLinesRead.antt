@@ -11,49 +11,49 @@ use Rattle.cap_run_log.specs.declared.lines.RunStep.TheVariants as steps
 use Rattle.cap_run_log.specs.RunLines.{IsRunLineInRange, run_spelling}
 use Rattle.cap_halves.specs.{declared.values.PassedPlace.PassedPlace, Passed.{cap_of, no_cap}}
 use Rattle.cap_halves.specs.PassedRuns.{passed_nowhere, passed_place, passed_register}
-use Rattle.capcheck_c.specs.declared.values.RunLineRead.{RunLineRead}
+use Rattle.cap_halves.specs.declared.values.PassedRunLine.{PassedRunLine}
 use Rattle.capcheck_c.specs.LinesRead.{HasNumbers, IsLineRead}
 
 -- what was read beside the numbers of other logs' lines: where the line writes and reads, and a second capability
-pub record HasPlaces (target source : PassedPlace) (second : Cap) (read : RunLineRead) : Type 0 where
+pub record HasPlaces (target source : PassedPlace) (second : Cap) (read : PassedRunLine) : Type 0 where
   pub target_is : read.target ≡ target
   pub source_is : read.source ≡ source
   pub second_is : cap_of read.second ≡ second
 
 -- neither
-abbrev pub HasNoPlaces : RunLineRead → Type 0
+abbrev pub HasNoPlaces : PassedRunLine → Type 0
 HasNoPlaces read = HasPlaces passed_nowhere passed_nowhere no_cap read
 
 abbrev pub tagged_word : Word → Cap
 tagged_word word = record { tag = true; word = word }
 
 -- what was read is this root
-abbrev pub IsRootRead : RunPlace → Word → RunLineRead → Type 0
+abbrev pub IsRootRead : RunPlace → Word → PassedRunLine → Type 0
 IsRootRead (General number) word read = IsLineRead (usual.Root (UsualRegister number) word) read.line
 IsRootRead (Granule granule) word read = IsLineRead (usual.Root (UsualGranule granule) word) read.line
-IsRootRead (Special number) word read = HasNumbers 26 number 0 0 0 (tagged_word word) read.line
+IsRootRead (Special number) word read = HasNumbers 72 number 0 0 0 (tagged_word word) read.line
 
 -- what was read is this step
-abbrev pub IsRunStepRead : RunStep → RunLineRead → Type 0
+abbrev pub IsRunStepRead : RunStep → PassedRunLine → Type 0
 IsRunStepRead (steps.Derive target source result) read =
-    HasNumbers 18 0 0 0 0 result read.line × HasPlaces (passed_register target) (passed_register source) no_cap read
+    HasNumbers 64 0 0 0 0 result read.line × HasPlaces (passed_register target) (passed_register source) no_cap read
 IsRunStepRead (steps.Exchange target source special result special_result) read =
-    HasNumbers 19 target source 0 special result read.line × HasPlaces passed_nowhere passed_nowhere special_result read
+    HasNumbers 65 target source 0 special result read.line × HasPlaces passed_nowhere passed_nowhere special_result read
 IsRunStepRead (steps.Invoke code datum code_word datum_word) read =
-    HasNumbers 20 0 code datum 0 (tagged_word code_word) read.line
+    HasNumbers 66 0 code datum 0 (tagged_word code_word) read.line
     × HasPlaces passed_nowhere passed_nowhere (tagged_word datum_word) read
 IsRunStepRead (steps.Drop place) read =
-    HasNumbers 21 0 0 0 0 no_cap read.line × HasPlaces (passed_place place) passed_nowhere no_cap read
+    HasNumbers 67 0 0 0 0 no_cap read.line × HasPlaces (passed_place place) passed_nowhere no_cap read
 IsRunStepRead (steps.Fill granule word) read =
-    HasNumbers 22 0 0 0 (16 * granule) (record { tag = false; word = word }) read.line × HasNoPlaces read
-IsRunStepRead (steps.Object register) read = HasNumbers 23 0 register 0 0 no_cap read.line × HasNoPlaces read
-IsRunStepRead (steps.Widen register number) read = HasNumbers 23 0 register 0 number no_cap read.line × HasNoPlaces read
-IsRunStepRead (steps.FreeOwner register) read = HasNumbers 24 0 register 0 0 no_cap read.line × HasNoPlaces read
-IsRunStepRead (steps.FreeNumber number) read = HasNumbers 24 0 0 0 number no_cap read.line × HasNoPlaces read
+    HasNumbers 68 0 0 0 (16 * granule) (record { tag = false; word = word }) read.line × HasNoPlaces read
+IsRunStepRead (steps.Object register) read = HasNumbers 69 0 register 0 0 no_cap read.line × HasNoPlaces read
+IsRunStepRead (steps.Widen register number) read = HasNumbers 69 0 register 0 number no_cap read.line × HasNoPlaces read
+IsRunStepRead (steps.FreeOwner register) read = HasNumbers 70 0 register 0 0 no_cap read.line × HasNoPlaces read
+IsRunStepRead (steps.FreeNumber number) read = HasNumbers 70 0 0 0 number no_cap read.line × HasNoPlaces read
 
 -- what was read is this line
-abbrev pub IsRunLineRead : RunLine → RunLineRead → Type 0
-IsRunLineRead lines.Version read = HasNumbers 25 0 0 0 1 no_cap read.line × HasNoPlaces read
+abbrev pub IsRunLineRead : RunLine → PassedRunLine → Type 0
+IsRunLineRead lines.Version read = HasNumbers 71 0 0 0 1 no_cap read.line × HasNoPlaces read
 IsRunLineRead (lines.Plain version) read = IsLineRead (usual.Version version) read.line × HasNoPlaces read
 IsRunLineRead (lines.Mode mode) read = IsLineRead (usual.Mode mode) read.line × HasNoPlaces read
 IsRunLineRead (lines.Root place word) read = IsRootRead place word read × HasPlaces (passed_place place) passed_nowhere no_cap read
@@ -63,7 +63,7 @@ IsRunLineRead (lines.End steps) read = IsLineRead (usual.End steps) read.line ×
 
 -- what is read at the front of bytes: the line of a run log that they begin with, with its line feed, and its length; or
 -- that they begin with none
-pub record ReadsRunFront (bytes : List ℕ) (read : RunLineRead) : Type 0 where
+pub record ReadsRunFront (bytes : List ℕ) (read : PassedRunLine) : Type 0 where
   pub line : (line : RunLine) (rest : List ℕ) → Begins IsRunLineInRange run_spelling 10 bytes line rest
       → IsRunLineRead line read × (read.line.length ≡ length (run_spelling line) + 1)
   pub kind : read.line.kind ≢ 0 → (line : RunLine) × (rest : List ℕ) × Begins IsRunLineInRange run_spelling 10 bytes line rest

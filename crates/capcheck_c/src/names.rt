@@ -5,10 +5,11 @@ ghost use Rattle.capcheck_c.specs.{Answers.c_string, Names.{c_string_in, kind_se
 ghost use Rattle.capcheck_c.specs.Names.{run_kind_sentences, run_kind_words, state_sentences, text_at};
 
 use crate::values::{RefusalName, Sentence};
+use cap_halves::kinds::FIRST_RUN_KIND;
 use cap_log::kinds::kind_word;
 
 /// The version of this library, that of `include/capcheck.h`.
-const VERSION: &str = "1.2.0";
+const VERSION: &str = "1.3.0-dev";
 
 /// A text as a C string.
 pub(crate) fn as_c_string(text: &str) -> RefusalName
@@ -30,10 +31,10 @@ pub(crate) fn as_sentence(text: &str) -> Sentence
     Sentence { text: bytes }
 }
 
-/// The version of the library, as `1.2.0`.
+/// The version of the library, as `1.2.0`, or `1.3.0-dev` of one that isn't released.
 #[unsafe(no_mangle)]
 pub extern "C" fn capcheck_version() -> RefusalName
-    ensures version { result.text ≡ c_string (codes "1.2.0") }
+    ensures version { result.text ≡ c_string (codes "1.3.0-dev") }
 {
     as_c_string(VERSION)
 }
@@ -59,13 +60,13 @@ pub extern "C" fn capcheck_state_name(state: u8) -> RefusalName
 pub extern "C" fn capcheck_kind_name(kind: u8) -> RefusalName
     ensures name { result.text ≡ c_string (kind_text kind) }
 {
-    if kind < 18 {
+    if kind < FIRST_RUN_KIND {
         return as_c_string(kind_word(kind));
     }
-    as_c_string(run_kind_word(kind - 18))
+    as_c_string(run_kind_word(kind - FIRST_RUN_KIND))
 }
 
-// The word that a line begins with which only run logs have, by its kind less 18.
+// The word that a line begins with which only run logs have, by its kind less 64.
 fn run_kind_word(kind: u8) -> &'static str
     ensures word { result.now ≡ text_at run_kind_words kind }
     ensures short { length result.now ≤ 8 }
@@ -105,10 +106,10 @@ pub extern "C" fn capcheck_state_sentence(state: u8) -> Sentence
 pub extern "C" fn capcheck_kind_sentence(kind: u8) -> Sentence
     ensures sentence { result.text ≡ c_string_in 96 (kind_sentence kind) }
 {
-    if kind < 18 {
+    if kind < FIRST_RUN_KIND {
         return as_sentence(usual_kind_sentence(kind));
     }
-    as_sentence(run_kind_sentence(kind - 18))
+    as_sentence(run_kind_sentence(kind - FIRST_RUN_KIND))
 }
 
 // What a kind of line is that other logs have too.
@@ -138,7 +139,7 @@ fn usual_kind_sentence(kind: u8) -> &'static str
     }
 }
 
-// What a kind of line is that only run logs have, by its number less 18.
+// What a kind of line is that only run logs have, by its kind less 64.
 fn run_kind_sentence(kind: u8) -> &'static str
     ensures sentence { result.now ≡ text_at run_kind_sentences kind }
     ensures short { length result.now ≤ 95 }

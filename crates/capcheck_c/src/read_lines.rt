@@ -6,33 +6,22 @@ ghost use Rattle.cap_log.specs.declared.lines.Line.TheVariants as lines;
 ghost use Rattle.capcheck_c.specs.LinesRead.{HasNumbers, IsLineRead, ReadsFront, ReadsLines};
 
 use crate::step_lines::step_read;
-use crate::values::{LineRead, LinesCount};
+use crate::values::{LinesCount, capability_line, number_line};
+use cap_halves::kinds::{END, MODE, NO_LINE, ROOT, ROOT_AT, VERSION};
+use cap_halves::values::PassedLine;
 use cap_log::{Line, Mode, Place, Step, take_line};
 use cap_word::{Cap, Word};
-
-// The kinds of lines, as C has them, and 0 for none.
-pub(crate) const NO_LINE: u8 = 0;
-
-const VERSION: u8 = 1;
-
-const MODE: u8 = 2;
-
-const ROOT: u8 = 3;
-
-const ROOT_AT: u8 = 4;
-
-const END: u8 = 17;
 
 /// Reads the line at the front of some bytes, with its line feed: its kind, its numbers, and how long it is. If they
 /// begin with no line and a line feed, the kind is 0, and so is all else.
 #[unsafe(no_mangle)]
-pub extern "C" fn capcheck_read_line(bytes: &[u8]) -> LineRead
+pub extern "C" fn capcheck_read_line(bytes: &[u8]) -> PassedLine
     ensures read { ReadsFront bytes.now result }
     ensures tag { result.cap.tag ≤ 1 }
 {
     match take_line(bytes) {
         Some((line, rest)) => line_read(line, bytes.len() - rest.len()),
-        None => LineRead::numbered(NO_LINE, 0, 0),
+        None => number_line(NO_LINE, 0, 0),
     }
 }
 
@@ -40,7 +29,7 @@ pub extern "C" fn capcheck_read_line(bytes: &[u8]) -> LineRead
 /// how many, and how many bytes they have. They stand at the front of `lines`, each as [`capcheck_read_line`] reads it,
 /// and the rest of `lines` is as it was.
 #[unsafe(no_mangle)]
-pub extern "C" fn capcheck_read_lines(bytes: &[u8], lines: &mut [LineRead]) -> LinesCount
+pub extern "C" fn capcheck_read_lines(bytes: &[u8], lines: &mut [PassedLine]) -> LinesCount
     ensures few { (result.lines ≤ length lines.new) × (result.bytes ≤ length bytes.now) }
     ensures read { ReadsLines bytes.now (take result.lines lines.new) (drop result.bytes bytes.now) }
     ensures tags { All (λ line. line.cap.tag ≤ 1) (take result.lines lines.new) }
@@ -65,7 +54,7 @@ pub extern "C" fn capcheck_read_lines(bytes: &[u8], lines: &mut [LineRead]) -> L
 }
 
 /// What is read of a line of so many bytes.
-pub(crate) fn line_read(line: Line, count: usize) -> LineRead
+pub(crate) fn line_read(line: Line, count: usize) -> PassedLine
     requires { IsInRange line }
     ensures read { IsLineRead line result }
     ensures kind { result.kind ≢ 0 }
@@ -73,17 +62,17 @@ pub(crate) fn line_read(line: Line, count: usize) -> LineRead
     ensures tag { result.cap.tag ≤ 1 }
 {
     match line {
-        Line::Version(version) => LineRead::numbered(VERSION, u64::from(version), count),
-        Line::Mode(Mode::Strict) => LineRead::numbered(MODE, 0, count),
-        Line::Mode(Mode::Clear) => LineRead::numbered(MODE, 1, count),
+        Line::Version(version) => number_line(VERSION, u64::from(version), count),
+        Line::Mode(Mode::Strict) => number_line(MODE, 0, count),
+        Line::Mode(Mode::Clear) => number_line(MODE, 1, count),
         Line::Root(place, word) => root_read(place, word, count),
         Line::Step(step) => step_read(step, count),
-        Line::End(steps) => LineRead::numbered(END, u64::from(steps), count),
+        Line::End(steps) => number_line(END, u64::from(steps), count),
     }
 }
 
 // What is read of a root.
-fn root_read(place: Place, word: Word, count: usize) -> LineRead
+fn root_read(place: Place, word: Word, count: usize) -> PassedLine
     requires { IsPlace place }
     ensures read { IsLineRead (lines.Root place word) result }
     ensures kind { result.kind ≢ 0 }
@@ -92,10 +81,10 @@ fn root_read(place: Place, word: Word, count: usize) -> LineRead
 {
     let cap = Cap { tag: true, word };
     match place {
-        Place::Register(register) => LineRead::written(ROOT, register, cap, count),
-        Place::Granule(granule) => LineRead {
+        Place::Register(register) => capability_line(ROOT, register, cap, count),
+        Place::Granule(granule) => PassedLine {
             number: 16 * granule,
-            ..LineRead::written(ROOT_AT, 0, cap, count)
+            ..capability_line(ROOT_AT, 0, cap, count)
         },
     }
 }

@@ -7,48 +7,33 @@ ghost use Rattle.cap_halves.specs.{Passed.no_cap, PassedRuns.passed_nowhere};
 ghost use Rattle.capcheck_c.specs.{LinesRead.HasNumbers, RunLinesRead.{HasNoPlaces, HasPlaces, IsRunLineRead, IsRunStepRead}};
 ghost use Rattle.capcheck_c.specs.RunLinesRead.{ReadsRunFront, tagged_word};
 
-use crate::read_lines::{NO_LINE, line_read};
-use crate::values::{LineRead, RunLineRead};
+use crate::read_lines::line_read;
+use crate::values::{capability_line, number_line};
 use cap_halves::halves::{no_capability, to_c};
+use cap_halves::kinds::{
+    DERIVE, DROP, EXCHANGE, FILL, FREE, INVOKE, NO_LINE, OBJECT, ROOT_SPECIAL, RUN_VERSION,
+};
 use cap_halves::places::{nowhere, register_to_passed, to_passed};
+use cap_halves::values::{PassedLine, PassedRunLine};
 use cap_log::{Line, Place};
 use cap_run_log::{RunLine, RunPlace, RunStep, take_run_line};
 use cap_word::{Cap, Word};
 
-// The kinds of lines that only run logs have, as C has them.
-const DERIVE: u8 = 18;
-
-const EXCHANGE: u8 = 19;
-
-const INVOKE: u8 = 20;
-
-const DROP: u8 = 21;
-
-const FILL: u8 = 22;
-
-const OBJECT: u8 = 23;
-
-const FREE: u8 = 24;
-
-const RUN_VERSION: u8 = 25;
-
-const ROOT_SPECIAL: u8 = 26;
-
 /// Reads the line of a run log at the front of some bytes, with its line feed: its kind, its numbers, and how long it is.
 /// If they begin with no such line and a line feed, the kind is 0, and so is all else.
 #[unsafe(no_mangle)]
-pub extern "C" fn capcheck_read_run_line(bytes: &[u8]) -> RunLineRead
+pub extern "C" fn capcheck_read_run_line(bytes: &[u8]) -> PassedRunLine
     ensures read { ReadsRunFront bytes.now result }
     ensures tags { (result.line.cap.tag ≤ 1) × (result.second.tag ≤ 1) }
 {
     match take_run_line(bytes) {
         Some((line, rest)) => run_line_read(line, bytes.len() - rest.len()),
-        None => alone(LineRead::numbered(NO_LINE, 0, 0)),
+        None => alone(number_line(NO_LINE, 0, 0)),
     }
 }
 
 // What is read of a line of so many bytes.
-fn run_line_read(line: RunLine, count: usize) -> RunLineRead
+fn run_line_read(line: RunLine, count: usize) -> PassedRunLine
     requires { IsRunLineInRange line }
     ensures read { IsRunLineRead line result }
     ensures kind { result.line.kind ≢ 0 }
@@ -56,7 +41,7 @@ fn run_line_read(line: RunLine, count: usize) -> RunLineRead
     ensures tags { (result.line.cap.tag ≤ 1) × (result.second.tag ≤ 1) }
 {
     match line {
-        RunLine::Version => alone(LineRead::numbered(RUN_VERSION, 1, count)),
+        RunLine::Version => alone(number_line(RUN_VERSION, 1, count)),
         RunLine::Plain(version) => alone(line_read(Line::Version(version), count)),
         RunLine::Mode(mode) => alone(line_read(Line::Mode(mode), count)),
         RunLine::Root(place, word) => run_root_read(place, word, count),
@@ -67,7 +52,7 @@ fn run_line_read(line: RunLine, count: usize) -> RunLineRead
 }
 
 // What is read of a root.
-fn run_root_read(place: RunPlace, word: Word, count: usize) -> RunLineRead
+fn run_root_read(place: RunPlace, word: Word, count: usize) -> PassedRunLine
     requires { IsRunPlace place }
     ensures read { IsRunLineRead (lines.Root place word) result }
     ensures kind { result.line.kind ≢ 0 }
@@ -77,18 +62,16 @@ fn run_root_read(place: RunPlace, word: Word, count: usize) -> RunLineRead
     let line = match place {
         RunPlace::General(number) => line_read(Line::Root(Place::Register(number), word), count),
         RunPlace::Granule(granule) => line_read(Line::Root(Place::Granule(granule), word), count),
-        RunPlace::Special(number) => {
-            LineRead::written(ROOT_SPECIAL, number, tagged(word), count)
-        }
+        RunPlace::Special(number) => { capability_line(ROOT_SPECIAL, number, tagged(word), count) }
     };
-    RunLineRead {
+    PassedRunLine {
         target: to_passed(place),
         ..alone(line)
     }
 }
 
 // What is read of a step that only runs have.
-fn run_step_read(step: RunStep, count: usize) -> RunLineRead
+fn run_step_read(step: RunStep, count: usize) -> PassedRunLine
     requires { IsRunStepInRange step }
     ensures read { IsRunStepRead step result }
     ensures kind { result.line.kind ≢ 0 }
@@ -96,10 +79,10 @@ fn run_step_read(step: RunStep, count: usize) -> RunLineRead
     ensures tags { (result.line.cap.tag ≤ 1) × (result.second.tag ≤ 1) }
 {
     match step {
-        RunStep::Derive(target, source, recorded) => RunLineRead {
+        RunStep::Derive(target, source, recorded) => PassedRunLine {
             target: register_to_passed(target),
             source: register_to_passed(source),
-            ..alone(LineRead::written(DERIVE, 0, recorded, count))
+            ..alone(capability_line(DERIVE, 0, recorded, count))
         },
         RunStep::Exchange {
             target,
@@ -108,10 +91,10 @@ fn run_step_read(step: RunStep, count: usize) -> RunLineRead
             result: recorded,
             special_result,
         } => {
-            let line = LineRead {
+            let line = PassedLine {
                 source,
                 number: u64::from(special),
-                ..LineRead::written(EXCHANGE, target, recorded, count)
+                ..capability_line(EXCHANGE, target, recorded, count)
             };
             with_second(line, special_result)
         }
@@ -121,21 +104,21 @@ fn run_step_read(step: RunStep, count: usize) -> RunLineRead
             code_word,
             datum_word,
         } => {
-            let line = LineRead {
+            let line = PassedLine {
                 source: code,
                 authority: datum,
-                ..LineRead::written(INVOKE, 0, tagged(code_word), count)
+                ..capability_line(INVOKE, 0, tagged(code_word), count)
             };
             with_second(line, tagged(datum_word))
         }
-        RunStep::Drop(place) => RunLineRead {
+        RunStep::Drop(place) => PassedRunLine {
             target: to_passed(place),
-            ..alone(LineRead::numbered(DROP, 0, count))
+            ..alone(number_line(DROP, 0, count))
         },
         RunStep::Fill(granule, word) => {
-            let line = LineRead {
+            let line = PassedLine {
                 number: 16 * granule,
-                ..LineRead::written(FILL, 0, Cap { tag: false, word }, count)
+                ..capability_line(FILL, 0, Cap { tag: false, word }, count)
             };
             alone(line)
         }
@@ -147,14 +130,14 @@ fn run_step_read(step: RunStep, count: usize) -> RunLineRead
 }
 
 // What is read of a line that names a register or an object, or both.
-fn object_read(kind: u8, register: u8, object: u32, count: usize) -> LineRead
+fn object_read(kind: u8, register: u8, object: u32, count: usize) -> PassedLine
     ensures read { HasNumbers kind 0 register 0 object no_cap result }
     ensures length { result.length ≡ count }
     ensures tag { result.cap.tag ≤ 1 }
 {
-    LineRead {
+    PassedLine {
         source: register,
-        ..LineRead::numbered(kind, u64::from(object), count)
+        ..number_line(kind, u64::from(object), count)
     }
 }
 
@@ -166,12 +149,12 @@ fn tagged(word: Word) -> Cap
 }
 
 // A line without places.
-fn alone(line: LineRead) -> RunLineRead
+fn alone(line: PassedLine) -> PassedRunLine
     ensures line { result.line ≡ line }
     ensures places { HasNoPlaces result }
     ensures tag { result.second.tag ≤ 1 }
 {
-    RunLineRead {
+    PassedRunLine {
         line,
         second: no_capability(),
         target: nowhere(),
@@ -180,12 +163,12 @@ fn alone(line: LineRead) -> RunLineRead
 }
 
 // A line with a second capability.
-fn with_second(line: LineRead, second: Cap) -> RunLineRead
+fn with_second(line: PassedLine, second: Cap) -> PassedRunLine
     ensures line { result.line ≡ line }
     ensures places { HasPlaces passed_nowhere passed_nowhere second result }
     ensures tag { result.second.tag ≤ 1 }
 {
-    RunLineRead {
+    PassedRunLine {
         second: to_c(second),
         ..alone(line)
     }

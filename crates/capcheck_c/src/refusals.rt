@@ -3,7 +3,7 @@
 ghost use Rattle.std.specs.Prelude.{◌≡◌, ◌≢◌, ◌≤◌, [], codes, length, MatchOption};
 ghost use Rattle.cap_ops.specs.{declared.refusal.Refusal.Refusal, Refusals.{refusal_name, refusal_number}};
 ghost use Rattle.capcheck_c.specs.{Answers.{bad_argument, c_string}, Names.{c_string_in, refusal_sentence}};
-ghost use Rattle.capcheck_c.specs.Names.{run_refusal_names, run_refusal_sentence, run_refusal_sentences, run_refusal_text, text_at};
+ghost use Rattle.capcheck_c.specs.Names.{later_name, later_names, later_sentence, later_sentences, text_at};
 
 use crate::names::{as_c_string, as_sentence};
 use crate::values::{RefusalName, Sentence};
@@ -44,30 +44,33 @@ fn refusal_of(number: u8) -> Option<Refusal>
     }
 }
 
-/// The name of a refusal by its number, as a C string: of each that a verdict line can show, 1 to 25, and of run logs also
-/// 28 and 30 to 41; `BadArgument` of 255; and an empty string of every other number.
+/// The name of a refusal by its number, as a C string: of each that a verdict line can show, 1 to 41; `BadArgument` of 255;
+/// and an empty string of every other number.
 #[unsafe(no_mangle)]
 pub extern "C" fn capcheck_refusal_name(refusal: u8) -> RefusalName
     ensures named { (of : Refusal) → refusal ≡ refusal_number of → result.text ≡ c_string (refusal_name of) }
     ensures bad_argument { refusal ≡ bad_argument → result.text ≡ c_string (codes "BadArgument") }
     ensures other { refusal ≢ bad_argument → ((of : Refusal) → refusal ≢ refusal_number of)
-        → result.text ≡ c_string (run_refusal_text refusal) }
+        → result.text ≡ c_string (later_name refusal) }
 {
     match refusal_of(refusal) {
         Some(of) => as_c_string(of.name()),
         None if refusal == 255 => as_c_string("BadArgument"),
-        None if refusal > 25 => as_c_string(run_refusal_name(refusal - 26)),
+        None if refusal > 25 => as_c_string(later_name(refusal - 26)),
         None => as_c_string(""),
     }
 }
 
-// The name of a refusal that only run logs have, by its number less 26.
-fn run_refusal_name(number: u8) -> &'static str
-    ensures name { result.now ≡ text_at run_refusal_names number }
+// The name of a refusal that only run logs and logs of allocators have, by its number less 26.
+fn later_name(number: u8) -> &'static str
+    ensures name { result.now ≡ text_at later_names number }
     ensures short { length result.now ≤ 20 }
 {
     match number {
+        0 => "AddressTaken",
+        1 => "OutsideHeap",
         2 => "Overlaps",
+        3 => "NotLive",
         4 => "UnsoundResult",
         5 => "BeyondSource",
         6 => "SealChanged",
@@ -90,22 +93,25 @@ fn run_refusal_name(number: u8) -> &'static str
 pub extern "C" fn capcheck_refusal_sentence(refusal: u8) -> Sentence
     ensures told { (of : Refusal) → refusal ≡ refusal_number of → result.text ≡ c_string_in 96 (refusal_sentence of) }
     ensures other { ((of : Refusal) → refusal ≢ refusal_number of)
-        → result.text ≡ c_string_in 96 (run_refusal_sentence refusal) }
+        → result.text ≡ c_string_in 96 (later_sentence refusal) }
 {
     match refusal_of(refusal) {
         Some(of) => as_sentence(sentence_of(of)),
-        None if refusal > 25 => as_sentence(run_sentence_of(refusal - 26)),
+        None if refusal > 25 => as_sentence(later_sentence_of(refusal - 26)),
         None => as_sentence(""),
     }
 }
 
-// Why a line of a run log is refused, by the number of the refusal less 26.
-fn run_sentence_of(number: u8) -> &'static str
-    ensures sentence { result.now ≡ text_at run_refusal_sentences number }
+// Why a line of a run log or of an allocator's log is refused, by the number of the refusal less 26.
+fn later_sentence_of(number: u8) -> &'static str
+    ensures sentence { result.now ≡ text_at later_sentences number }
     ensures short { length result.now ≤ 95 }
 {
     match number {
+        0 => "An object lives at this very address.",
+        1 => "The rounded bounds don't lie inside the root's.",
         2 => "The extent shares an address with that of a live object.",
+        3 => "No object lives at the address that is freed.",
         4 => "The recorded word isn't sound.",
         5 => "The word has bounds or permissions beyond its source's.",
         6 => "The seal isn't kept.",

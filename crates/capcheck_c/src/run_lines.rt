@@ -146,7 +146,7 @@ pub extern "C" fn capcheck_line_free(buffer: &mut [u8; 96], register: u64, objec
 #[inline(always)]
 fn put_run_step(step: Option<RunStep>, buffer: &mut [u8; 96]) -> usize
     requires range { IfSome step IsRunStepInRange }
-    ensures line { (passed : Option StepIn) → IsStepFrom passed step → AnswersRunStep passed buffer.old buffer.new result }
+    ensures line { (passed : Option StepIn) → IsStepFrom IsRunStepInRange passed step → AnswersRunStep passed buffer.old buffer.new result }
 {
     match step {
         Some(step) => write_run_line(&RunLine::Run(step), buffer),

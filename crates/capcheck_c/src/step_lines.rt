@@ -9,39 +9,17 @@ ghost use Rattle.cap_log.specs.declared.kinds.Step.TheVariants as steps;
 ghost use Rattle.cap_halves.specs.PassedSteps.{authorized_passed, data_passed, lc_passed, numbered_passed, plain_passed, sc_passed};
 ghost use Rattle.capcheck_c.specs.{LinesRead.IsStepRead, LinesWritten.AnswersLine};
 
-use crate::values::LineRead;
+use crate::values::{capability_line, number_line, step_line};
 use cap_halves::halves::from_c;
-use cap_halves::values::Capability;
+use cap_halves::kinds::{
+    ANDPERM, CLEARTAG, LC, LOAD, MOVE, SC, SEAL, SETADDR, SETBOUNDS, SETBOUNDSEXACT, STORE, UNSEAL,
+};
+use cap_halves::values::{Capability, PassedLine};
 use cap_log::kinds::{
     AndPerm, ClearTag, Load, LoadCap, Move, Seal, SetAddr, SetBounds, SetBoundsExact, Store,
     StoreCap, Unseal,
 };
 use cap_log::{Operands, Step, write_step};
-
-// The kinds of steps, as C has them.
-const MOVE: u8 = 5;
-
-const CLEARTAG: u8 = 6;
-
-const SETBOUNDS: u8 = 7;
-
-const SETBOUNDSEXACT: u8 = 8;
-
-const SETADDR: u8 = 9;
-
-const ANDPERM: u8 = 10;
-
-const SEAL: u8 = 11;
-
-const UNSEAL: u8 = 12;
-
-const LC: u8 = 13;
-
-const SC: u8 = 14;
-
-const LOAD: u8 = 15;
-
-const STORE: u8 = 16;
 
 /// Writes the line of a step `move` into the buffer.
 #[unsafe(no_mangle)]
@@ -220,67 +198,61 @@ fn put_step<O: Operands>(numbers: O::Numbers, buffer: &mut [u8; 96]) -> usize
 }
 
 /// What is read of a step, by a line of so many bytes.
-pub(crate) fn step_read(step: Step, count: usize) -> LineRead
+pub(crate) fn step_read(step: Step, count: usize) -> PassedLine
     ensures read { IsStepRead step result }
     ensures kind { result.kind ≢ 0 }
     ensures length { result.length ≡ count }
     ensures tag { result.cap.tag ≤ 1 }
 {
     match step {
-        Step::Move(step) => LineRead::recorded(MOVE, step.target, step.source, step.result, count),
-        Step::ClearTag(step) => LineRead::recorded(
-            CLEARTAG,
-            step.target,
-            step.source,
-            step.result,
-            count,
-        ),
-        Step::SetBounds(step) => LineRead {
+        Step::Move(step) => step_line(MOVE, step.target, step.source, step.result, count),
+        Step::ClearTag(step) => step_line(CLEARTAG, step.target, step.source, step.result, count),
+        Step::SetBounds(step) => PassedLine {
             number: step.number,
-            ..LineRead::recorded(SETBOUNDS, step.target, step.source, step.result, count)
+            ..step_line(SETBOUNDS, step.target, step.source, step.result, count)
         },
-        Step::SetBoundsExact(step) => LineRead {
+        Step::SetBoundsExact(step) => PassedLine {
             number: step.number,
-            ..LineRead::recorded(SETBOUNDSEXACT, step.target, step.source, step.result, count)
+            ..step_line(SETBOUNDSEXACT, step.target, step.source, step.result, count)
         },
-        Step::SetAddr(step) => LineRead {
+        Step::SetAddr(step) => PassedLine {
             number: step.number,
-            ..LineRead::recorded(SETADDR, step.target, step.source, step.result, count)
+            ..step_line(SETADDR, step.target, step.source, step.result, count)
         },
-        Step::AndPerm(step) => LineRead {
+        Step::AndPerm(step) => PassedLine {
             number: step.number,
-            ..LineRead::recorded(ANDPERM, step.target, step.source, step.result, count)
+            ..step_line(ANDPERM, step.target, step.source, step.result, count)
         },
-        Step::Seal(step) => LineRead {
+        Step::Seal(step) => PassedLine {
             authority: step.authority.number(),
-            ..LineRead::recorded(SEAL, step.target, step.source, step.result, count)
+            ..step_line(SEAL, step.target, step.source, step.result, count)
         },
-        Step::Unseal(step) => LineRead {
+        Step::Unseal(step) => PassedLine {
             authority: step.authority.number(),
-            ..LineRead::recorded(UNSEAL, step.target, step.source, step.result, count)
+            ..step_line(UNSEAL, step.target, step.source, step.result, count)
         },
-        Step::LoadCap(step) => LineRead {
+        Step::LoadCap(step) => PassedLine {
             authority: step.authority.number(),
             offset: step.offset.number(),
-            ..LineRead::written(LC, step.target.number(), step.result, count)
+            ..capability_line(LC, step.target.number(), step.result, count)
         },
-        Step::StoreCap(step) => LineRead {
+        Step::StoreCap(step) => PassedLine {
             source: step.source.number(),
             authority: step.authority.number(),
             offset: step.offset.number(),
-            ..LineRead::numbered(SC, 0, count)
+            ..number_line(SC, 0, count)
         },
-        Step::Load(step) => LineRead {
+        Step::Load(step) => PassedLine {
             authority: step.authority.number(),
             offset: step.offset.number(),
             size: step.datum.size().bytes(),
-            ..LineRead::numbered(LOAD, step.datum.value(), count)
+            ..number_line(LOAD, step.datum.value(), count)
         },
-        Step::Store(step) => LineRead {
+        Step::Store(step) => PassedLine {
             authority: step.authority.number(),
             offset: step.offset.number(),
             size: step.datum.size().bytes(),
-            ..LineRead::numbered(STORE, step.datum.value(), count)
+            ..number_line(STORE, step.datum.value(), count)
         },
     }
 }

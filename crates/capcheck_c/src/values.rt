@@ -5,7 +5,7 @@ ghost use Rattle.cap_halves.specs.Passed.{no_cap};
 ghost use Rattle.capcheck_c.specs.LinesRead.{HasNumbers};
 
 use cap_halves::halves::{no_capability, to_c};
-use cap_halves::values::{Capability, Halves, PassedPlace};
+use cap_halves::values::{Capability, Halves, PassedLine};
 use cap_log::{Register, Target};
 use cap_word::Cap;
 
@@ -139,94 +139,52 @@ pub struct LinesCount {
     pub bytes: u64,
 }
 
-/// A line that was read (in C `capcheck_line`).
-#[repr(C)]
-#[derive(Clone, Copy)]
-pub struct LineRead {
-    /// What a step records, or the word of a root with a tag; else NULL without a tag.
-    pub cap: Capability,
-    /// The version, 1 for clear mode, the address of a root in memory, a length, an address, a mask, a value, or the
-    /// number of steps; else 0.
-    pub number: u64,
-    /// How many bytes the line has with its line feed; 0 if there is none.
-    pub length: usize,
-    /// The offset of an access, else 0.
-    pub offset: i16,
-    /// The kind of the line, 1 to 17; 0 if there is none.
-    pub kind: u8,
-    /// The register that a step writes or that holds a root, else 0.
-    pub target: u8,
-    /// The register that a step reads first, else 0.
-    pub source: u8,
-    /// The register of an authority, else 0.
-    pub authority: u8,
-    /// The size of a load or a store of data, else 0.
-    pub size: u8,
+/// What is read of a step that makes a capability: its kind, its registers and what it records.
+pub(crate) fn step_line(
+    kind: u8,
+    target: Target,
+    source: Register,
+    cap: Cap,
+    count: usize,
+) -> PassedLine
+    ensures read { HasNumbers kind target source 0 0 cap result }
+    ensures length { result.length ≡ count }
+    ensures tag { result.cap.tag ≤ 1 }
+{
+    PassedLine {
+        source: source.number(),
+        ..capability_line(kind, target.number(), cap, count)
+    }
 }
 
-/// A line of a run log that was read (in C `capcheck_run_line`).
-#[repr(C)]
-#[derive(Clone, Copy)]
-pub struct RunLineRead {
-    /// The line as [`LineRead`] has it, with 18 to 26 for the kinds that only run logs have.
-    pub line: LineRead,
-    /// What an exchange records of the special register, or the datum's word of an invoke with a tag; else NULL without
-    /// a tag.
-    pub second: Capability,
-    /// The place that a derive, a drop or a root names first, else none.
-    pub target: PassedPlace,
-    /// The register that a derive reads, else none.
-    pub source: PassedPlace,
+/// What is read of a line with one capability: its kind and the register that gets it, or 0.
+pub(crate) fn capability_line(kind: u8, target: u8, cap: Cap, count: usize) -> PassedLine
+    ensures read { HasNumbers kind target 0 0 0 cap result }
+    ensures length { result.length ≡ count }
+    ensures tag { result.cap.tag ≤ 1 }
+{
+    PassedLine {
+        cap: to_c(cap),
+        target,
+        ..number_line(kind, 0, count)
+    }
 }
 
-impl LineRead {
-    /// What is read of a step that makes a capability: its kind, its registers and what it records.
-    pub(crate) fn recorded(
-        kind: u8,
-        target: Target,
-        source: Register,
-        cap: Cap,
-        count: usize,
-    ) -> LineRead
-        ensures read { HasNumbers kind target source 0 0 cap result }
-        ensures length { result.length ≡ count }
-        ensures tag { result.cap.tag ≤ 1 }
-    {
-        LineRead {
-            source: source.number(),
-            ..LineRead::written(kind, target.number(), cap, count)
-        }
-    }
-
-    /// What is read of a line with one capability: its kind and the register that gets it, or 0.
-    pub(crate) fn written(kind: u8, target: u8, cap: Cap, count: usize) -> LineRead
-        ensures read { HasNumbers kind target 0 0 0 cap result }
-        ensures length { result.length ≡ count }
-        ensures tag { result.cap.tag ≤ 1 }
-    {
-        LineRead {
-            cap: to_c(cap),
-            target,
-            ..LineRead::numbered(kind, 0, count)
-        }
-    }
-
-    /// What is read of a line that records no capability: its kind and one number.
-    pub(crate) fn numbered(kind: u8, number: u64, count: usize) -> LineRead
-        ensures read { HasNumbers kind 0 0 0 number no_cap result }
-        ensures length { result.length ≡ count }
-        ensures tag { result.cap.tag ≤ 1 }
-    {
-        LineRead {
-            cap: no_capability(),
-            number,
-            length: count,
-            offset: 0,
-            kind,
-            target: 0,
-            source: 0,
-            authority: 0,
-            size: 0,
-        }
+/// What is read of a line that records no capability: its kind and one number.
+pub(crate) fn number_line(kind: u8, number: u64, count: usize) -> PassedLine
+    ensures read { HasNumbers kind 0 0 0 number no_cap result }
+    ensures length { result.length ≡ count }
+    ensures tag { result.cap.tag ≤ 1 }
+{
+    PassedLine {
+        cap: no_capability(),
+        number,
+        length: count,
+        offset: 0,
+        kind,
+        target: 0,
+        source: 0,
+        authority: 0,
+        size: 0,
     }
 }

@@ -1,8 +1,7 @@
 -- What a handle's judge takes that is handed one line of a run log, or a step.
-use Rattle.std.proofs.Common.{◌≡◌, ◌≢◌, ◌<◌, ◌⊎◌, ◌∙◌, inl, inr, ℕ, List, [], ◌∷◌, ◌++◌, ap, arith, refl, sym, subst, IfNone, IfSome, None, Some, Option}
+use Rattle.std.proofs.Common.{◌≡◌, ◌≢◌, ◌<◌, ◌⊎◌, ◌∙◌, inl, inr, ℕ, List, [], ◌∷◌, ◌++◌, ap, arith, refl, sym, subst, IfNone, IfSome, None, Some, Option, option_map}
 use Rattle.cap_run.specs.{Run.Run, declared.asks.Asks.Asks}
-use Rattle.cap_run_log.specs.declared.lines.{RunLine.RunLine, RunPlace.RunPlace, RunStep.RunStep}
-use Rattle.cap_run_log.specs.declared.lines.RunLine.TheVariants as lines
+use Rattle.cap_run_log.specs.declared.lines.{RunLine.RunLine, RunPlace.RunPlace}
 use Rattle.cap_run_log.specs.RunLines.{IsRunLineInRange, IsRunPlace, run_spelling}
 use Rattle.cap_run_judge.specs.declared.verdict.RunVerdict.TheVariants.{No}
 use Rattle.cap_run_judge.specs.{Readings.{Follows, stage_of}, Turns.unread}
@@ -10,8 +9,8 @@ use Rattle.cap_run_judge.proofs.FollowLemmas.{clear_goes, follows_on, no_stands,
 use Rattle.cap_halves.specs.{PassedRuns.IsStepFrom, declared.values.PassedPlace.PassedPlace}
 use Rattle.cap_run_report.specs.ObjectParts.{HasNoHolder, IsFirstHolder}
 use Rattle.capcheck_judge.specs.RunPlaces.{IsHolderTold, holder_passed}
-use Rattle.capcheck_judge.specs.RunHandles.{HandsOverRun, HandsOverRunStep, HandsOverRunText, HeldRunJudge, HoldsRun, IsNoStep, RunJudgeIn, stage_in}
-use Rattle.capcheck_judge.specs.RunTakings.{TakesRunLine}
+use Rattle.capcheck_judge.specs.RunHandles.{HandsOverRun, HandsOverRunStep, HandsOverRunText, HeldRunJudge, HoldsRun, RunJudgeIn, stage_in}
+use Rattle.capcheck_judge.specs.{Holding.IsNoStep, RunTakings.TakesRunLine}
 use Rattle.capcheck_judge.proofs.RunTakingLemmas.{held_taken, lacking, there}
 
 -- the states of a call on a judge that is there
@@ -121,18 +120,20 @@ unhanded line (Some judge) after state out is same = record {
   no_line = (λ five. (λ none. there (Some judge) judge refl none, out), λ both. is);
 }
 
--- the same for a step that C's numbers name, if they do
-pub run_step_handed : (passed : Option RunStep) (step : RunStep) (held after : HeldRunJudge) (old new : RunJudgeIn) (state : ℕ)
-    → IsStepFrom passed (Some step) → held ≡ Some old → after ≡ Some new → (state ≡ 0) ⊎ (state ≡ 2) ⊎ (state ≡ 3)
-    → TakesRunLine old (run_spelling (lines.Run step) ++ 10 ∷ []) state new → HandsOverRunStep passed held after state
-run_step_handed passed step held after old new state from is now answers takes =
-    subst (λ (p : Option RunStep). HandsOverRunStep p held after state) (sym from.0)
-    (step_handed (lines.Run step) held after old new state from.1 is now answers takes)
+-- the same for a step that C's numbers name, of this line, if they do
+pub run_step_handed : {A : Type 0} (line_of : A → RunLine) (passed : Option A) (step : A) (held after : HeldRunJudge) (old new : RunJudgeIn) (state : ℕ)
+    → IsStepFrom (λ (s : A). IsRunLineInRange (line_of s)) passed (Some step) → held ≡ Some old → after ≡ Some new
+    → (state ≡ 0) ⊎ (state ≡ 2) ⊎ (state ≡ 3) → TakesRunLine old (run_spelling (line_of step) ++ 10 ∷ []) state new
+    → HandsOverRunStep (option_map line_of passed) held after state
+run_step_handed {A} line_of passed step held after old new state from is now answers takes =
+    subst (λ (p : Option A). HandsOverRunStep (option_map line_of p) held after state) (sym from.0)
+    (step_handed (line_of step) held after old new state from.1 is now answers takes)
 
-pub no_run_step : (passed : Option RunStep) (held after : HeldRunJudge) (state : ℕ) → IsStepFrom passed None → IsNoStep held state → after ≡ held
-    → HandsOverRunStep passed held after state
-no_run_step None held after state from is same = (is, ap stage_in same, (λ none. sym same ∙ none, λ none. same ∙ none))
-no_run_step (Some step) held after state from is same = unhanded (lines.Run step) held after state (from step refl) is same
+pub no_run_step : {A : Type 0} (line_of : A → RunLine) (passed : Option A) (held after : HeldRunJudge) (state : ℕ)
+    → IsStepFrom (λ (s : A). IsRunLineInRange (line_of s)) passed None → IsNoStep held state → after ≡ held
+    → HandsOverRunStep (option_map line_of passed) held after state
+no_run_step line_of None held after state from is same = (is, same)
+no_run_step line_of (Some step) held after state from is same = unhanded (line_of step) held after state (from step refl) is same
 
 -- the first place that an object owns, as C gets it
 pub holder_told : (run : Run) (number : ℕ) (found : Option RunPlace) (told : PassedPlace) → IfSome found (IsFirstHolder run number)

@@ -1,20 +1,19 @@
 -- What a handle's judge takes that is handed lines of a run log.
 use Rattle.std.proofs.Common.{inl, inr, ◌≡◌, ◌≢◌, ◌≤◌, ◌∙◌, ℕ, List, [], ◌++◌, ap, append_assoc, arith, drop}
-use Rattle.std.proofs.Common.{length, refl, subst, sym, take, take-append-drop, None, Some, Ok, Err}
+use Rattle.std.proofs.Common.{length, refl, subst, sym, take, take-append-drop, Option, Some}
 use Rattle.std.proofs.lemmas.Option.{none-some}
-use Rattle.cap_streams.specs.{FaultLines.bytes_of}
 use Rattle.cap_judge.specs.declared.judges.Stop.{Stop, TheVariants.{Cut, Fault, NoMemory}}
-use Rattle.cap_run.specs.declared.{asks.Asks.Asks, ends.RunRefusal.RunRefusal}
-use Rattle.cap_run_judge.specs.declared.{faults.RefusedRunLine.RefusedRunLine, verdict.RunVerdict.{RunVerdict, TheVariants.{Yes, No}}}
-use Rattle.cap_run_judge.specs.Turns.{Goes, Refused, Stage, unread}
-use Rattle.cap_run_judge.specs.Readings.{AnswerAtEnd, VerdictAtEnd, Follows, StopsAt, stage_of}
+use Rattle.cap_run.specs.declared.asks.Asks.{Asks}
+use Rattle.cap_run_judge.specs.{Questions.verdict_so_far, declared.verdict.RunVerdict.{RunVerdict, TheVariants.No}}
+use Rattle.cap_run_judge.specs.Turns.{Due, Goes, Refused, Stage, unread}
+use Rattle.cap_run_judge.specs.Readings.{Follows, IsAtFault, StopsAt, VerdictAtEnd, stage_of}
 use Rattle.cap_run_judge.specs.Verdicts.{Lacks, MayLackMemory}
 use Rattle.cap_run_judge.proofs.FollowLemmas.{all_ends, clear_goes, fault_allows, fault_stays, faults_at, follows_on, never_faulty, no_stands, refused_in}
 use Rattle.cap_run_judge.proofs.FollowLemmas.{stop_follows}
 use Rattle.cap_run_judge.proofs.{CountLemmas.goes_clear, EndLemmas.lacks_memory, TurnLemmas.goes_on}
 use Rattle.capcheck_judge.specs.declared.{answers.LinesTaken.LinesTaken, run_answers.RunAnswer.RunAnswer}
 use Rattle.capcheck_judge.specs.RunAnswers.{run_numbers_of}
-use Rattle.capcheck_judge.specs.RunHandles.{AnswersRunEnd, AnswersRunSoFar}
+use Rattle.capcheck_judge.specs.RunHandles.{AnswersRunEnd, AnswersRunSoFar, StandingRun, StandsRun}
 use Rattle.capcheck_judge.specs.RunHandles.{BeginsRun, HandsOverRunLines, HeldRunJudge, HoldsRun, IsRunRefusedAfter, RunJudgeIn}
 use Rattle.capcheck_judge.specs.{RunTakings.TakesRunLines, Takings.state_at}
 use Rattle.capcheck_judge.proofs.TakingLemmas.{few_states, no_bytes, stop_of}
@@ -121,13 +120,19 @@ took_run_lines given held after old new answer is now takes =
 -- What its calls answer
 
 -- how the lines so far stand
-pub answered_no : (held : HeldRunJudge) (judge : RunJudgeIn) (asks_are : Asks) (bytes : List ℕ) (n : ℕ) (refusal : RunRefusal) (text : List ℕ)
-    (answer : RunAnswer) → held ≡ Some judge → (stage_of judge).due ≡ Refused n refusal text → answer ≡ run_numbers_of (No n refusal)
-    → HoldsRun held asks_are bytes → AnswersRunSoFar asks_are bytes answer
-answered_no held judge asks_are bytes n refusal text answer is due numbers holds = record {
-  verdict = Some (No n refusal);
+stands_by : (asks_are : Asks) (bytes : List ℕ) (stage : Stage) (due : Due) → stage.due ≡ due → Follows (unread asks_are) bytes stage
+    → StandsRun asks_are bytes (verdict_so_far due)
+stands_by asks_are bytes stage (Refused n refusal text) is read = no_stands asks_are bytes stage n refusal text read is
+stands_by asks_are bytes stage due is read = (stage, clear_goes (unread asks_are) bytes stage read (subst (λ (d : Due). IsAtFault d → ⊥) (sym is) (λ f. f)))
+
+pub answered_so_far : (held : HeldRunJudge) (judge : RunJudgeIn) (asks_are : Asks) (bytes : List ℕ) (so_far : Option RunVerdict) (answer : RunAnswer)
+    → held ≡ Some judge → so_far ≡ verdict_so_far (stage_of judge).due → StandingRun so_far answer → HoldsRun held asks_are bytes
+    → AnswersRunSoFar asks_are bytes answer
+answered_so_far held judge asks_are bytes so_far answer is told numbers holds = record {
+  verdict = so_far;
   numbers = numbers;
-  stands = no_stands asks_are bytes (stage_of judge) n refusal text (held_taken held asks_are bytes holds judge is) due;
+  stands = subst (StandsRun asks_are bytes) (sym told)
+      (stands_by asks_are bytes (stage_of judge) (stage_of judge).due refl (held_taken held asks_are bytes holds judge is));
 }
 
 -- the verdict on them
@@ -139,16 +144,3 @@ answered_end held judge asks_are bytes verdict text answer is ends numbers holds
   numbers = numbers;
   is_verdict = (all_ends asks_are bytes (stage_of judge) verdict text (held_taken held asks_are bytes holds judge is) ends).0;
 }
-
--- a yes, and a no
-pub ended_yes : (held : HeldRunJudge) (judge : RunJudgeIn) (asks_are : Asks) (bytes : List ℕ) (verdict : RunVerdict) (answer : RunAnswer)
-    → held ≡ Some judge → AnswerAtEnd (stage_of judge) [] (Ok verdict) → answer ≡ run_numbers_of verdict → HoldsRun held asks_are bytes
-    → AnswersRunEnd asks_are bytes answer
-ended_yes held judge asks_are bytes (Yes steps roots objects) answer is ends = answered_end held judge asks_are bytes (Yes steps roots objects) [] answer is ends
-ended_yes held judge asks_are bytes (No line refusal) answer is ends = absurd ends
-
-pub ended_no : (held : HeldRunJudge) (judge : RunJudgeIn) (asks_are : Asks) (bytes : List ℕ) (fault : RefusedRunLine) (answer : RunAnswer)
-    → held ≡ Some judge → AnswerAtEnd (stage_of judge) [] (Err fault) → answer ≡ run_numbers_of (No fault.line fault.refusal)
-    → HoldsRun held asks_are bytes → AnswersRunEnd asks_are bytes answer
-ended_no held judge asks_are bytes fault answer is ends =
-    answered_end held judge asks_are bytes (No fault.line fault.refusal) (bytes_of fault.text) answer is ends

@@ -4,7 +4,8 @@ use Rattle.std.specs.Prelude.{Bool, Some}
 use denote.RattleType.{RattleType}
 use Rattle.cap_word.specs.declared.word.Cap.{Cap}
 use Rattle.cap_ops.specs.declared.refusal.Refusal.{Refusal}
-use Rattle.cap_log.specs.declared.lines.{Line.Line, Place.{Place, TheVariants.{Register, Granule}}}
+use Rattle.cap_log.specs.declared.{kinds.Step.Step, lines.{Line.Line, Place.{Place, TheVariants.{Register, Granule}}}}
+use Rattle.cap_log.specs.declared.lines.Line.TheVariants as lines
 use Rattle.cap_log.specs.Lines.{IsInRange, spelling}
 use Rattle.cap_streams.specs.Front.{IsCut, IsLine}
 use Rattle.tagmem.specs.contracts.page_store.{PageStore.the_row as store_row, PageStoreTaggedStore.TheImpl.ghosts}
@@ -60,6 +61,11 @@ pub record HandsOver (line : Line) (old new : HeldJudge) (state : ℕ) : Type 0 
   pub no_judge : (state ≡ 4) ↔ (old ≡ None)
   pub no_line : (state ≡ 5) ↔ ((old ≢ None) × (¬ IsInRange line))
   pub held : (new ≡ None) ↔ (old ≡ None)
+
+-- the same for a step that C's numbers name; and where they name none, nothing has changed
+abbrev pub HandsOverStep : Option Step → HeldJudge → HeldJudge → ℕ → Type 0
+HandsOverStep (Some step) old new state = HandsOver (lines.Step step) old new state
+HandsOverStep None old new state = IsNoStep old state × (new ≡ old)
 
 -- a front is the text of accepted lines, and the line that begins the rest is refused, whatever follows
 abbrev pub IsRefusedAfter : List ℕ → List ℕ → Type 0

@@ -3,19 +3,20 @@ use Rattle.std.specs.Prelude.{◌≡◌, ◌≢◌, ◌<◌, ◌≤◌, ◌↔�
 use denote.RattleType.{RattleType}
 use Rattle.cap_streams.specs.Front.{IsCut}
 use Rattle.tagmem.specs.contracts.page_store.{PageStore.the_row as store_row, PageStoreTaggedStore.TheImpl.ghosts}
-use Rattle.cap_run_log.specs.declared.lines.{RunLine.RunLine, RunStep.RunStep}
-use Rattle.cap_run_log.specs.declared.lines.RunLine.TheVariants as lines
+use Rattle.cap_run_log.specs.declared.lines.RunLine.{RunLine}
 use Rattle.cap_run_log.specs.RunLines.{IsRunLineInRange, run_spelling}
 use Rattle.cap_run.specs.declared.{asks.Asks.Asks, ends.RunRefusal.RunRefusal}
 use Rattle.cap_run.specs.Run.{Run}
 use Rattle.cap_run_judge.specs.contracts.judges.RunJudge.{the_row as run_judge_row}
 use Rattle.cap_run_judge.specs.declared.verdict.RunVerdict.{RunVerdict}
 use Rattle.cap_run_judge.specs.Readings.{Follows, RefusesNext, stage_of}
-use Rattle.cap_run_judge.specs.{Turns.{Goes, Stage, unread}, Verdicts.{IsRunVerdict, MayLackMemory}}
+use Rattle.cap_judge.specs.declared.verdict.Expected.{Expected}
+use Rattle.cap_run_judge.specs.{Questions.ExpectsAt, Turns.{Goes, Stage, unread}, Verdicts.{IsRunVerdict, MayLackMemory}}
 use Rattle.cap_report.specs.Texts.{IsTold}
 use Rattle.cap_run_report.specs.Answers.{ExplainsRunEnd, ExplainsRunSoFar}
-use Rattle.capcheck_judge.specs.declared.{answers.LinesTaken.LinesTaken, run_handle.RunHandle.RunHandle, run_answers.RunAnswer.RunAnswer}
-use Rattle.capcheck_judge.specs.RunAnswers.{run_numbers_of, run_without_verdict}
+use Rattle.capcheck_judge.specs.Handles.{IsGiven}
+use Rattle.capcheck_judge.specs.declared.{answers.{LinesTaken.LinesTaken, PassedExpected.PassedExpected}, run_handle.RunHandle.RunHandle, run_answers.RunAnswer.RunAnswer}
+use Rattle.capcheck_judge.specs.{Holding.IsNoStep, RunAnswers.{run_numbers_of, run_without_verdict}}
 
 -- a judge of run logs, over pages
 abbrev pub RunJudgeIn : Type 0
@@ -96,15 +97,10 @@ pub record HandsOverRun (line : RunLine) (old new : HeldRunJudge) (state : ℕ) 
   pub handed : HandsOverRunText (run_spelling line ++ 10 ∷ []) old new state
   pub no_line : (state ≡ 5) ↔ ((old ≢ None) × (¬ IsRunLineInRange line))
 
--- that there is no judge, or that what was handed over is no line
-abbrev pub IsNoStep : HeldRunJudge → ℕ → Type 0
-IsNoStep None state = state ≡ 4
-IsNoStep (Some judge) state = state ≡ 5
-
--- the same for a step that C's numbers name, and where they name none
-abbrev pub HandsOverRunStep : Option RunStep → HeldRunJudge → HeldRunJudge → ℕ → Type 0
-HandsOverRunStep (Some step) old new state = HandsOverRun (lines.Run step) old new state
-HandsOverRunStep None old new state = IsNoStep old state × (stage_in new ≡ stage_in old) × ((new ≡ None) ↔ (old ≡ None))
+-- the same for the line of a step that C's numbers name; and where they name none, nothing has changed
+abbrev pub HandsOverRunStep : Option RunLine → HeldRunJudge → HeldRunJudge → ℕ → Type 0
+HandsOverRunStep (Some line) old new state = HandsOverRun line old new state
+HandsOverRunStep None old new state = IsNoStep old state × (new ≡ old)
 
 -- a front is the text of lines that begin a run log, and the line that begins the rest is refused, whatever follows
 abbrev pub IsRunRefusedAfter : Asks → List ℕ → List ℕ → Type 0
@@ -134,6 +130,12 @@ pub record HandsOverRunLines (given : List ℕ) (old new : HeldRunJudge) (answer
   pub no_judge : (answer.state ≡ 4) ↔ (old ≡ None)
   pub nothing : old ≡ None → answer.bytes ≡ 0
   pub held : (new ≡ None) ↔ (old ≡ None)
+
+-- C learns what the rules give for the faulty line at a stage, where it is refused for its result
+pub record AnswersRunExpected (stage : Stage) (given : PassedExpected) : Type 0 where
+  pub expected : Option Expected
+  pub numbers : IsGiven expected given
+  pub expects : ExpectsAt stage expected
 
 -- C gets the text of how a run log stands that begins with these bytes, where there is room for it: none while no line is
 -- faulty, and never more than 3,136 bytes

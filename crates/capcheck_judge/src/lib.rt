@@ -20,6 +20,26 @@ macro_rules! ask {
     };
 }
 
+// What is done with a step of version 2, whatever its kind.
+macro_rules! by_kind {
+    ($any:expr, $step:ident => $done:expr) => {
+        match $any {
+            Step::Move($step) => $done,
+            Step::ClearTag($step) => $done,
+            Step::SetBounds($step) => $done,
+            Step::SetBoundsExact($step) => $done,
+            Step::SetAddr($step) => $done,
+            Step::AndPerm($step) => $done,
+            Step::Seal($step) => $done,
+            Step::Unseal($step) => $done,
+            Step::LoadCap($step) => $done,
+            Step::StoreCap($step) => $done,
+            Step::Load($step) => $done,
+            Step::Store($step) => $done,
+        }
+    };
+}
+
 mod answers;
 mod handle;
 mod heaps;

@@ -132,7 +132,7 @@ pub extern "C" fn capcheck_judge_expected(alloc: Global, judge: &mut Handle) -> 
 }
 
 /// What the rules give, as C gets it.
-fn given_of(expected: Option<Expected>) -> PassedExpected
+pub(crate) fn given_of(expected: Option<Expected>) -> PassedExpected
     ensures given { IsGiven expected result }
     ensures tag { result.cap.tag ≤ 1 }
 {

@@ -93,8 +93,8 @@ pub extern "C" fn capcheck_run_judge_answer(alloc: Global, judge: &mut RunHandle
     ensures no_judge { run_held_in judge.old ≡ None → result ≡ run_without_verdict 4 }
     ensures kept { run_held_in judge.new ≡ run_held_in judge.old }
 {
-    ask!(judge, alloc, |held| fault = held.refused(), match fault {
-        Some(fault) => run_numbers_of(fault.verdict()),
+    ask!(judge, alloc, |held| answer = held.answer(), match answer {
+        Some(no) => run_numbers_of(no),
         None => run_without_verdict(GOES_ON),
     }, else run_without_verdict(NO_JUDGE))
 }
@@ -107,10 +107,7 @@ pub extern "C" fn capcheck_run_judge_end(alloc: Global, judge: &mut RunHandle) -
     ensures no_judge { run_held_in judge.old ≡ None → result ≡ run_without_verdict 4 }
     ensures kept { run_held_in judge.new ≡ run_held_in judge.old }
 {
-    ask!(judge, alloc, |held| end = held.ending(&[]), match end {
-        Ok(verdict) => run_numbers_of(verdict),
-        Err(fault) => run_numbers_of(fault.verdict()),
-    }, else run_without_verdict(NO_JUDGE))
+    ask!(judge, alloc, |held| verdict = held.end(&[]), run_numbers_of(verdict), else run_without_verdict(NO_JUDGE))
 }
 
 /// Closes the judge, and gives its memory back. The handle then holds none.
@@ -128,7 +125,7 @@ fn take_run_line(judge: &mut RunJudge<PageStore>, line: &[u8]) -> u8
     ensures no_line { (result ≡ 5) ↔ IsNoLine line.now }
 {
     match judge.take_line(line) {
-        Ok(()) => match judge.refused() {
+        Ok(()) => match judge.answer() {
             None => GOES_ON,
             Some(_) => NO,
         },

@@ -1,4 +1,4 @@
-//! What the machine of an open judge of run logs holds, and which objects own it.
+//! What the machine of an open judge of run logs holds and gives, and which objects own it.
 
 ghost use Rattle.std.specs.Prelude.{◌≡◌, ◌≢◌, ◌⊎◌, ◌↔◌, ◌<◌, ◌≤◌, ◌/◌, ℕ, IfSome, List, MatchOption, None, Some};
 ghost use Rattle.cap_run.specs.declared.asks.Asks.{Asks as AsksIn};
@@ -6,11 +6,12 @@ ghost use Rattle.cap_run_log.specs.{RunLines.IsRunPlace, declared.lines.RunPlace
 ghost use Rattle.cap_run.specs.RunChanges.{place_key};
 ghost use Rattle.cap_halves.specs.{Passed.{cap_of, no_cap}, PassedRuns.passed_nowhere};
 ghost use Rattle.capcheck_judge.specs.RunAnswers.{IsObjectTold};
-ghost use Rattle.capcheck_judge.specs.RunHandles.{HoldsRun, run_behind, run_held_in};
+ghost use Rattle.cap_run_judge.specs.Readings.{stage_of};
+ghost use Rattle.capcheck_judge.specs.{Handles.IsGiven, RunHandles.{AnswersRunExpected, HoldsRun, run_behind, run_held_in}};
 ghost use Rattle.capcheck_judge.specs.RunPlaces.{IsHolderTold, IsNextTold, IsOwnerTold, holder_passed, place_asked};
 
-use crate::answers::OptionalCap;
-use crate::places::{nothing, there};
+use crate::answers::{OptionalCap, PassedExpected};
+use crate::places::{given_of, nothing, there};
 use crate::run_answers::{PassedObject, told_object};
 use crate::run_handle::RunHandle;
 use cap_halves::places::{nowhere, to_passed};
@@ -124,6 +125,22 @@ pub extern "C" fn capcheck_run_judge_next_object(
         Some(object) => object.number,
         None => 0,
     }, else 0)
+}
+
+/// What the rules give for the faulty step, if it is one of version 2 and its line records another result. There is none
+/// after any other fault, if no line is faulty so far, and if the handle holds no judge.
+#[unsafe(no_mangle)]
+pub extern "C" fn capcheck_run_judge_expected(
+    alloc: Global,
+    judge: &mut RunHandle,
+) -> PassedExpected
+    ensures expected { (asks : AsksIn) (bytes : List ℕ) → (holds : HoldsRun (run_held_in judge.old) asks bytes)
+        → AnswersRunExpected (stage_of holds.judge) result }
+    ensures tag { result.cap.tag ≤ 1 }
+    ensures no_judge { run_held_in judge.old ≡ None → IsGiven None result }
+    ensures kept { run_held_in judge.new ≡ run_held_in judge.old }
+{
+    ask!(judge, alloc, |held| expected = held.expected(), given_of(expected), else given_of(None))
 }
 
 // The first place that an object owns, if there is one, as C gets it.

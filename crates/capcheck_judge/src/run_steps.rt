@@ -1,30 +1,20 @@
 //! Steps handed over to a judge of run logs that C holds, without their lines.
-//!
-//! Each call answers as `capcheck_run_judge_line` does on the line that spells the step. If a number is out of its
-//! range no line spells it: it answers 5, and nothing has changed.
 
-ghost use Rattle.std.specs.Prelude.{◌≡◌, ◌⊎◌, [], ◌∷◌, ◌++◌, IfSome, Option, Some};
+ghost use Rattle.std.specs.Prelude.{◌≡◌, ◌⊎◌, [], ◌∷◌, ◌++◌, IfSome, Option, option_map};
+ghost use Rattle.cap_log.specs.{Lines.IsStepInRange, declared.kinds.Step.Step as StepIn};
 ghost use Rattle.cap_run_log.specs.RunLines.{IsRunLineInRange, IsRunStepInRange, run_spelling};
 ghost use Rattle.cap_run_log.specs.declared.lines.RunLine.TheVariants as line;
-ghost use Rattle.cap_run_log.specs.declared.lines.RunStep.{RunStep as StepIn};
-ghost use Rattle.cap_log.specs.declared.kinds.Step.TheVariants as steps;
-ghost use Rattle.cap_halves.specs.PassedSteps.{authorized_passed, data_passed, lc_passed, numbered_passed, plain_passed, sc_passed};
-ghost use Rattle.cap_halves.specs.PassedRuns.{IsStepFrom, derive_passed, drop_passed, exchange_passed, fill_passed, free_passed};
-ghost use Rattle.cap_halves.specs.PassedRuns.{invoke_passed, object_passed};
+ghost use Rattle.cap_run_log.specs.declared.lines.RunStep.{RunStep as RunStepIn};
+ghost use Rattle.cap_halves.specs.{PassedLines.run_line_passed, PassedRuns.IsStepFrom};
 ghost use Rattle.cap_run_judge.specs.Readings.{IsUnmade, stage_of};
-ghost use Rattle.capcheck_judge.specs.{RunHandles.{HandsOverRun, HandsOverRunStep, IsNoStep, run_held_in}, RunTakings.TakesRunLine};
+ghost use Rattle.capcheck_judge.specs.{Holding.IsNoStep, RunHandles.{HandsOverRunStep, run_held_in}, RunTakings.TakesRunLine};
 
 use crate::run_handle::RunHandle;
-use cap_halves::halves::from_c;
-use cap_halves::run_steps::{
-    derive_from, drop_from, exchange_from, fill_from, free_from, invoke_from, object_from,
-};
-use cap_halves::values::{Capability, Halves, PassedPlace};
+use cap_halves::kinds::FIRST_RUN_KIND;
+use cap_halves::line_steps::{run_step_from, step_from};
+use cap_halves::values::PassedRunLine;
 use cap_judge::TakeFault;
-use cap_log::kinds::{
-    AndPerm, ClearTag, Load, LoadCap, Move, Seal, SetAddr, SetBounds, SetBoundsExact, Store,
-    StoreCap, Unseal,
-};
+use cap_log::Step;
 use cap_machine::Instruction;
 use cap_report::answers::{GOES_ON, NO, NO_JUDGE, NO_LINE, NO_MEMORY};
 use cap_run::RunEnd;
@@ -33,297 +23,31 @@ use cap_run_log::{RunLine, RunStep};
 use std::alloc::Global;
 use tagmem::PageStore;
 
-/// Hands over a step `move`.
+/// Hands over the step that a line's kind and numbers name: it answers as `capcheck_run_judge_line` does on the line that
+/// spells the step. If they name none, or a number is out of its range, it answers 5, and nothing has changed. What a line
+/// of its kind doesn't have isn't looked at.
 #[unsafe(no_mangle)]
-pub extern "C" fn capcheck_run_step_move(
+pub extern "C" fn capcheck_run_step(
     alloc: Global,
     judge: &mut RunHandle,
-    target: u64,
-    source: u64,
-    recorded: Capability,
+    line: &PassedRunLine,
 ) -> u8
-    ensures step { HandsOverRun (line.Step (steps.Move (plain_passed target source recorded))) (run_held_in judge.old) (run_held_in judge.new) result }
+    ensures step { HandsOverRunStep (run_line_passed line.now) (run_held_in judge.old) (run_held_in judge.new) result }
 {
-    hand_over_usual::<Move>(alloc, judge, (target, source, from_c(recorded)))
-}
-
-/// Hands over a step `cleartag`.
-#[unsafe(no_mangle)]
-pub extern "C" fn capcheck_run_step_cleartag(
-    alloc: Global,
-    judge: &mut RunHandle,
-    target: u64,
-    source: u64,
-    recorded: Capability,
-) -> u8
-    ensures step { HandsOverRun (line.Step (steps.ClearTag (plain_passed target source recorded))) (run_held_in judge.old) (run_held_in judge.new) result }
-{
-    hand_over_usual::<ClearTag>(alloc, judge, (target, source, from_c(recorded)))
-}
-
-/// Hands over a step `setbounds`.
-#[unsafe(no_mangle)]
-pub extern "C" fn capcheck_run_step_setbounds(
-    alloc: Global,
-    judge: &mut RunHandle,
-    target: u64,
-    source: u64,
-    length: u64,
-    recorded: Capability,
-) -> u8
-    ensures step { HandsOverRun (line.Step (steps.SetBounds (numbered_passed target source length recorded))) (run_held_in judge.old) (run_held_in judge.new) result }
-{
-    hand_over_usual::<SetBounds>(alloc, judge, (target, source, length, from_c(recorded)))
-}
-
-/// Hands over a step `setboundsexact`.
-#[unsafe(no_mangle)]
-pub extern "C" fn capcheck_run_step_setboundsexact(
-    alloc: Global,
-    judge: &mut RunHandle,
-    target: u64,
-    source: u64,
-    length: u64,
-    recorded: Capability,
-) -> u8
-    ensures step { HandsOverRun (line.Step (steps.SetBoundsExact (numbered_passed target source length recorded))) (run_held_in judge.old) (run_held_in judge.new) result }
-{
-    hand_over_usual::<SetBoundsExact>(alloc, judge, (target, source, length, from_c(recorded)))
-}
-
-/// Hands over a step `setaddr`.
-#[unsafe(no_mangle)]
-pub extern "C" fn capcheck_run_step_setaddr(
-    alloc: Global,
-    judge: &mut RunHandle,
-    target: u64,
-    source: u64,
-    address: u64,
-    recorded: Capability,
-) -> u8
-    ensures step { HandsOverRun (line.Step (steps.SetAddr (numbered_passed target source address recorded))) (run_held_in judge.old) (run_held_in judge.new) result }
-{
-    hand_over_usual::<SetAddr>(alloc, judge, (target, source, address, from_c(recorded)))
-}
-
-/// Hands over a step `andperm`.
-#[unsafe(no_mangle)]
-pub extern "C" fn capcheck_run_step_andperm(
-    alloc: Global,
-    judge: &mut RunHandle,
-    target: u64,
-    source: u64,
-    mask: u64,
-    recorded: Capability,
-) -> u8
-    ensures step { HandsOverRun (line.Step (steps.AndPerm (numbered_passed target source mask recorded))) (run_held_in judge.old) (run_held_in judge.new) result }
-{
-    hand_over_usual::<AndPerm>(alloc, judge, (target, source, mask, from_c(recorded)))
-}
-
-/// Hands over a step `seal`.
-#[unsafe(no_mangle)]
-pub extern "C" fn capcheck_run_step_seal(
-    alloc: Global,
-    judge: &mut RunHandle,
-    target: u64,
-    source: u64,
-    authority: u64,
-    recorded: Capability,
-) -> u8
-    ensures step { HandsOverRun (line.Step (steps.Seal (authorized_passed target source authority recorded))) (run_held_in judge.old) (run_held_in judge.new) result }
-{
-    hand_over_usual::<Seal>(alloc, judge, (target, source, authority, from_c(recorded)))
-}
-
-/// Hands over a step `unseal`.
-#[unsafe(no_mangle)]
-pub extern "C" fn capcheck_run_step_unseal(
-    alloc: Global,
-    judge: &mut RunHandle,
-    target: u64,
-    source: u64,
-    authority: u64,
-    recorded: Capability,
-) -> u8
-    ensures step { HandsOverRun (line.Step (steps.Unseal (authorized_passed target source authority recorded))) (run_held_in judge.old) (run_held_in judge.new) result }
-{
-    hand_over_usual::<Unseal>(alloc, judge, (target, source, authority, from_c(recorded)))
-}
-
-/// Hands over a step `lc`.
-#[unsafe(no_mangle)]
-pub extern "C" fn capcheck_run_step_lc(
-    alloc: Global,
-    judge: &mut RunHandle,
-    target: u64,
-    authority: u64,
-    offset: i64,
-    recorded: Capability,
-) -> u8
-    ensures step { HandsOverRun (line.Step (steps.LoadCap (lc_passed target authority offset recorded))) (run_held_in judge.old) (run_held_in judge.new) result }
-{
-    hand_over_usual::<LoadCap>(alloc, judge, (target, authority, offset, from_c(recorded)))
-}
-
-/// Hands over a step `sc`.
-#[unsafe(no_mangle)]
-pub extern "C" fn capcheck_run_step_sc(
-    alloc: Global,
-    judge: &mut RunHandle,
-    source: u64,
-    authority: u64,
-    offset: i64,
-) -> u8
-    ensures step { HandsOverRun (line.Step (steps.StoreCap (sc_passed source authority offset))) (run_held_in judge.old) (run_held_in judge.new) result }
-{
-    hand_over_usual::<StoreCap>(alloc, judge, (source, authority, offset))
-}
-
-/// Hands over a step `load`: `size` is 1, 2, 4 or 8, and `value` is below 256^size.
-#[unsafe(no_mangle)]
-pub extern "C" fn capcheck_run_step_load(
-    alloc: Global,
-    judge: &mut RunHandle,
-    authority: u64,
-    offset: i64,
-    size: u64,
-    value: u64,
-) -> u8
-    ensures step { HandsOverRun (line.Step (steps.Load (data_passed authority offset size value))) (run_held_in judge.old) (run_held_in judge.new) result }
-{
-    hand_over_usual::<Load>(alloc, judge, (authority, offset, size, value))
-}
-
-/// Hands over a step `store`: `size` is 1, 2, 4 or 8, and `value` is below 256^size.
-#[unsafe(no_mangle)]
-pub extern "C" fn capcheck_run_step_store(
-    alloc: Global,
-    judge: &mut RunHandle,
-    authority: u64,
-    offset: i64,
-    size: u64,
-    value: u64,
-) -> u8
-    ensures step { HandsOverRun (line.Step (steps.Store (data_passed authority offset size value))) (run_held_in judge.old) (run_held_in judge.new) result }
-{
-    hand_over_usual::<Store>(alloc, judge, (authority, offset, size, value))
-}
-
-/// Hands over a step `derive`: the target is a register 1 to 31 or a special register, the source a register 0 to 31 or a
-/// special register.
-#[unsafe(no_mangle)]
-pub extern "C" fn capcheck_run_step_derive(
-    alloc: Global,
-    judge: &mut RunHandle,
-    target: PassedPlace,
-    source: PassedPlace,
-    recorded: Capability,
-) -> u8
-    ensures step { HandsOverRunStep (derive_passed target source recorded) (run_held_in judge.old) (run_held_in judge.new) result }
-{
-    hand_over_run(alloc, judge, derive_from(target, source, recorded))
-}
-
-/// Hands over a step `exchange`.
-#[unsafe(no_mangle)]
-pub extern "C" fn capcheck_run_step_exchange(
-    alloc: Global,
-    judge: &mut RunHandle,
-    target: u64,
-    source: u64,
-    special: u64,
-    recorded: Capability,
-    special_recorded: Capability,
-) -> u8
-    ensures step { HandsOverRunStep (Some (exchange_passed target source special recorded special_recorded)) (run_held_in judge.old)
-        (run_held_in judge.new) result }
-{
-    let step = exchange_from(target, source, special, recorded, special_recorded);
-    hand_over_run(alloc, judge, step)
-}
-
-/// Hands over a step `invoke`.
-#[unsafe(no_mangle)]
-pub extern "C" fn capcheck_run_step_invoke(
-    alloc: Global,
-    judge: &mut RunHandle,
-    code: u64,
-    datum: u64,
-    code_word: Halves,
-    datum_word: Halves,
-) -> u8
-    ensures step { HandsOverRunStep (Some (invoke_passed code datum code_word datum_word)) (run_held_in judge.old)
-        (run_held_in judge.new) result }
-{
-    hand_over_run(
-        alloc,
-        judge,
-        invoke_from(code, datum, code_word, datum_word),
-    )
-}
-
-/// Hands over a step `drop`: the place is a register 1 to 31, a special register, or a granule at an address that is a
-/// multiple of 16.
-#[unsafe(no_mangle)]
-pub extern "C" fn capcheck_run_step_drop(
-    alloc: Global,
-    judge: &mut RunHandle,
-    place: PassedPlace,
-) -> u8
-    ensures step { HandsOverRunStep (drop_passed place) (run_held_in judge.old) (run_held_in judge.new) result }
-{
-    hand_over_run(alloc, judge, drop_from(place))
-}
-
-/// Hands over a step `fill`: an address that is a multiple of 16, and the word that the granule gets.
-#[unsafe(no_mangle)]
-pub extern "C" fn capcheck_run_step_fill(
-    alloc: Global,
-    judge: &mut RunHandle,
-    address: u64,
-    word: Halves,
-) -> u8
-    ensures step { HandsOverRunStep (fill_passed address word) (run_held_in judge.old) (run_held_in judge.new) result }
-{
-    hand_over_run(alloc, judge, fill_from(address, word))
-}
-
-/// Hands over a step `object`: a register 1 to 31, and the number of an object, below 2^32; or 0, if what the register
-/// holds is a new object's.
-#[unsafe(no_mangle)]
-pub extern "C" fn capcheck_run_step_object(
-    alloc: Global,
-    judge: &mut RunHandle,
-    register: u64,
-    object: u64,
-) -> u8
-    ensures step { HandsOverRunStep (Some (object_passed register object)) (run_held_in judge.old) (run_held_in judge.new) result }
-{
-    hand_over_run(alloc, judge, object_from(register, object))
-}
-
-/// Hands over a step `free`: by a register 1 to 31, and then the object's number is 0; or by the number of an object, below
-/// 2^32, and then the register is 0.
-#[unsafe(no_mangle)]
-pub extern "C" fn capcheck_run_step_free(
-    alloc: Global,
-    judge: &mut RunHandle,
-    register: u64,
-    object: u64,
-) -> u8
-    ensures step { HandsOverRunStep (free_passed register object) (run_held_in judge.old) (run_held_in judge.new) result }
-{
-    hand_over_run(alloc, judge, free_from(register, object))
+    if line.line.kind < FIRST_RUN_KIND {
+        hand_over_usual(alloc, judge, step_from(&line.line))
+    } else {
+        hand_over_run(alloc, judge, run_step_from(line))
+    }
 }
 
 // Hands over the step of version 2 that C's numbers make. If they make none, returns that they are no line, and nothing
 // has changed.
-#[inline(always)]
-fn hand_over_usual<I: Instruction>(alloc: Global, judge: &mut RunHandle, numbers: I::Numbers) -> u8
-    ensures { HandsOverRun (line.Step (I.step (I.meant numbers))) (run_held_in judge.old) (run_held_in judge.new) result }
+fn hand_over_usual(alloc: Global, judge: &mut RunHandle, step: Option<Step>) -> u8
+    ensures handed { (passed : Option StepIn) → IsStepFrom IsStepInRange passed step
+        → HandsOverRunStep (option_map line.Step passed) (run_held_in judge.old) (run_held_in judge.new) result }
 {
-    match I::from_numbers(numbers) {
+    match step {
         Some(step) =>
             ask!(judge, alloc, |held| state = take_usual_step(&mut held, step), state, else NO_JUDGE),
         None => hand_over_none(alloc, judge),
@@ -333,8 +57,8 @@ fn hand_over_usual<I: Instruction>(alloc: Global, judge: &mut RunHandle, numbers
 // Hands over the step that C's numbers make, and that only runs have, in the same way.
 fn hand_over_run(alloc: Global, judge: &mut RunHandle, step: Option<RunStep>) -> u8
     requires range { IfSome step IsRunStepInRange }
-    ensures handed { (passed : Option StepIn) → IsStepFrom passed step
-        → HandsOverRunStep passed (run_held_in judge.old) (run_held_in judge.new) result }
+    ensures handed { (passed : Option RunStepIn) → IsStepFrom IsRunStepInRange passed step
+        → HandsOverRunStep (option_map line.Run passed) (run_held_in judge.old) (run_held_in judge.new) result }
 {
     match step {
         Some(step) =>
@@ -351,11 +75,20 @@ fn hand_over_none(alloc: Global, judge: &mut RunHandle) -> u8
     ask!(judge, alloc, |held| state = NO_LINE, state, else NO_JUDGE)
 }
 
-// Hands a step to a judge of run logs: 0, 2 or 3, as `capcheck_run_judge_line` says of its line.
-#[inline(always)]
-fn take_usual_step<I: Instruction>(judge: &mut RunJudge<PageStore>, step: I) -> u8
+// Hands a step of version 2 to a judge of run logs: 0, 2 or 3, as `capcheck_run_judge_line` says of its line.
+fn take_usual_step(judge: &mut RunJudge<PageStore>, step: Step) -> u8
     ensures answers { (result ≡ 0) ⊎ (result ≡ 2) ⊎ (result ≡ 3) }
-    ensures takes { TakesRunLine judge.old (run_spelling (line.Step (I.step step)) ++ 10 ∷ []) result judge.new }
+    ensures takes { TakesRunLine judge.old (run_spelling (line.Step step) ++ 10 ∷ []) result judge.new }
+{
+    by_kind!(step, step => take_step_of_kind(judge, step))
+}
+
+// Hands a step of one kind to a judge.
+#[inline(always)]
+fn take_step_of_kind<I: Instruction>(judge: &mut RunJudge<PageStore>, step: I) -> u8
+    ensures answers { (result ≡ 0) ⊎ (result ≡ 2) ⊎ (result ≡ 3) }
+    ensures takes { (of : StepIn) → of ≡ I.step step
+        → TakesRunLine judge.old (run_spelling (line.Step of) ++ 10 ∷ []) result judge.new }
 {
     match judge.make_step(step) {
         Ok(()) => GOES_ON,

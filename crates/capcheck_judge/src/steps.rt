@@ -1,20 +1,24 @@
 //! Steps handed over to a judge that C holds, without their lines.
 //!
 //! Each call answers as `capcheck_judge_line` does on the line that spells the step. If a number is out of its
-//! range no line spells it: it answers 5, and nothing has changed.
+//! range no line spells it: it answers 5, and nothing has changed. `capcheck_judge_step` takes any of the twelve.
 
 ghost use Rattle.std.specs.Prelude.{◌≡◌, ◌⊎◌, [], ◌∷◌, ◌++◌, IfSome};
 ghost use Rattle.cap_log.specs.Lines.{spelling};
 ghost use Rattle.cap_log.specs.declared.lines.Line.TheVariants as line;
 ghost use Rattle.cap_judge.specs.Readings.{IsUnmade};
+ghost use Rattle.cap_log.specs.declared.kinds.Step.{Step as StepIn};
 ghost use Rattle.cap_log.specs.declared.kinds.Step.TheVariants as steps;
+ghost use Rattle.cap_halves.specs.PassedLines.{step_passed};
 ghost use Rattle.cap_halves.specs.PassedSteps.{authorized_passed, data_passed, lc_passed, numbered_passed, plain_passed, sc_passed};
-ghost use Rattle.capcheck_judge.specs.{Handles.{HandsOver, held_in}, Takings.TakesLine};
+ghost use Rattle.capcheck_judge.specs.{Handles.{HandsOver, HandsOverStep, held_in}, Takings.TakesLine};
 
 use crate::handle::Handle;
 use cap_halves::halves::from_c;
-use cap_halves::values::Capability;
+use cap_halves::line_steps::step_from;
+use cap_halves::values::{Capability, PassedLine};
 use cap_judge::{Judge, TakeFault};
+use cap_log::Step;
 use cap_log::kinds::{
     AndPerm, ClearTag, Load, LoadCap, Move, Seal, SetAddr, SetBounds, SetBoundsExact, Store,
     StoreCap, Unseal,
@@ -201,6 +205,20 @@ pub extern "C" fn capcheck_judge_store(
     hand_over::<Store>(alloc, judge, (authority, offset, size, value))
 }
 
+/// Hands over the step that a line's kind and numbers name: it answers as `capcheck_judge_line` does on the line that spells
+/// the step. If they name none, or a number is out of its range, it answers 5, and nothing has changed. What a line of its
+/// kind doesn't have isn't looked at.
+#[unsafe(no_mangle)]
+pub extern "C" fn capcheck_judge_step(alloc: Global, judge: &mut Handle, line: &PassedLine) -> u8
+    ensures step { HandsOverStep (step_passed line.now) (held_in judge.old) (held_in judge.new) result }
+{
+    match step_from(line) {
+        Some(step) =>
+            ask!(judge, alloc, |held| state = take_any_step(&mut held, step), state, else NO_JUDGE),
+        None => ask!(judge, alloc, |held| state = NO_LINE, state, else NO_JUDGE),
+    }
+}
+
 // Hands over the step that C's numbers make. If they make none, returns that they are no line, and nothing has changed.
 #[inline(always)]
 fn hand_over<I: Instruction>(alloc: Global, judge: &mut Handle, numbers: I::Numbers) -> u8
@@ -213,11 +231,19 @@ fn hand_over<I: Instruction>(alloc: Global, judge: &mut Handle, numbers: I::Numb
     }
 }
 
-// Hands a step to a judge: 0, 2 or 3, as `capcheck_judge_line` says of its line.
+// Hands a step of any kind to a judge.
+fn take_any_step(judge: &mut Judge<PageStore>, step: Step) -> u8
+    ensures answers { (result ≡ 0) ⊎ (result ≡ 2) ⊎ (result ≡ 3) }
+    ensures takes { TakesLine judge.old (spelling (line.Step step) ++ 10 ∷ []) result judge.new }
+{
+    by_kind!(step, step => take_step(judge, step))
+}
+
+// Hands a step of one kind to a judge: 0, 2 or 3, as `capcheck_judge_line` says of its line.
 #[inline(always)]
 fn take_step<I: Instruction>(judge: &mut Judge<PageStore>, step: I) -> u8
     ensures answers { (result ≡ 0) ⊎ (result ≡ 2) ⊎ (result ≡ 3) }
-    ensures takes { TakesLine judge.old (spelling (line.Step (I.step step)) ++ 10 ∷ []) result judge.new }
+    ensures takes { (of : StepIn) → of ≡ I.step step → TakesLine judge.old (spelling (line.Step of) ++ 10 ∷ []) result judge.new }
 {
     match judge.make_step(step) {
         Ok(()) => GOES_ON,

@@ -7,4 +7,4 @@ help_text = codes "usage: capdiag why [--origins] [--context N] [--json] [FILE..
 
 -- its version
 abbrev pub version_line : List ℕ
-version_line = codes "capdiag 1.2.0\n"
+version_line = codes "capdiag 1.3.0-dev\n"

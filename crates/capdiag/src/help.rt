@@ -26,5 +26,5 @@ pub fn show_version<K: Sink>(out: &mut K) -> Result<u8, Fault>
     ensures unread { result ≢ Err Fault.Read }
     ensures written { IsCounted Fault.Write result (K.faults out.old) (K.faults out.new) }
 {
-    show(b"capdiag 1.2.0\n", out)
+    show(b"capdiag 1.3.0-dev\n", out)
 }

@@ -2,7 +2,8 @@ use Rattle.std.proofs.Common.{◌+◌, ◌∙◌, ◌≤◌, List, ap, arith, dr
 use Rattle.std.proofs.{Common.set, lemmas.List.{take_more_set, Elements.All-push}}
 use Rattle.std.specs.List.{All}
 use Rattle.cap_log.specs.{Lines.{IsInRange, spelling}, Parts.BeginsWithNone}
-use Rattle.capcheck_c.specs.{declared.values.LineRead.LineRead, LinesRead.ReadsLines}
+use Rattle.cap_halves.specs.declared.values.PassedLine.{PassedLine}
+use Rattle.capcheck_c.specs.LinesRead.{ReadsLines}
 use Rattle.capcheck_c.proofs.ReadLemmas.{none_read, reads_more, rest_of}
 use Rattle.capcheck_c.proofs.read_lines.capcheck_read_lines.Goals.{else-loop-count-test}
 use Rattle.capcheck_c.proofs.read_lines.capcheck_read_lines.Goals.{then-loop-count-test+then-line-eq-NO_LINE}
@@ -22,10 +23,10 @@ loop-count-preserved c =
       fits = omega (arith, below, before.long);
       long = length-set lines count read ∙ before.long;
       read = subst (ReadsLines c.args.bytes.now (take (count + 1) (set lines count read))) (sym c.split_at.ensures.back)
-          (subst (λ (l : List LineRead). ReadsLines c.args.bytes.now l (drop read.length c.loop-count.rest.now))
+          (subst (λ (l : List PassedLine). ReadsLines c.args.bytes.now l (drop read.length c.loop-count.rest.now))
           (sym (take_more_set lines count read below)) more);
-      tags = subst (All (λ (line : LineRead). line.cap.tag ≤ 1)) (sym (take_more_set lines count read below))
-          (All-push (λ (line : LineRead). line.cap.tag ≤ 1) (take count lines) read before.tags c.capcheck_read_line-line.ensures.tag);
+      tags = subst (All (λ (line : PassedLine). line.cap.tag ≤ 1)) (sym (take_more_set lines count read below))
+          (All-push (λ (line : PassedLine). line.cap.tag ≤ 1) (take count lines) read before.tags c.capcheck_read_line-line.ensures.tag);
       after = after ∙ sym (drop-drop 1 count lines) ∙ ap (drop 1) before.after ∙ drop-drop 1 count c.args.lines.now;
     }
 

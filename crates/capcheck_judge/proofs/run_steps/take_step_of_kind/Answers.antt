@@ -1,7 +1,7 @@
 use Rattle.std.proofs.Common.{IfSome, subst, sym}
 use Rattle.cap_run_log.specs.declared.lines.RunLine.TheVariants as line
 use Rattle.cap_run_judge.specs.{Readings.IsUnmade, Turns.Stage}
-use Rattle.capcheck_judge.proofs.run_steps.take_usual_step.Goals as goal
+use Rattle.capcheck_judge.proofs.run_steps.take_step_of_kind.Goals as goal
 
 pub take_unmade_step-requires : goal.take_unmade_step-requires
 take_unmade_step-requires g c = record {

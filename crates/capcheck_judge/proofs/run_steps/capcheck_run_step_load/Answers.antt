@@ -1,7 +1,0 @@
-use Rattle.std.proofs.{Common.w64, lemmas.Int.to_z-of_z}
-use Rattle.capcheck_judge.proofs.run_steps.capcheck_run_step_load.Goals as goal
-
-pub returns : goal.returns
-returns c =
-    let same = to_z-of_z w64 c.args.offset c.ranges.offset in
-    record { step = rw same at c.hand_over_usual.ensures }
