@@ -16,7 +16,7 @@ _MANY = 1024
 
 
 class Kind(IntEnum):
-    """The kinds of lines, named like the functions that write them; those of `runs` from 64 on."""
+    """The kinds of lines, named like the functions that write them; those of `runs` from 64 up."""
     VERSION = 1
     MODE = 2
     ROOT = 3

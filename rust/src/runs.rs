@@ -334,7 +334,7 @@ impl RunJudge {
     }
 
     /// Passes the whole lines that some bytes begin with, and returns how many bytes they have: pass the rest again, with more
-    /// after it. If the log ends there and the verdict is a yes, pass the rest with a line feed: nothing may follow the end line.
+    /// after it. If the log ends there and the verdict is a `yes`, pass the rest with a line feed: nothing may follow the end line.
     /// After [`Fault::NoMemory`], [`RunJudge::lines_taken`] says how far it came.
     pub fn lines(&mut self, bytes: &[u8]) -> Result<usize, Fault> {
         let (taken, state) = self.lines_taken(bytes);
