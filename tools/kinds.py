@@ -2,7 +2,7 @@
 """What CONTRIBUTING.md's recipes touch: the files of crates/ that name a kind of step, a version of the log or a store.
 
     python3 tools/kinds.py [WORD]     prints the files that name a kind, in any spelling. WORD is the kind's word,
-                                      `setboundsexact` if none is given
+                                      `andperm` if none is given
     python3 tools/kinds.py --check    prints where a recipe is not so: it says other numbers of files than name its
                                       example, or leaves out a source file that does, or names one that is not there
 
@@ -28,7 +28,8 @@ def spelled(word):
 
 # Each recipe's heading, what its example is named by, and the crate that is the example's own.
 RECIPES = [
-    ("Adding a step kind", spelled("setboundsexact"), None),
+    ("Adding a step kind", spelled("andperm"), None),
+    ("Adding a step of run logs", spelled("exchange"), None),
     ("Adding a version of the log", r"Two(?:Strict|Clear)|capcheck 2|Version(?: |\()2|IsVersion|LogVersion", None),
     ("Adding a store", "LentStore", "tagmem_lent"),
 ]
@@ -66,7 +67,7 @@ def check():
     sys.exit(bool(said))
 
 
-def main(word="setboundsexact"):
+def main(word="andperm"):
     for part in PARTS:
         found = named(spelled(word), part)
         print(f"{part}: {len(found)}", *found, sep="\n  ")
