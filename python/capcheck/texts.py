@@ -62,7 +62,8 @@ class Text(Importer):
         self._pc: int | None = None
         self._effects: list[tuple[Any, ...]] = []
         self._of_another = self._is_open = False  # Whether the last line is a capability, which the next one may go on with.
-        self._trap: list[Any] | None = None
+        self._trapped = False
+        self._level = next(iter(dialect.modes.values()), None)  # Where a trap saves PCC, and its vector.
         self._mask: int | None = None
         self._returns: list[int] = []
         self._swapped: int | None = None
@@ -108,11 +109,9 @@ class Text(Importer):
             return False
         elif kind == "trap":
             self._finish(None, parsed[1] is not None)
-            self._trap, self._effects, self.machine.kernel = [self._pc, None], [], 1
-            self._now = None
+            self._now, self._trapped, self._effects, self.machine.kernel = None, True, [], 1
         elif kind == "mode":
-            if self._trap:
-                self._trap[1] = self._mode(parsed[1])
+            self._level = self._mode(parsed[1])
         else:
             self._effects.append(parsed)
         return False
@@ -235,8 +234,8 @@ class Text(Importer):
     def _finish(self, next_pc: int | None, completed: bool = True) -> None:
         """Records the instruction whose lines have been read, or what came before the first one."""
         machine, effects, self._where = self.machine, self._effects, self.at
-        if self._trap:
-            self._trapped(next_pc)
+        if self._trapped:
+            self._trap(next_pc)
         elif self._now is None:
             if not self.instructions:
                 self._roots()
@@ -288,13 +287,11 @@ class Text(Importer):
         machine.did(step, target, source, other, number & _LOW, held)
         return True
 
-    def _trapped(self, next_pc: int | None) -> None:
-        pc, modes = self._trap
-        self._trap = None
-        saved, vector = modes or next(iter(self._dialect.modes.values()), (None, None))
-        if vector is None:
+    def _trap(self, next_pc: int | None) -> None:
+        self._trapped = False
+        if self._level is None:
             return
-        machine = self.machine
+        machine, pc, (saved, vector) = self.machine, self._pc, self._level
         written = {place: self._held(fields) for what, place, fields in self._effects if what == "capability"}
         tag, word = machine.held[PCC]
         saved_held = written.pop(saved, (tag, word if pc is None else word & ~_LOW | pc))
