@@ -10,11 +10,12 @@ from ._abi import words as _words
 from .dialects import DDC, PCC, STEPS, STRAIGHT, Dialect
 from .lines import Kind
 from .recording import Recorder
-from .traces import _LOW, _NULL_HIGH, _TYPE, _UNSEALED, Held, Importer, _shown, _unsealed, word_of
+from .traces import _LOW, _NULL_HIGH, _TYPE, _UNSEALED, Held, Importer, _name, _shown, _unsealed, word_of
 from .words import NULL
 
 _MOST_LINES = 2**16  # So many parsed lines are kept.
 _ARGUMENT, _LINK = 10, 1  # Of RISC-V's calls.
+_PLACES = {"pcc": 1, "return": 1, "jump": 2, "invoke": 2, "special": 3}  # So many operands of a kind are registers; two of a step.
 _TOKEN, _AUTHORITY = re.compile(r"[^\s,()]+"), re.compile(r"\((\w+)\)")
 Operand = tuple[int | None, int | None]  # A place, or a number.
 
@@ -159,10 +160,13 @@ class Text(Importer):
         found = [self._operand(it) for it in _TOKEN.findall(operands or "")]
         kind, positions = self._dialect.kinds.get(mnemonic.lower(), ("", ()))
         wanted = [(-1 - it, 0) if it < 0 else found[it] if it < len(found) else None for it in positions]
-        if None in wanted:
-            kind, wanted = "", []
         authority = _AUTHORITY.search(operands or "")
         place = None if authority is None else self._operand(authority[1])[0]
+        if kind == "jump" and place is not None and len(wanted) == 2:
+            wanted[1] = place, None
+        if kind and (None in wanted or any(it[0] is None for it in wanted[:_PLACES.get(kind, 2 if kind in STEPS else 0)])):
+            self.notes[f"operands that weren't understood: {mnemonic} {operands}"] += 1
+            kind, wanted = "", []
         places = [it % 64 for it, _ in found if it is not None]
         return _Plan(kind, wanted, places, DDC if place is not None and place >= 64 else place, mnemonic, _quick(kind, wanted))
 
@@ -382,9 +386,10 @@ class Text(Importer):
                 step = Kind.MOVE
         elif kind == "copytype":
             number = machine.held[(wanted[2][0] or 0) % 64][1] >> 91 & _UNSEALED
-            if number == _UNSEALED:
-                machine.overwrote(target, held[1] & _LOW)
-                return
+            if number == _UNSEALED:  # NULL, whose address is 2^64 - 1.
+                source, number = 0, _LOW
+        elif kind == "fromptr" and self._number(wanted[2]) == 0:
+            source = 0
         elif kind == "fromptr" and source == 0:
             machine.derive(target, (DDC,), held)
             return
@@ -405,6 +410,8 @@ class Text(Importer):
         """Records a jump, a return, an invocation, CSpecialRW, and what is derived from PCC."""
         machine = self.machine
         at = [(it[0] or 0) % 64 for it in wanted]
+        if kind in ("jump", "special") and at[0] and at[0] not in written:
+            raise ValueError(f"what {self._now.mnemonic} wrote into {_name(at[0])} isn't in the trace")
         if kind == "pcc":
             if at[0] in written:
                 machine.derive(at[0], (PCC,), written.pop(at[0]))
