@@ -69,11 +69,11 @@ static void print_instruction(const char *name, const char *operands) {
 static void print_register(const char *name, capcheck_cap cap) {
     capcheck_bounds bounds = capcheck_decode(cap.word);
     capcheck_fields fields = capcheck_split(cap.word);
-    capcheck_wide length = capcheck_length(cap.word);
+    uint64_t over = bounds.top.high - (bounds.top.low < bounds.base); /* above 64 bits, or negative */
     if (way == QEMU)
         printf("    Write %s|v:%d s:%d p:%08lx f:%d b:%016llx l:%016llx\n             |o:%016llx t:%lx\n", name, cap.tag != 0,
                capcheck_sealed(cap.word), (unsigned long)capcheck_perm_view(cap.word), fields.flag, (big)bounds.base,
-               length.high != 0 ? ~0ULL : (big)length.low, (big)(cap.word.low - bounds.base), (unsigned long)fields.otype);
+               over != 0 ? ~0ULL : (big)(bounds.top.low - bounds.base), (big)(cap.word.low - bounds.base), (unsigned long)fields.otype);
 }
 
 static void print_memory(const char *what, uint64_t address, capcheck_cap cap) {
@@ -182,6 +182,8 @@ static void increment(unsigned d, unsigned s, int64_t by) {
 }
 
 static void set_bounds(unsigned d, unsigned s, uint64_t length) {
+    if (c[s].word.low > UINT64_MAX - 0x10000)
+        return; /* a trace doesn't show all bits of what would be made */
     integer(A5, length);
     did(CAPCHECK_KIND_SETBOUNDS, "csetbounds", d, s, 0, length, "a5",
         capcheck_set_bounds_clear(c[s], bug == LONG ? length + 1 : bug == SHORT && length ? length - 1 : length, 0));
