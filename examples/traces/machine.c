@@ -21,7 +21,7 @@ enum way { OWN, DID, WROTE, EVENTS, QEMU };
 enum bug { NONE, LONG, SHORT, PERMISSION, TAG, ADDRESS, SENTRY, MEMORY, STALE };
 
 enum {
-    MEM = 0x10000, HEAP = 0x10000, SLOTS = 4, SLOT = 0x400, STACK = 0x18000, STACK_SIZE = 0x400, GRANULES = 0x1000,
+    MEM = 0x10000, HEAP = 0x10000, SLOTS = 4, SLOT = 0x400, STACK = 0x18000, STACK_SIZE = 0x400, TABLE = 0x300 /* on the stack: the objects */, GRANULES = 0x1000,
     CODE = 0x1000, FUNCTION = 0x2000, MALLOC = 0x2100, FREE = 0x2200, HANDLER = 0x3000,
     RA = 1, SP = 2, A0 = 10, A1 = 11, A5 = 15, HEAP_CAP = 18, ENTRY = 20, SEALER = 21, TEMP = 28, SPARE = 31,
     PCC = 0, DDC = 1, KERNEL = 27, MTCC = 28, MSCRATCHC = 30, MEPCC = 31
@@ -551,7 +551,7 @@ static void prepare(void) {
 
 static void random_step(void) {
     unsigned d = 3 + draw(6), s = 3 + draw(6);
-    int64_t slot = 16 * (int64_t)draw(STACK_SIZE / 16 - 1);
+    int64_t slot = 16 * (int64_t)draw(TABLE / 16), entry = TABLE + 16 * (int64_t)draw(SLOTS);
     switch (draw(20)) {
     case 0: case 1: increment(d, s, 8 * (int64_t)draw(16) - 16); break;
     case 2: case 3: set_bounds(d, s, draw(4) ? draw(64) : draw(5000)); break;
@@ -563,16 +563,19 @@ static void random_step(void) {
         access_data(true, A5, capcheck_c(SP), slot);
         load_cap(d, SP, slot);
         break;
-    case 8: load_cap(d, SP, slot); break;
+    case 8: load_cap(d, SP, draw(4) ? entry : slot); break;
     case 9: case 10: access_data(draw(2) != 0, A5, capcheck_c(s), 8 * (int64_t)draw(4)); break;
     case 11: case 12: case 13:
         if (allocate(16 + draw(SLOT - 16))) {
             move(d, A0);
-            store_cap(A0, SP, slot);
+            store_cap(A0, SP, TABLE + (int64_t)(capcheck_decode(c[A0].word).base - HEAP) / SLOT * 16);
         } else
             sweep();
         break;
-    case 14: case 15: release(s); break;
+    case 14: case 15:
+        load_cap(9, SP, entry);
+        release(9);
+        break;
     case 16:
         did(CAPCHECK_KIND_SEAL, "cseal", d, s, SEALER, 0, "cs5", capcheck_seal_clear(c[s], c[SEALER]));
         did(CAPCHECK_KIND_UNSEAL, "cunseal", d, d, SEALER, 0, "cs5", capcheck_unseal_clear(c[d], c[SEALER]));
