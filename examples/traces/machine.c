@@ -592,11 +592,11 @@ static void random_step(void) {
             special(d, MSCRATCHC, "mscratchc", s);
         break;
     default:
-        if (draw(2)) {
+        if (draw(3) == 0) {
             integer(A5, STACK + 8 * draw(64));
             access_data(draw(2) != 0, A1, capcheck_scr(DDC), (int64_t)c[A5].word.low);
         } else
-            set_address(d, s, draw(3) ? c[s].word.low + draw(64) : 0x8000 + draw(0x400000));
+            set_address(d, s, draw(2) ? c[s].word.low + draw(64) : 0x8000 + draw(0x400000));
     }
 }
 
