@@ -343,11 +343,12 @@ static void print_access(const char *name, unsigned first, capcheck_place author
     print_instruction(name, text);
 }
 
-static uint64_t granule_of(uint64_t address) { return (address - MEM) / 16 % GRANULES; }
+static bool is_memory(uint64_t address) { return address >= MEM && address < MEM + 16 * GRANULES; }
+static uint64_t granule_of(uint64_t address) { return (address - MEM) / 16; }
 
 static void store_cap(unsigned s, unsigned authority, int64_t offset) {
     uint64_t address = c[authority].word.low + (uint64_t)offset;
-    if (capcheck_may_store_cap(c[authority], offset, c[s]).refusal != CAPCHECK_NOT_REFUSED)
+    if (capcheck_may_store_cap(c[authority], offset, c[s]).refusal != CAPCHECK_NOT_REFUSED || !is_memory(address))
         return;
     memory[granule_of(address)] = c[s].word;
     tags[granule_of(address)] = c[s].tag;
@@ -365,7 +366,7 @@ static void store_cap(unsigned s, unsigned authority, int64_t offset) {
 static void load_cap(unsigned d, unsigned authority, int64_t offset) {
     uint64_t address = c[authority].word.low + (uint64_t)offset;
     capcheck_cap stored;
-    if (capcheck_may_load_cap(c[authority], offset).refusal != CAPCHECK_NOT_REFUSED)
+    if (capcheck_may_load_cap(c[authority], offset).refusal != CAPCHECK_NOT_REFUSED || !is_memory(address))
         return;
     stored.word = memory[granule_of(address)];
     stored.tag = tags[granule_of(address)];
@@ -390,6 +391,8 @@ static void access_data(bool is_store, unsigned number, capcheck_place authority
     capcheck_cap cap = *register_of(authority);
     uint64_t address = cap.word.low + (uint64_t)offset, value = c[number].word.low, *half;
     capcheck_access may = capcheck_may_store(cap, offset, 8);
+    if (!is_memory(address))
+        return;
     if (authority.kind == CAPCHECK_REGISTER && (may.refusal != CAPCHECK_NOT_REFUSED || capcheck_may_load(cap, offset, 8).refusal))
         return;
     half = address % 16 == 0 ? &memory[granule_of(address)].low : &memory[granule_of(address)].high;
