@@ -9,7 +9,7 @@
  *
  * The program calls functions, spills capabilities to its stack, allocates and frees objects, and traps. BUG is a fault of the
  * machine: long, short, permission, tag, address, sentry, memory or stale. STEPS, in the environment, is how many times the
- * program goes on; by default 60. docs/TRACES.md says how to judge what is printed.
+ * program goes on; by default 60. After 1,000 steps it begins anew. docs/TRACES.md says how to judge what is printed.
  */
 #include <capcheck_recorder.h>
 
@@ -617,14 +617,23 @@ int main(int argc, char **argv) {
     static const char *const bugs[] = {"none", "long", "short", "permission", "tag", "address", "sentry", "memory", "stale", NULL};
     const char *count = getenv("STEPS");
     char line[CAPCHECK_LINE_SIZE];
-    unsigned long left = count != NULL ? strtoul(count, NULL, 10) : 60;
+    unsigned long left = count != NULL ? strtoul(count, NULL, 10) : 60, done;
+    uint64_t first, begun;
     way = (enum way)of(ways, argc > 1 ? argv[1] : "");
     seed = argc > 2 ? strtoull(argv[2], NULL, 10) : 1;
     begin();
     prepare();
     bug = (enum bug)of(bugs, argc > 3 ? argv[3] : "none");
-    for (; left > 0; left--)
+    first = seed;
+    begun = pc;
+    for (done = 0; done < left; done++) {
+        if (done > 0 && done % 1000 == 0) {
+            print_instruction("j", "loop");
+            seed = first;
+            pc = begun;
+        }
         random_step();
+    }
     integer(A5, 0);
     if (way == DID || way == WROTE)
         RECORD(end, &r);

@@ -200,7 +200,7 @@ class Text(Importer):
         self._now, self._pc, self._effects = plan, pc, []
         self.instructions += 1
         self.at, self.text = self.lines, text
-        if pc in self._watched or self._returns:
+        if pc in self._watched or self._returns and pc == self._returns[-1]:
             self._object(pc)
 
     def _object(self, pc: int | None) -> None:
@@ -209,7 +209,7 @@ class Text(Importer):
             self.machine.call("freed", _ARGUMENT, 0)
         elif pc in self._malloc:
             self._returns.append(self.machine.held[_LINK][1] & _LOW)
-        elif self._returns and pc == self._returns[-1]:
+        else:
             self._returns.pop()
             if self.machine.held[_ARGUMENT][0]:
                 self.machine.call("object", _ARGUMENT, 0)
