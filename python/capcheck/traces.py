@@ -110,7 +110,7 @@ class Machine:
 
     def __init__(self, recorder: Recorder) -> None:
         self.recorder, self._pointer = recorder, recorder._pointer
-        self._value = _abi.Cap()  # What is passed to `did`, and its word.
+        self._value = _abi.Cap()  # What is passed, and its word.
         self._word = self._value.word
         self.held: list[Held] = [(0, NULL.word)] * 64
         self.told = 1  # The registers that a line has told, by bits.
@@ -122,6 +122,15 @@ class Machine:
     def call(self, name: str, *values: Any) -> None:
         if not _CALLS[name](self._pointer, *values):
             self.recorder._done(False)
+
+    def _passed(self, held: Held) -> _abi.Cap:
+        """A capability as C takes it, until the next call: one that is made anew takes longer."""
+        tag, both = held
+        value, word = self._value, self._word
+        value.tag = tag == 1
+        word.high = both >> 64
+        word.low = both & _LOW
+        return value
 
     def hold(self, place: int, held: Held) -> None:
         if place:
@@ -142,10 +151,7 @@ class Machine:
         self._memory[address] = (word ^ NULL.word).to_bytes(16, "little"), 0xFFFF, 1
 
     def did(self, kind: int, target: int, source: int, other: int, number: int, held: Held) -> None:
-        value, word = self._value, self._word
-        value.tag, both = held
-        word.high, word.low = both >> 64, both & _LOW
-        if not _DID(self._pointer, kind, target, source, other, number, value):
+        if not _DID(self._pointer, kind, target, source, other, number, self._passed(held)):
             self.recorder._done(False)
         if target:
             self.held[target] = held
@@ -154,7 +160,7 @@ class Machine:
                 self.vague &= ~(1 << target)
 
     def wrote(self, target: int, source: int, held: Held) -> None:
-        self.call("wrote", _PLACES[target], _PLACES[source], _cap(held))
+        self.call("wrote", _PLACES[target], _PLACES[source], self._passed(held))
         self.hold(target, held)
 
     def overwrote(self, target: int, integer: int) -> None:
