@@ -9,7 +9,7 @@
  *
  * The program calls functions, spills capabilities to its stack, allocates and frees objects, and traps. BUG is a fault of the
  * machine: long, short, permission, tag, address, sentry, memory or stale. STEPS, in the environment, is how many times the
- * program goes on; by default 60. docs/TRACES.md says how to judge what is printed.
+ * program goes on; by default 60. After 1,000 steps it begins anew. docs/TRACES.md says how to judge what is printed.
  */
 #include <capcheck_recorder.h>
 
@@ -21,7 +21,7 @@ enum way { OWN, DID, WROTE, EVENTS, QEMU };
 enum bug { NONE, LONG, SHORT, PERMISSION, TAG, ADDRESS, SENTRY, MEMORY, STALE };
 
 enum {
-    MEM = 0x10000, HEAP = 0x10000, SLOTS = 4, SLOT = 0x400, STACK = 0x18000, STACK_SIZE = 0x400, GRANULES = 0x1000,
+    MEM = 0x10000, HEAP = 0x10000, SLOTS = 4, SLOT = 0x400, STACK = 0x18000, STACK_SIZE = 0x400, TABLE = 0x300 /* on the stack: the objects */, GRANULES = 0x1000,
     CODE = 0x1000, FUNCTION = 0x2000, MALLOC = 0x2100, FREE = 0x2200, HANDLER = 0x3000,
     RA = 1, SP = 2, A0 = 10, A1 = 11, A5 = 15, HEAP_CAP = 18, ENTRY = 20, SEALER = 21, TEMP = 28, SPARE = 31,
     PCC = 0, DDC = 1, KERNEL = 27, MTCC = 28, MSCRATCHC = 30, MEPCC = 31
@@ -69,11 +69,11 @@ static void print_instruction(const char *name, const char *operands) {
 static void print_register(const char *name, capcheck_cap cap) {
     capcheck_bounds bounds = capcheck_decode(cap.word);
     capcheck_fields fields = capcheck_split(cap.word);
-    capcheck_wide length = capcheck_length(cap.word);
+    uint64_t over = bounds.top.high - (bounds.top.low < bounds.base); /* above 64 bits, or negative */
     if (way == QEMU)
         printf("    Write %s|v:%d s:%d p:%08lx f:%d b:%016llx l:%016llx\n             |o:%016llx t:%lx\n", name, cap.tag != 0,
                capcheck_sealed(cap.word), (unsigned long)capcheck_perm_view(cap.word), fields.flag, (big)bounds.base,
-               length.high != 0 ? ~0ULL : (big)length.low, (big)(cap.word.low - bounds.base), (unsigned long)fields.otype);
+               over != 0 ? ~0ULL : (big)(bounds.top.low - bounds.base), (big)(cap.word.low - bounds.base), (unsigned long)fields.otype);
 }
 
 static void print_memory(const char *what, uint64_t address, capcheck_cap cap) {
@@ -182,6 +182,8 @@ static void increment(unsigned d, unsigned s, int64_t by) {
 }
 
 static void set_bounds(unsigned d, unsigned s, uint64_t length) {
+    if (c[s].word.low > UINT64_MAX - 0x10000)
+        return; /* a trace doesn't show all bits of what would be made */
     integer(A5, length);
     did(CAPCHECK_KIND_SETBOUNDS, "csetbounds", d, s, 0, length, "a5",
         capcheck_set_bounds_clear(c[s], bug == LONG ? length + 1 : bug == SHORT && length ? length - 1 : length, 0));
@@ -341,11 +343,12 @@ static void print_access(const char *name, unsigned first, capcheck_place author
     print_instruction(name, text);
 }
 
-static uint64_t granule_of(uint64_t address) { return (address - MEM) / 16 % GRANULES; }
+static bool is_memory(uint64_t address) { return address >= MEM && address < MEM + 16 * GRANULES; }
+static uint64_t granule_of(uint64_t address) { return (address - MEM) / 16; }
 
 static void store_cap(unsigned s, unsigned authority, int64_t offset) {
     uint64_t address = c[authority].word.low + (uint64_t)offset;
-    if (capcheck_may_store_cap(c[authority], offset, c[s]).refusal != CAPCHECK_NOT_REFUSED)
+    if (capcheck_may_store_cap(c[authority], offset, c[s]).refusal != CAPCHECK_NOT_REFUSED || !is_memory(address))
         return;
     memory[granule_of(address)] = c[s].word;
     tags[granule_of(address)] = c[s].tag;
@@ -363,7 +366,7 @@ static void store_cap(unsigned s, unsigned authority, int64_t offset) {
 static void load_cap(unsigned d, unsigned authority, int64_t offset) {
     uint64_t address = c[authority].word.low + (uint64_t)offset;
     capcheck_cap stored;
-    if (capcheck_may_load_cap(c[authority], offset).refusal != CAPCHECK_NOT_REFUSED)
+    if (capcheck_may_load_cap(c[authority], offset).refusal != CAPCHECK_NOT_REFUSED || !is_memory(address))
         return;
     stored.word = memory[granule_of(address)];
     stored.tag = tags[granule_of(address)];
@@ -388,6 +391,8 @@ static void access_data(bool is_store, unsigned number, capcheck_place authority
     capcheck_cap cap = *register_of(authority);
     uint64_t address = cap.word.low + (uint64_t)offset, value = c[number].word.low, *half;
     capcheck_access may = capcheck_may_store(cap, offset, 8);
+    if (!is_memory(address))
+        return;
     if (authority.kind == CAPCHECK_REGISTER && (may.refusal != CAPCHECK_NOT_REFUSED || capcheck_may_load(cap, offset, 8).refusal))
         return;
     half = address % 16 == 0 ? &memory[granule_of(address)].low : &memory[granule_of(address)].high;
@@ -549,7 +554,7 @@ static void prepare(void) {
 
 static void random_step(void) {
     unsigned d = 3 + draw(6), s = 3 + draw(6);
-    int64_t slot = 16 * (int64_t)draw(STACK_SIZE / 16 - 1);
+    int64_t slot = 16 * (int64_t)draw(TABLE / 16), entry = TABLE + 16 * (int64_t)draw(SLOTS);
     switch (draw(20)) {
     case 0: case 1: increment(d, s, 8 * (int64_t)draw(16) - 16); break;
     case 2: case 3: set_bounds(d, s, draw(4) ? draw(64) : draw(5000)); break;
@@ -561,16 +566,19 @@ static void random_step(void) {
         access_data(true, A5, capcheck_c(SP), slot);
         load_cap(d, SP, slot);
         break;
-    case 8: load_cap(d, SP, slot); break;
+    case 8: load_cap(d, SP, draw(4) ? entry : slot); break;
     case 9: case 10: access_data(draw(2) != 0, A5, capcheck_c(s), 8 * (int64_t)draw(4)); break;
     case 11: case 12: case 13:
         if (allocate(16 + draw(SLOT - 16))) {
             move(d, A0);
-            store_cap(A0, SP, slot);
+            store_cap(A0, SP, TABLE + (int64_t)(capcheck_decode(c[A0].word).base - HEAP) / SLOT * 16);
         } else
             sweep();
         break;
-    case 14: case 15: release(s); break;
+    case 14: case 15:
+        load_cap(9, SP, entry);
+        release(9);
+        break;
     case 16:
         did(CAPCHECK_KIND_SEAL, "cseal", d, s, SEALER, 0, "cs5", capcheck_seal_clear(c[s], c[SEALER]));
         did(CAPCHECK_KIND_UNSEAL, "cunseal", d, d, SEALER, 0, "cs5", capcheck_unseal_clear(c[d], c[SEALER]));
@@ -587,11 +595,11 @@ static void random_step(void) {
             special(d, MSCRATCHC, "mscratchc", s);
         break;
     default:
-        if (draw(2)) {
+        if (draw(3) == 0) {
             integer(A5, STACK + 8 * draw(64));
             access_data(draw(2) != 0, A1, capcheck_scr(DDC), (int64_t)c[A5].word.low);
         } else
-            set_address(d, s, draw(3) ? c[s].word.low + draw(64) : 0x8000 + draw(0x400000));
+            set_address(d, s, draw(2) ? c[s].word.low + draw(64) : 0x8000 + draw(0x400000));
     }
 }
 
@@ -609,14 +617,23 @@ int main(int argc, char **argv) {
     static const char *const bugs[] = {"none", "long", "short", "permission", "tag", "address", "sentry", "memory", "stale", NULL};
     const char *count = getenv("STEPS");
     char line[CAPCHECK_LINE_SIZE];
-    unsigned long left = count != NULL ? strtoul(count, NULL, 10) : 60;
+    unsigned long left = count != NULL ? strtoul(count, NULL, 10) : 60, done;
+    uint64_t first, begun;
     way = (enum way)of(ways, argc > 1 ? argv[1] : "");
     seed = argc > 2 ? strtoull(argv[2], NULL, 10) : 1;
     begin();
     prepare();
     bug = (enum bug)of(bugs, argc > 3 ? argv[3] : "none");
-    for (; left > 0; left--)
+    first = seed;
+    begun = pc;
+    for (done = 0; done < left; done++) {
+        if (done > 0 && done % 1000 == 0) {
+            print_instruction("j", "loop");
+            seed = first;
+            pc = begun;
+        }
         random_step();
+    }
     integer(A5, 0);
     if (way == DID || way == WROTE)
         RECORD(end, &r);

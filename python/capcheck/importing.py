@@ -26,18 +26,25 @@ _ROOM = 2**18
 def add_arguments(command: argparse.ArgumentParser) -> None:
     """The words of the command."""
     command.epilog = _QEMU
-    command.add_argument("trace", metavar="TRACE", nargs="?", help="a file; without it, standard input")
-    command.add_argument("--dialect", metavar="NAME|FILE", default=dialects.EVENTS, help=f"the form of the trace: {', '.join(dialects.shipped())} or a file; by default events")
-    command.add_argument("--judge", action="store_true", help="print the verdict, and after a no the diagnosis and the line of the trace, and not the log")
-    command.add_argument("--log", metavar="FILE", help="write the log into a file, and not to standard output")
-    command.add_argument("--freed", choices=("held", "used", "both"), default="held", help="what is asked of freed objects, as in capdiag run")
-    command.add_argument("--owned", action="store_true", help="each access to a live object goes through its own capability")
-    command.add_argument("--strict", action="store_true", help="stop at a line that isn't understood")
-    command.add_argument("--mode", choices=("clear", "strict"), help="whether a machine clears tags or traps if a check fails; by default that of the dialect, of events clear")
-    command.add_argument("--spare", metavar="N", type=int, default=0, help="a register that the program doesn't use")
-    command.add_argument("--hart", metavar="N", help="the hart to read; by default that of the first instruction")
+    add = command.add_argument
+    add("trace", metavar="TRACE", nargs="?", help="a file; without it, standard input")
+    add("--dialect", metavar="NAME|FILE", default=dialects.EVENTS,
+        help=f"the form of the trace: {', '.join(dialects.shipped())} or a file; by default events")
+    add("--judge", action="store_true", help="print the verdict, and after a no the diagnosis and the line of the trace, and not the log")
+    add("--log", metavar="FILE", help="write the log into a file, and not to standard output")
+    add("--freed", choices=("held", "used", "both"), default="held", help="what is asked of freed objects, as in capdiag run")
+    add("--owned", action="store_true", help="each access to a live object goes through its own capability")
+    add("--strict", action="store_true", help="stop at a line that isn't understood")
+    add("--mode", choices=("clear", "strict"),
+        help="whether the machine clears tags or traps if a check fails; by default as the dialect says, of events clear")
+    add("--spare", metavar="N", type=int, default=0, help="a register that the program doesn't use")
+    add("--hart", metavar="N", help="the hart to read; by default that of the first instruction")
     for name, told in (("malloc", "a function that returns a new object"), ("free", "a function that frees its argument")):
-        command.add_argument(f"--{name}", metavar="ADDRESS", action="append", default=[], type=lambda it: int(it, 0), help=f"the address of {told}; may be repeated")
+        add(f"--{name}", metavar="ADDRESS", action="append", default=[], type=_address, help=f"the address of {told}; may be repeated")
+
+
+def _address(text: str) -> int:
+    return int(text, 0)
 
 
 def importer(recorder: Recorder, dialect: dialects.Dialect | None, *, stop_at_unknown: bool = False, **words: Any) -> Importer:
@@ -77,7 +84,8 @@ def _shown(lines: Iterable[str], taking: Importer, size: int) -> Iterator[str]:
         if number % _EVERY == 0 and (now := time.monotonic()) - told > 0.5:
             told, rate = now, taking.instructions / max(now - begun, 0.001)
             of = f" of {size / 1e6:.0f}" if size else ""
-            print(f"\r{read / 1e6:.0f}{of} MB, {taking.instructions} instructions, {rate:.0f} a second ", end="", file=sys.stderr, flush=True)
+            said = f"{read / 1e6:.0f}{of} MB, {taking.instructions} instructions, {rate:.0f} a second"
+            print(f"\r{said} ", end="", file=sys.stderr, flush=True)
     if told:
         print(file=sys.stderr)
 

@@ -188,13 +188,15 @@ def summary(results: Iterable[Result]) -> str:
 
 def add_arguments(command: argparse.ArgumentParser) -> None:
     """The words of the command."""
-    command.add_argument("paths", metavar="PATH", nargs="+", help="a log, or a folder with files that end in .log")
-    command.add_argument("--jobs", metavar="N", type=int, default=os.cpu_count() or 1, help="how many are judged at a time; by default one for each processor")
-    command.add_argument("--freed", choices=("held", "used", "both"), default="held", help="what is asked of freed objects, as in capdiag run")
-    command.add_argument("--owned", action="store_true", help="each access to a live object goes through its own capability")
-    command.add_argument("--results", metavar="FILE", help="add the results to a file, of JSON Lines or, if it ends in .csv, CSV; files that it has and that didn't change aren't judged again")
-    command.add_argument("--junit", metavar="FILE", help="write JUnit's XML")
-    command.add_argument("--annotations", action="store_true", help="print rejected logs as annotations of GitHub")
+    add = command.add_argument
+    add("paths", metavar="PATH", nargs="+", help="a log, or a folder with files that end in .log")
+    add("--jobs", metavar="N", type=int, default=os.cpu_count() or 1, help="how many are judged at a time; by default one for each processor")
+    add("--freed", choices=("held", "used", "both"), default="held", help="what is asked of freed objects, as in capdiag run")
+    add("--owned", action="store_true", help="each access to a live object goes through its own capability")
+    add("--results", metavar="FILE", help="add the results to a file, of JSON Lines or, if it ends in .csv, CSV; logs that it has and that "
+        "didn't change aren't judged again")
+    add("--junit", metavar="FILE", help="write JUnit's XML")
+    add("--annotations", action="store_true", help="print rejected logs as annotations of GitHub")
 
 
 def many(given: argparse.Namespace) -> tuple[bytes, int]:

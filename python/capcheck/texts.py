@@ -2,7 +2,7 @@
 from __future__ import annotations
 
 import re
-from collections.abc import Iterable, Sequence
+from collections.abc import Callable, Iterable, Sequence
 from typing import Any, NamedTuple
 
 from . import _abi
@@ -10,11 +10,12 @@ from ._abi import words as _words
 from .dialects import DDC, PCC, STEPS, STRAIGHT, Dialect
 from .lines import Kind
 from .recording import Recorder
-from .traces import _LOW, _NULL_HIGH, _TYPE, _UNSEALED, Held, Importer, _shown, _unsealed, word_of
+from .traces import _LOW, _NULL_HIGH, _TYPE, _UNSEALED, Held, Importer, _name, _shown, _unsealed, shows, word_of
 from .words import NULL
 
 _MOST_LINES = 2**16  # So many parsed lines are kept.
 _ARGUMENT, _LINK = 10, 1  # Of RISC-V's calls.
+_PLACES = {"pcc": 1, "return": 1, "jump": 2, "invoke": 2, "special": 3}  # So many operands of a kind are registers; two of a step.
 _TOKEN, _AUTHORITY = re.compile(r"[^\s,()]+"), re.compile(r"\((\w+)\)")
 Operand = tuple[int | None, int | None]  # A place, or a number.
 
@@ -62,7 +63,8 @@ class Text(Importer):
         self._pc: int | None = None
         self._effects: list[tuple[Any, ...]] = []
         self._of_another = self._is_open = False  # Whether the last line is a capability, which the next one may go on with.
-        self._trap: list[Any] | None = None
+        self._trapped = False
+        self._level = next(iter(dialect.modes.values()), None)  # Where a trap saves PCC, and its vector.
         self._mask: int | None = None
         self._returns: list[int] = []
         self._swapped: int | None = None
@@ -108,11 +110,9 @@ class Text(Importer):
             return False
         elif kind == "trap":
             self._finish(None, parsed[1] is not None)
-            self._trap, self._effects, self.machine.kernel = [self._pc, None], [], 1
-            self._now = None
+            self._now, self._trapped, self._effects, self.machine.kernel = None, True, [], 1
         elif kind == "mode":
-            if self._trap:
-                self._trap[1] = self._mode(parsed[1])
+            self._level = self._mode(parsed[1])
         else:
             self._effects.append(parsed)
         return False
@@ -160,10 +160,13 @@ class Text(Importer):
         found = [self._operand(it) for it in _TOKEN.findall(operands or "")]
         kind, positions = self._dialect.kinds.get(mnemonic.lower(), ("", ()))
         wanted = [(-1 - it, 0) if it < 0 else found[it] if it < len(found) else None for it in positions]
-        if None in wanted:
-            kind, wanted = "", []
         authority = _AUTHORITY.search(operands or "")
         place = None if authority is None else self._operand(authority[1])[0]
+        if kind == "jump" and place is not None and len(wanted) == 2:
+            wanted[1] = place, None
+        if kind and (None in wanted or any(it[0] is None for it in wanted[:_PLACES.get(kind, 2 if kind in STEPS else 0)])):
+            self.notes[f"operands that weren't understood: {mnemonic} {operands}"] += 1
+            kind, wanted = "", []
         places = [it % 64 for it, _ in found if it is not None]
         return _Plan(kind, wanted, places, DDC if place is not None and place >= 64 else place, mnemonic, _quick(kind, wanted))
 
@@ -197,7 +200,7 @@ class Text(Importer):
         self._now, self._pc, self._effects = plan, pc, []
         self.instructions += 1
         self.at, self.text = self.lines, text
-        if pc in self._watched or self._returns:
+        if pc in self._watched or self._returns and pc == self._returns[-1]:
             self._object(pc)
 
     def _object(self, pc: int | None) -> None:
@@ -206,7 +209,7 @@ class Text(Importer):
             self.machine.call("freed", _ARGUMENT, 0)
         elif pc in self._malloc:
             self._returns.append(self.machine.held[_LINK][1] & _LOW)
-        elif self._returns and pc == self._returns[-1]:
+        else:
             self._returns.pop()
             if self.machine.held[_ARGUMENT][0]:
                 self.machine.call("object", _ARGUMENT, 0)
@@ -214,29 +217,41 @@ class Text(Importer):
     def _end(self) -> None:
         self._finish(None)
 
-    def _held(self, fields: dict[str, int]) -> Held:
-        """The capability of fields."""
+    def _held(self, fields: dict[str, int], likely: int | None = None) -> Held:
+        """The capability of fields. An untagged one is the likely word, if that has these fields: they don't show all bits."""
         if "tag" not in fields:
             raise ValueError(f"the field tag is missing: {_shown(fields)}")
+        tag = fields["tag"] & 1
         if "word" in fields:
-            return fields["tag"] & 1, fields["word"]
-        if "high" not in fields or "address" not in fields:
-            return fields["tag"] & 1, word_of(fields)
-        if fields["tag"] == 0 and self._mask is None and fields["high"] == 0:
-            self._mask = _NULL_HIGH  # An integer: NULL's half is printed as 0.
-        return fields["tag"] & 1, (fields["high"] ^ (self._mask or 0)) << 64 | fields["address"]
+            return tag, fields["word"]
+        if "high" in fields and "address" in fields:
+            mask = self._mask if self._mask is not None else 0 if fields["high"] else _NULL_HIGH
+            return tag, (fields["high"] ^ mask) << 64 | fields["address"]
+        try:
+            word = word_of(fields)
+            if tag or likely is None or word == likely or not shows(likely, fields):
+                return tag, word
+            return 0, likely
+        except ValueError:
+            if tag or not ("address" in fields or "base" in fields and "offset" in fields):
+                raise
+        if likely is not None and shows(likely, fields):
+            return 0, likely
+        self.notes["untagged words whose fields no word has"] += 1
+        return -1, _NULL_HIGH << 64 | fields.get("address", (fields.get("base", 0) + fields.get("offset", 0)) & _LOW)
 
-    def _memory_held(self, fields: dict[str, int], known: Held | None) -> Held | None:
-        """The capability of fields of memory. If its half is given, one that is known says how it is printed."""
-        if known and self._mask is None and "high" in fields and fields["high"] in (known[1] >> 64, known[1] >> 64 ^ _NULL_HIGH):
-            self._mask = known[1] >> 64 ^ fields["high"]
-        return self._held(fields) if "tag" in fields else None
+    def _halves(self, fields: dict[str, int], is_it: Callable[[int], bool]) -> None:
+        """Sees how the upper half of a word in memory is printed, as it is or with NULL's as 0, by a word that is known."""
+        if self._mask is None and "high" in fields and "address" in fields:
+            fit = [mask for mask in (0, _NULL_HIGH) if is_it((fields["high"] ^ mask) << 64 | fields["address"])]
+            if len(fit) == 1:
+                self._mask = fit[0]
 
     def _finish(self, next_pc: int | None, completed: bool = True) -> None:
         """Records the instruction whose lines have been read, or what came before the first one."""
         machine, effects, self._where = self.machine, self._effects, self.at
-        if self._trap:
-            self._trapped(next_pc)
+        if self._trapped:
+            self._trap(next_pc)
         elif self._now is None:
             if not self.instructions:
                 self._roots()
@@ -278,23 +293,27 @@ class Text(Importer):
         if what != "capability" or quick is None:
             return False
         step, target, source, other, adds, operand, number = quick
-        if place != target or operand and not machine.told >> operand & 1:
+        if place != target or machine.vague or operand and not machine.told >> operand & 1:
             return False
         if operand:
             number = machine.held[operand][1]
         if adds:
             number += machine.held[source][1]
-        held = (value["tag"] & 1, word_of(value)) if "base" in value and "tag" in value else self._held(value)
-        machine.did(step, target, source, other, number & _LOW, held)
+        number &= _LOW
+        if value.get("tag") == 1 and "base" in value:
+            held = 1, word_of(value)
+        else:
+            held = self._held(value, machine.expected(step, source, other, number))
+            if held[0] < 0:
+                return False
+        machine.did(step, target, source, other, number, held)
         return True
 
-    def _trapped(self, next_pc: int | None) -> None:
-        pc, modes = self._trap
-        self._trap = None
-        saved, vector = modes or next(iter(self._dialect.modes.values()), (None, None))
-        if vector is None:
+    def _trap(self, next_pc: int | None) -> None:
+        self._trapped = False
+        if self._level is None:
             return
-        machine = self.machine
+        machine, pc, (saved, vector) = self.machine, self._pc, self._level
         written = {place: self._held(fields) for what, place, fields in self._effects if what == "capability"}
         tag, word = machine.held[PCC]
         saved_held = written.pop(saved, (tag, word if pc is None else word & ~_LOW | pc))
@@ -320,7 +339,7 @@ class Text(Importer):
                 machine.stored(authority, at, value)
             elif what == "store_capability":
                 source = self._stored(places)
-                self._memory_held(value, machine.held[source])
+                self._halves(value, machine.held[source][1].__eq__)
                 if source != self._swapped:
                     machine.stored_cap(source, authority, at)
             else:
@@ -335,10 +354,12 @@ class Text(Importer):
         machine, authority, (_, at, fields) = self.machine, self._now.authority, effects[index]
         target = places[0]
         self._taken = next((it for it in effects if it[0] in ("capability", "integer") and it[1] == target), None)
-        written = self._held(self._taken[2]) if self._taken and self._taken[0] == "capability" else None
-        held = self._memory_held(fields, written)
-        if written is None:
-            written = held or (0, NULL.word if self._taken is None else _NULL_HIGH << 64 | self._taken[2])
+        if self._taken is not None and self._taken[0] == "capability":
+            shown = self._taken[2]
+            self._halves(fields, lambda word: shows(word, shown))
+            written = self._held(shown, self._held(fields)[1] if "tag" in fields else None)
+        else:
+            written = self._held(fields) if "tag" in fields else (0, NULL.word if self._taken is None else _NULL_HIGH << 64 | self._taken[2])
             target = target if self._taken else 0
         if target and target == self._stored(places) and any(it[0] == "store_capability" for it in effects[index:]):
             self._swapped = target
@@ -349,14 +370,15 @@ class Text(Importer):
     def _results(self, effects: list[tuple[Any, ...]], next_pc: int | None, completed: bool) -> None:
         """Records what an instruction wrote into registers. One that trapped has only what it printed."""
         machine, (kind, wanted, places, _, mnemonic, _) = self.machine, self._now
-        written = {place: self._held(value) for what, place, value in effects if what == "capability"}
+        written = {place: value for what, place, value in effects if what == "capability"}
         if kind in STEPS:
             target = wanted[0][0] % 64
             if target in written:
                 self._step(kind, target, wanted, written.pop(target))
         elif kind and (completed or written) and kind not in ("derive", "access", "call"):
             self._changed_pcc(kind, wanted, written, next_pc)
-        for place, held in written.items():
+        for place, value in written.items():
+            held = self._held(value)
             if held[0] == 0 and held[1] >> 64 == _NULL_HIGH and place < 32:
                 machine.overwrote(place, held[1] & _LOW)
                 continue
@@ -375,39 +397,48 @@ class Text(Importer):
             return None if number is None else number & _LOW
         return self.machine.held[place % 64][1] & _LOW if place % 64 >= 32 or self.machine.told >> place % 64 & 1 else None
 
-    def _step(self, kind: str, target: int, wanted: list[Operand], held: Held) -> None:
+    def _step(self, kind: str, target: int, wanted: list[Operand], fields: dict[str, int]) -> None:
         """Records a step with its own operand."""
         machine, source = self.machine, (wanted[1][0] or 0) % 64
         other, number, step = 0, 0, STEPS[kind]
         if kind in ("seal", "ccseal", "unseal"):
             other = (wanted[2][0] or 0) % 64
-            if kind == "ccseal" and held[1] & _TYPE == machine.held[source][1] & _TYPE:
+            if kind == "ccseal" and self._held(fields)[1] & _TYPE == machine.held[source][1] & _TYPE:
                 step = Kind.MOVE
         elif kind == "copytype":
             number = machine.held[(wanted[2][0] or 0) % 64][1] >> 91 & _UNSEALED
-            if number == _UNSEALED:
-                machine.overwrote(target, held[1] & _LOW)
-                return
+            if number == _UNSEALED:  # NULL, whose address is 2^64 - 1.
+                source, number = 0, _LOW
+        elif kind == "fromptr" and self._number(wanted[2]) == 0:
+            source = 0
         elif kind == "fromptr" and source == 0:
-            machine.derive(target, (DDC,), held)
+            machine.derive(target, (DDC,), self._held(fields))
             return
         elif len(wanted) > 2:
             number = self._number(wanted[2])
             if number is None:
                 self.notes["recorded as derived, no line told their operand"] += 1
-                machine.derive(target, (source,), held)
+                machine.derive(target, (source,), self._held(fields))
                 return
             tag, word = machine.held[source]
             if kind == "incoffset":
                 number = (word + number) & _LOW
             elif kind in ("setoffset", "fromptr"):
                 number = (_words.capcheck_decode(_abi.Wide(word >> 64, word & _LOW)).base + number) & _LOW
-        machine.step(step, target, source, other, number, held)
+        held = self._held(fields, machine.expected(step, source, other, number) if not fields.get("tag") else None)
+        if held[0] < 0 or machine.vague >> source & 1:
+            machine.derive(target, (source,), held)
+        else:
+            machine.step(step, target, source, other, number, held)
 
-    def _changed_pcc(self, kind: str, wanted: list[Operand], written: dict[int, Held], next_pc: int | None) -> None:
-        """Records a jump, a return, an invocation, CSpecialRW, and what is derived from PCC."""
+    def _changed_pcc(self, kind: str, wanted: list[Operand], fields: dict[int, dict[str, int]], next_pc: int | None) -> None:
+        """Records a jump, a return, an invocation, CSpecialRW, and what is derived from PCC. What it records is no longer in `fields`."""
         machine = self.machine
+        written = {place: self._held(value, machine.held[wanted[1][0] % 64][1] if kind == "special" and place == wanted[0][0] else None)
+                   for place, value in fields.items()}
         at = [(it[0] or 0) % 64 for it in wanted]
+        if kind in ("jump", "special") and at[0] and at[0] not in written:
+            raise ValueError(f"what {self._now.mnemonic} wrote into {_name(at[0])} isn't in the trace")
         if kind == "pcc":
             if at[0] in written:
                 machine.derive(at[0], (PCC,), written.pop(at[0]))
@@ -426,3 +457,5 @@ class Text(Importer):
                 machine.trapped(None, machine.held[0], at[0], pcc)
             else:
                 machine.exchanged(at[0], at[1], PCC, written.pop(at[0], machine.held[0]), pcc)
+        for place in fields.keys() - written.keys():
+            del fields[place]

@@ -18,7 +18,7 @@ _NULL_HIGH = NULL.word >> 64
 _LOW, _WHOLE = 2**64 - 1, 2**64
 _UNSEALED, _SENTRY, _TYPE = 0x3FFFF, 0x3FFFE, 0x3FFFF << 91
 _KERNEL, _SAVED = 32 + 27, 32 + 26  # The root of what a kernel builds; where a register waits while an access borrows it.
-Held = tuple[int, int]  # A tag and a word.
+Held = tuple[int, int]  # A tag and a word. The tag -1 is that of an untagged word of which the trace shows too little.
 
 
 class TraceError(ValueError):
@@ -27,7 +27,7 @@ class TraceError(ValueError):
 
 def _cap(held: Held) -> _abi.Cap:
     tag, word = held
-    return _abi.Cap(_abi.Wide(word >> 64, word & _LOW), tag)
+    return _abi.Cap(_abi.Wide(word >> 64, word & _LOW), tag == 1)
 
 
 _CALLS = {name: getattr(_recorders, f"capcheck_recorder_{name}") for name in _abi.RECORDER}
@@ -81,6 +81,16 @@ def word_of(fields: dict[str, int]) -> int:
         raise ValueError(f"no word has these fields: {_shown(fields)}: {wrong}") from None
 
 
+def shows(word: int, fields: dict[str, int]) -> bool:
+    """Whether a word has these fields."""
+    wide = _abi.Wide.of(word)
+    bounds, split = _words.capcheck_decode(wide), _words.capcheck_split(wide)
+    has = {"base": bounds.base, "length": min((int(bounds.top) - bounds.base) % (2 * _WHOLE), _LOW), "permissions": _words.capcheck_perm_view(wide),
+           "type": split.otype, "flag": split.flag, "address": split.address, "offset": (split.address - bounds.base) & _LOW,
+           "sealed": int(split.otype != _UNSEALED), "word": word, "high": word >> 64}
+    return all(has[name] == (value & _UNSEALED if name == "type" else value) for name, value in fields.items() if name in has)
+
+
 def _shown(fields: dict[str, int]) -> str:
     return " ".join(f"{name} {value:x}" for name, value in fields.items()) or "none"
 
@@ -100,23 +110,35 @@ class Machine:
 
     def __init__(self, recorder: Recorder) -> None:
         self.recorder, self._pointer = recorder, recorder._pointer
-        self._value = _abi.Cap()  # What is passed to `did`, and its word.
+        self._value = _abi.Cap()  # What is passed, and its word.
         self._word = self._value.word
         self.held: list[Held] = [(0, NULL.word)] * 64
         self.told = 1  # The registers that a line has told, by bits.
         self._memory: dict[int, tuple[bytes, int, int]] = {}  # Of a granule: its bytes, which of them are told, its tag.
         self.spare = recorder.spare
+        self.vague = 0  # The registers of whose words the trace shows too little, by bits.
         self.kernel = self.built = 0  # Whether a kernel ran just now; how many capabilities it built.
 
     def call(self, name: str, *values: Any) -> None:
         if not _CALLS[name](self._pointer, *values):
             self.recorder._done(False)
 
+    def _passed(self, held: Held) -> _abi.Cap:
+        """A capability as C takes it, until the next call: one that is made anew takes longer."""
+        tag, both = held
+        value, word = self._value, self._word
+        value.tag = tag == 1
+        word.high = both >> 64
+        word.low = both & _LOW
+        return value
+
     def hold(self, place: int, held: Held) -> None:
         if place:
-            self.held[place] = held
+            tag, word = held
+            self.held[place] = max(tag, 0), word
             if place < 32:
                 self.told |= 1 << place
+                self.vague = self.vague & ~(1 << place) | (tag < 0) << place
 
     # ---- Registers ----
 
@@ -129,28 +151,31 @@ class Machine:
         self._memory[address] = (word ^ NULL.word).to_bytes(16, "little"), 0xFFFF, 1
 
     def did(self, kind: int, target: int, source: int, other: int, number: int, held: Held) -> None:
-        value, word = self._value, self._word
-        value.tag, both = held
-        word.high, word.low = both >> 64, both & _LOW
-        if not _DID(self._pointer, kind, target, source, other, number, value):
+        if not _DID(self._pointer, kind, target, source, other, number, self._passed(held)):
             self.recorder._done(False)
         if target:
             self.held[target] = held
             self.told |= 1 << target
+            if self.vague:
+                self.vague &= ~(1 << target)
 
     def wrote(self, target: int, source: int, held: Held) -> None:
-        self.call("wrote", _PLACES[target], _PLACES[source], _cap(held))
+        self.call("wrote", _PLACES[target], _PLACES[source], self._passed(held))
         self.hold(target, held)
 
     def overwrote(self, target: int, integer: int) -> None:
         if not _OVERWROTE(self._pointer, target, integer):
             self.recorder._done(False)
-        self.hold(target, (0, _NULL_HIGH << 64 | integer))
+        if target:
+            self.held[target] = 0, _NULL_HIGH << 64 | integer
+            self.told |= 1 << target
+            if self.vague:
+                self.vague &= ~(1 << target)
 
     def fault(self, source: int, held: Held, into: int = 0) -> int:
         """Why a `derive` is refused, by number."""
         tag, word = held
-        return _words.capcheck_derive_fault(_cap(self.held[source]), _abi.Wide(word >> 64, word & _LOW), into == PCC) if tag else 0
+        return _words.capcheck_derive_fault(_cap(self.held[source]), _abi.Wide(word >> 64, word & _LOW), into == PCC) if tag == 1 else 0
 
     def exchanged(self, target: int, source: int | None, special: int, held: Held, special_held: Held) -> None:
         place = _NOWHERE if source is None else _PLACES[source]
@@ -191,6 +216,23 @@ class Machine:
         elif source is None:
             source = next((it for it in sources if self.held[it][0]), sources[0] if sources else 0)
         self.wrote(target, source, held)
+
+    def expected(self, kind: int, source: int, other: int, number: int) -> int:
+        """The word of a step's result, if it has no tag."""
+        cap = _cap(self.held[source])
+        if kind in (Kind.SETBOUNDS, Kind.SETBOUNDSEXACT):
+            made = _words.capcheck_set_bounds_clear(cap, number, 0)
+        elif kind == Kind.SETADDR:
+            made = _words.capcheck_set_addr_clear(cap, number)
+        elif kind == Kind.ANDPERM:
+            made = _words.capcheck_and_perm_clear(cap, number)
+        elif kind == Kind.SEAL:
+            made = _words.capcheck_seal_clear(cap, _cap(self.held[other]))
+        elif kind == Kind.UNSEAL:
+            made = _words.capcheck_unseal_clear(cap, _cap(self.held[other]))
+        else:
+            made = cap
+        return made.word.high << 64 | made.word.low
 
     def step(self, kind: int, target: int, source: int, other: int, number: int, held: Held) -> None:
         """A step, unless a kernel has changed what it reads."""
@@ -278,7 +320,7 @@ class Machine:
     def stored_cap(self, source: int, authority: int, address: int) -> None:
         self._access("stored_cap", (source,), authority, address)
         tag, word = self.held[source]
-        self._memory[address & ~15] = (word ^ NULL.word).to_bytes(16, "little"), 0xFFFF, tag
+        self._memory[address & ~15] = (word ^ NULL.word).to_bytes(16, "little"), 0 if self.vague >> source & 1 else 0xFFFF, tag
 
 
 class Importer:
