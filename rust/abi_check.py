@@ -64,14 +64,14 @@ def compare_structs(header, compared):
 
 
 def compare_constants(header, compared):
-    refusals, heaps = (dict(re.findall(r"\b([A-Z]\w+) = (\d+)", SOURCES[it])) for it in ("refusals", "heaps"))
+    refusals = dict(re.findall(r"\b([A-Z]\w+) = (\d+)", SOURCES["refusals"]))
     constants = dict(re.findall(r"const (\w+): \w+ = (\w+);", "\n".join(SOURCES.values())))
     for name, number in header.constants.items():
         short = name.removeprefix("CAPCHECK_")
-        found = constants.get(short, (heaps | refusals).get(camel(short.lower())))
+        found = constants.get(short, refusals.get(camel(short.lower())))
         if found is not None:
             compared.same(name, number, int(found, 0))
-    compared.same("refusals", (39, 11), (len(refusals), len(heaps)))
+    compared.same("refusals", 42, len(refusals))
 
 
 def main():

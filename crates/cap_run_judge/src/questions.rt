@@ -44,9 +44,10 @@ impl<M: TaggedStore> RunJudge<M> {
     {
         match &self.stage {
             NextRunLine::Refused(fault) => match fault.refusal {
-                RunRefusal::Usual(Refusal::WrongResult) => {
-                    given_for(&self.machine, fault.text.as_slice())
-                }
+                RunRefusal::Usual(refusal) => match refusal {
+                    Refusal::WrongResult => given_for(&self.machine, fault.text.as_slice()),
+                    _ => None,
+                },
                 _ => None,
             },
             _ => None,
@@ -59,8 +60,11 @@ fn given_for<M: TaggedStore>(machine: &RunMachine<M>, text: &[u8]) -> Option<Exp
     ensures gives { (asks : AsksIn) → GivesForText asks (run_in machine.now) text.now result }
 {
     match read_run_line(text) {
-        Some(RunLine::Step(step)) => expected_of(machine.machine().shown(&step).given),
-        _ => None,
+        Some(line) => match line {
+            RunLine::Step(step) => expected_of(machine.machine().shown(&step).given),
+            _ => None,
+        },
+        None => None,
     }
 }
 

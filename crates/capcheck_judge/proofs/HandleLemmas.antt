@@ -3,16 +3,17 @@ use Rattle.std.proofs.Common.{◌≡◌, ◌≢◌, ◌↔◌, IsTrue, refl, ◌
 use Rattle.std.proofs.{Common.{None, Option, is_some, Some}, lemmas.Bool.{false≢true}}
 use denote.RattleType.{RattleType}
 use Rattle.cap_word.specs.declared.word.Cap.{Cap}
-use Rattle.cap_log.specs.{declared.lines.{Line.Line, Place.Place}, Lines.{IsInRange, spelling}}
+use Rattle.cap_log.specs.{declared.{kinds.Step.Step, lines.{Line.Line, Place.Place}}, Lines.{IsInRange, IsStepInRange, spelling}}
+use Rattle.cap_halves.specs.PassedRuns.{IsStepFrom}
 use Rattle.tagmem.specs.contracts.page_store.{PageStore.the_row as store_row, PageStoreTaggedStore.TheImpl.ghosts}
 use Rattle.cap_judge.specs.{declared.verdict.Verdict.Verdict, Logs.MayLackMemory, Readings.{BeginsWhole, Follows}}
 use Rattle.cap_judge.specs.Readings.{HasRead, Known, Stands, at, stage_of, verdict_so_far}
 use Rattle.cap_judge.specs.{Turns.unread, contracts.judges.Judge.the_row as judge_row}
 use Rattle.cap_judge.proofs.{TurnLaws.{lacks_memory, none_so_far, reached, stands_so_far}, TurnLemmas.follows_on}
 use Rattle.cap_report.specs.declared.answers.Answer.{Answer}
-use Rattle.capcheck_judge.specs.Handles.{AnswersSoFar, IsPassed, Standing, HandsOver, HeldJudge, Holds, known_in, origin_behind}
+use Rattle.capcheck_judge.specs.Handles.{AnswersSoFar, IsPassed, Standing, HandsOver, HandsOverStep, HeldJudge, Holds, known_in, origin_behind}
 use Rattle.cap_halves.specs.declared.values.PassedPlace.{PassedPlace}
-use Rattle.capcheck_judge.specs.{Handles.state_behind, Takings.TakesLine}
+use Rattle.capcheck_judge.specs.{Handles.state_behind, Holding.IsNoStep, Takings.TakesLine}
 
 -- a judge over pages
 abbrev pub J : Type 0
@@ -124,3 +125,67 @@ handed line held after old new state range is now answers line_is =
       no_line = (λ five. absurd (omega (arith, five, small)), λ both. absurd (both.1 range));
       held = (λ none. absurd (there after new now none), λ none. absurd (there held old is none));
     }
+
+-- No step
+
+-- an answer that is none of the first three
+not_three : (state : ℕ) → (state ≡ 4) ⊎ (state ≡ 5) → (state < 3 → ⊥) × (state ≢ 0) × (state ≢ 2) × (state ≢ 3)
+not_three state (inl is) = (λ below. omega (arith, is, below), λ it. omega (arith, is, it), λ it. omega (arith, is, it), λ it. omega (arith, is, it))
+not_three state (inr is) = (λ below. omega (arith, is, below), λ it. omega (arith, is, it), λ it. omega (arith, is, it), λ it. omega (arith, is, it))
+
+-- no line was handed over: there is no judge, or the line isn't in range
+unhanded : (line : Line) (held after : HeldJudge) (state : ℕ) → IsNoStep held state → (held ≢ None → ¬ IsInRange line) → after ≡ held
+    → HandsOver line held after state
+unhanded line None after state is out same =
+    let no = not_three state (inl is) in
+    record {
+      answers = omega (arith, is);
+      never_yes = λ one. omega (arith, is, one);
+      taken = λ below bytes holds. absurd (no.0 below);
+      goes_on = λ zero bytes holds. absurd (no.1 zero);
+      at_fault = λ two bytes holds whole. no.2 two;
+      unchanged = λ large. ap known_in same;
+      still_holds = λ large bytes holds. subst (λ (h : HeldJudge). Holds h bytes) (sym same) holds;
+      no_memory = λ three bytes holds. absurd (no.3 three);
+      no_judge = (λ four. refl, λ none. is);
+      no_line = (λ five. let never : ⊥ = omega (arith, is, five) in absurd never, λ both. absurd (both.0 refl));
+      held = (λ none. sym same ∙ none, λ none. same ∙ none);
+    }
+unhanded line (Some judge) after state is out same =
+    let no = not_three state (inr is) in
+    record {
+      answers = omega (arith, is);
+      never_yes = λ one. omega (arith, is, one);
+      taken = λ below bytes holds. absurd (no.0 below);
+      goes_on = λ zero bytes holds. absurd (no.1 zero);
+      at_fault = λ two bytes holds whole. no.2 two;
+      unchanged = λ large. ap known_in same;
+      still_holds = λ large bytes holds. subst (λ (h : HeldJudge). Holds h bytes) (sym same) holds;
+      no_memory = λ three bytes holds. absurd (no.3 three);
+      no_judge = (λ four. let never : ⊥ = omega (arith, is, four) in absurd never, λ none. absurd (there (Some judge) judge refl none));
+      no_line = (λ five. (λ none. there (Some judge) judge refl none, out (λ none. there (Some judge) judge refl none)), λ both. is);
+      held = (λ none. sym same ∙ none, λ none. same ∙ none);
+    }
+
+-- a step that C's numbers name was handed over
+pub passed_step : (passed : Option Step) (step : Step) (held after : HeldJudge) (old new : J) (state : ℕ)
+    → IsStepFrom IsStepInRange passed (Some step) → held ≡ Some old → after ≡ Some new → (state ≡ 0) ⊎ ((state ≡ 2) ⊎ (state ≡ 3))
+    → TakesLine old (spelling (Line.Step step) ++ 10 ∷ []) state new → HandsOverStep passed held after state
+passed_step passed step held after old new state from is now answers takes =
+    subst (λ (p : Option Step). HandsOverStep p held after state) (sym from.0)
+    (handed (Line.Step step) held after old new state from.1 is now answers
+    (line_handed (spelling (Line.Step step) ++ 10 ∷ []) held after old new state is now takes))
+
+-- or it was not: there is no judge
+pub unjudged_step : (passed : Option Step) (held after : HeldJudge) (state : ℕ) → held ≡ None → after ≡ None → state ≡ 4
+    → HandsOverStep passed held after state
+unjudged_step None held after state none now is = (subst (λ (h : HeldJudge). IsNoStep h state) (sym none) is, now ∙ sym none)
+unjudged_step (Some step) held after state none now is =
+    unhanded (Line.Step step) held after state (subst (λ (h : HeldJudge). IsNoStep h state) (sym none) is) (λ some. absurd (some none))
+    (now ∙ sym none)
+
+-- or the numbers name none
+pub no_step : (passed : Option Step) (held after : HeldJudge) (state : ℕ) → IsStepFrom IsStepInRange passed None → IsNoStep held state
+    → after ≡ held → HandsOverStep passed held after state
+no_step None held after state from is same = (is, same)
+no_step (Some step) held after state from is same = unhanded (Line.Step step) held after state is (λ some. from step refl) same

@@ -1,6 +1,6 @@
 -- What a handle's judge takes that is handed lines of a run log.
 use Rattle.std.proofs.Common.{inl, inr, ◌≡◌, ◌≢◌, ◌≤◌, ◌∙◌, ℕ, List, [], ◌++◌, ap, append_assoc, arith, drop}
-use Rattle.std.proofs.Common.{length, refl, subst, sym, take, take-append-drop, Option, Some}
+use Rattle.std.proofs.Common.{length, refl, subst, sym, take, take-append-drop, None, Option, Some}
 use Rattle.std.proofs.lemmas.Option.{none-some}
 use Rattle.cap_judge.specs.declared.judges.Stop.{Stop, TheVariants.{Cut, Fault, NoMemory}}
 use Rattle.cap_run.specs.declared.asks.Asks.{Asks}

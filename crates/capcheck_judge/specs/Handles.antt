@@ -18,6 +18,7 @@ use Rattle.cap_report.specs.{declared.answers.Answer.Answer, Answers.{numbers_of
 use Rattle.cap_report.specs.Whys.{ExplainsEnd, ExplainsSoFar}
 use Rattle.cap_halves.specs.{Passed.{cap_of, no_cap}, declared.values.PassedPlace.PassedPlace}
 use Rattle.capcheck_judge.specs.declared.answers.{PassedExpected.PassedExpected, LinesTaken.LinesTaken}
+use Rattle.capcheck_judge.specs.Holding.{IsNoStep}
 use Rattle.capcheck_judge.specs.declared.handle.Handle.{Handle}
 
 -- what a handle holds: a judge, or none
