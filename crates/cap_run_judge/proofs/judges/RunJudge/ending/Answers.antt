@@ -14,7 +14,7 @@ pub returns-in_default-clause-ends : goal.returns-in_default-clause-ends
 returns-in_default-clause-ends g c = λ cut.
     ends_refused (stage_of c.args.self.now) c.args.rest.now _ c.fault-in_default.result
     (rw c.usual-in_default.ensures
-    (unended c.args.self.now.stage (run_in c.args.self.now.machine) c.args.rest.now c.in_default.not-Ended c.in_default.not-Refused))
+    (unended c.args.self.now.due (run_in c.args.self.now.machine) c.args.rest.now c.in_default.not-Ended c.in_default.not-Refused))
     cut c.fault-in_default.ensures.line c.fault-in_default.ensures.refusal c.fault-in_default.ensures.front
 
 pub returns-then-is_empty-clause-ends : goal.returns-then-is_empty-clause-ends
@@ -23,10 +23,10 @@ returns-then-is_empty-clause-ends g c = λ cut.
     rw (c.in-Ended.is, none) (refl, c.steps.ensures.value, c.roots.ensures.value, c.count.ensures.value)
 
 pub returns-else-is_empty-clause-fault : goal.returns-else-is_empty-clause-fault
-returns-else-is_empty-clause-fault g c = λ fault is. absurd (ended_clear c.args.self.now.stage fault c.in-Ended.is is)
+returns-else-is_empty-clause-fault g c = λ fault is. absurd (ended_clear c.args.self.now.due fault c.in-Ended.is is)
 
 pub returns-then-is_empty-clause-fault : goal.returns-then-is_empty-clause-fault
-returns-then-is_empty-clause-fault g c = λ fault is. absurd (ended_clear c.args.self.now.stage fault c.in-Ended.is is)
+returns-then-is_empty-clause-fault g c = λ fault is. absurd (ended_clear c.args.self.now.due fault c.in-Ended.is is)
 
 pub returns-in_default-clause-fault : goal.returns-in_default-clause-fault
 returns-in_default-clause-fault g c = λ fault is. absurd (c.in_default.not-Refused fault is)

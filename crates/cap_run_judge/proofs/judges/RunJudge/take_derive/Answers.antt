@@ -17,5 +17,5 @@ returns-in-Ok-clause-some g c =
 pub returns-in-Err-clause-none : goal.returns-in-Err-clause-none
 returns-in-Err-clause-none g c =
     let s = c.args.self.now in
-    stage_stays s.machine.asks c.make_derive.new.self.asks (run_in s.machine) (run_in c.make_derive.new.self) (due_of s.stage) (derive_line c.in-Some.derive)
+    stage_stays s.machine.asks c.make_derive.new.self.asks (run_in s.machine) (run_in c.make_derive.new.self) (due_of s.due) (derive_line c.in-Some.derive)
     c.in-Err.field-0 c.make_derive.ensures.asks c.in-Err.ensures.outcome

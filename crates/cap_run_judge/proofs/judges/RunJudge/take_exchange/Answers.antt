@@ -17,5 +17,5 @@ returns-in-Ok-clause-some g c =
 pub returns-in-Err-clause-none : goal.returns-in-Err-clause-none
 returns-in-Err-clause-none g c =
     let s = c.args.self.now in
-    stage_stays s.machine.asks c.make_exchange.new.self.asks (run_in s.machine) (run_in c.make_exchange.new.self) (due_of s.stage) (exchange_line c.in-Some.exchange)
+    stage_stays s.machine.asks c.make_exchange.new.self.asks (run_in s.machine) (run_in c.make_exchange.new.self) (due_of s.due) (exchange_line c.in-Some.exchange)
     c.in-Err.field-0 c.make_exchange.ensures.asks c.in-Err.ensures.outcome
