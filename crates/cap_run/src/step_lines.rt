@@ -35,7 +35,7 @@ impl<M: TaggedStore> RunMachine<M> {
     /// Takes bytes that are the line of a step of version 2, with its line feed, and no more: how that step ends, as
     /// [`RunMachine::make_usual`] says. `None`, and nothing has changed, where they are not.
     #[inline(always)]
-    pub fn take_alone(&mut self, line: &[u8]) -> Option<Result<(), RunEnd>>
+    pub fn take_lone_step(&mut self, line: &[u8]) -> Option<Result<(), RunEnd>>
         ensures taken { TakesAlone self.old.asks (run_in self.old) line.now result
             self.new.asks (run_in self.new) }
     {

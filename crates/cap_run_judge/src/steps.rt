@@ -32,7 +32,7 @@ impl<M: TaggedStore> RunJudge<M> {
         ensures no_memory { result ≡ Err NoMemory → Lacks (stage_of self.old) line.now [] }
     {
         if let Due::Body = self.due {
-            return match self.machine.take_alone(line) {
+            return match self.machine.take_lone_step(line) {
                 Some(Ok(())) => Ok(()),
                 Some(Err(end)) => self.take_ended_step(end, line),
                 None => self.take_lone_line(line),

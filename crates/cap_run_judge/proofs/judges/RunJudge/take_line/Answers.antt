@@ -32,7 +32,7 @@ step_answers asks_are old new step result answers = body_answers asks_are old ne
 pub take_ended_step-requires : goal.take_ended_step-requires
 take_ended_step-requires g c =
     let s = c.args.self.now in
-    let n = c.take_alone.new.self in
+    let n = c.take_lone_step.new.self in
     let old = run_in s.machine in
     let taken = subst (λ (r : Result (Unit {0}) RunEnd). TakesAlone s.machine.asks (run_in s.machine) c.args.line.now (Some r) n.asks (run_in n))
     c.in-Some-Err.field-0-is c.in-Some-Err.ensures.taken in
@@ -50,8 +50,8 @@ take_ended_step-requires g c =
 pub returns-in-Some-Ok-clause-taken : goal.returns-in-Some-Ok-clause-taken
 returns-in-Some-Ok-clause-taken g c =
     let s = c.args.self.now in
-    let n = c.take_alone.new.self in
-    let taken = rw (c.in-Some-Ok.is ∙ ap Some c.in-Some-Ok.field-0-is) at c.take_alone.ensures.taken in
+    let n = c.take_lone_step.new.self in
+    let taken = rw (c.in-Some-Ok.is ∙ ap Some c.in-Some-Ok.field-0-is) at c.take_lone_step.ensures.taken in
     let line = RunLine.Step taken.0 in
     rw (c.in-Body.is, taken.3)
     (whole_taken (body s.machine.asks (run_in s.machine)) (body s.machine.asks (run_in n)) c.args.line.now [] line (line_whole c.args.line.now line taken.1) taken.1
@@ -59,7 +59,7 @@ returns-in-Some-Ok-clause-taken g c =
 
 pub returns-in-Some-Ok-clause-no_line : goal.returns-in-Some-Ok-clause-no_line
 returns-in-Some-Ok-clause-no_line g c =
-    let taken = rw (c.in-Some-Ok.is ∙ ap Some c.in-Some-Ok.field-0-is) at c.take_alone.ensures.taken in (
+    let taken = rw (c.in-Some-Ok.is ∙ ap Some c.in-Some-Ok.field-0-is) at c.take_lone_step.ensures.taken in (
       λ e. absurd (ok_no_err tt NoLine e),
       λ none. absurd (none.0 (run_spelling (RunLine.Step taken.0)) (line_is (RunLine.Step taken.0) c.args.line.now [] taken.1)),
     )
@@ -67,7 +67,7 @@ returns-in-Some-Ok-clause-no_line g c =
 pub returns-in-Some-Err-clause-taken : goal.returns-in-Some-Err-clause-taken
 returns-in-Some-Err-clause-taken g c =
     let s = c.args.self.now in
-    let n = c.take_alone.new.self in
+    let n = c.take_lone_step.new.self in
     let old = run_in s.machine in
     let taken = subst (λ (r : Result (Unit {0}) RunEnd). TakesAlone s.machine.asks (run_in s.machine) c.args.line.now (Some r) n.asks (run_in n))
     c.in-Some-Err.field-0-is c.in-Some-Err.ensures.taken in
@@ -77,7 +77,7 @@ returns-in-Some-Err-clause-taken g c =
 pub returns-in-Some-Err-clause-unchanged : goal.returns-in-Some-Err-clause-unchanged
 returns-in-Some-Err-clause-unchanged g c =
     let s = c.args.self.now in
-    let n = c.take_alone.new.self in
+    let n = c.take_lone_step.new.self in
     let old = run_in s.machine in
     let taken = subst (λ (r : Result (Unit {0}) RunEnd). TakesAlone s.machine.asks (run_in s.machine) c.args.line.now (Some r) n.asks (run_in n))
     c.in-Some-Err.field-0-is c.in-Some-Err.ensures.taken in
@@ -86,7 +86,7 @@ returns-in-Some-Err-clause-unchanged g c =
 
 pub returns-in-Some-Err-clause-no_line : goal.returns-in-Some-Err-clause-no_line
 returns-in-Some-Err-clause-no_line g c =
-    let taken = rw (c.in-Some-Err.is ∙ ap Some c.in-Some-Err.field-0-is) at c.take_alone.ensures.taken in (
+    let taken = rw (c.in-Some-Err.is ∙ ap Some c.in-Some-Err.field-0-is) at c.take_lone_step.ensures.taken in (
       λ e. absurd (c.take_ended_step.ensures.line e),
       λ none. absurd (none.0 (run_spelling (RunLine.Step taken.0)) (line_is (RunLine.Step taken.0) c.args.line.now [] taken.1)),
     )
@@ -94,7 +94,7 @@ returns-in-Some-Err-clause-no_line g c =
 pub returns-in-Some-Err-clause-no_memory : goal.returns-in-Some-Err-clause-no_memory
 returns-in-Some-Err-clause-no_memory g c =
     let s = c.args.self.now in
-    let n = c.take_alone.new.self in
+    let n = c.take_lone_step.new.self in
     let old = run_in s.machine in
     let taken = subst (λ (r : Result (Unit {0}) RunEnd). TakesAlone s.machine.asks (run_in s.machine) c.args.line.now (Some r) n.asks (run_in n))
     c.in-Some-Err.field-0-is c.in-Some-Err.ensures.taken in
@@ -104,7 +104,7 @@ returns-in-Some-Err-clause-no_memory g c =
 pub returns-in-None-clause-taken : goal.returns-in-None-clause-taken
 returns-in-None-clause-taken g c =
     let s = c.args.self.now in
-    let n = c.take_alone.new.self in
+    let n = c.take_lone_step.new.self in
     let same = c.in-None.ensures.taken in
     subst (λ (st : Stage). OnOk c.take_lone_line.result (Follows st c.args.line.now (stage_of c.take_lone_line.new.self)))
     (same_stage s.machine.asks n.asks (run_in s.machine) (run_in n) (due_of s.due) same.1 same.0) c.take_lone_line.ensures.taken
@@ -112,7 +112,7 @@ returns-in-None-clause-taken g c =
 pub returns-in-None-clause-unchanged : goal.returns-in-None-clause-unchanged
 returns-in-None-clause-unchanged g c =
     let s = c.args.self.now in
-    let n = c.take_alone.new.self in
+    let n = c.take_lone_step.new.self in
     let same = c.in-None.ensures.taken in
     subst (λ (st : Stage). IfErr c.take_lone_line.result (λ _. stage_of c.take_lone_line.new.self ≡ st))
     (same_stage s.machine.asks n.asks (run_in s.machine) (run_in n) (due_of s.due) same.1 same.0) c.take_lone_line.ensures.unchanged
@@ -120,7 +120,7 @@ returns-in-None-clause-unchanged g c =
 pub returns-in-None-clause-no_memory : goal.returns-in-None-clause-no_memory
 returns-in-None-clause-no_memory g c =
     let s = c.args.self.now in
-    let n = c.take_alone.new.self in
+    let n = c.take_lone_step.new.self in
     let same = c.in-None.ensures.taken in
     subst (λ (st : Stage). c.take_lone_line.result ≡ Err NoMemory → Lacks st c.args.line.now [])
     (same_stage s.machine.asks n.asks (run_in s.machine) (run_in n) (due_of s.due) same.1 same.0) c.take_lone_line.ensures.no_memory
