@@ -17,7 +17,8 @@ use cap_ops::{Access, Kind, may_access};
 use cap_run_log::RunRegister;
 use tagmem::TaggedStore;
 
-// The access of a step, and the register that it goes through.
+// The access of a step, and the register that it goes through. It is inlined, so that a step of one kind isn't made in memory.
+#[inline(always)]
 fn access_by<M: TaggedStore>(machine: &Machine<M>, step: &Step) -> Option<(u8, Access)>
     requires { IsStepInRange step.now }
     ensures none { IfNone result (let row = row_of (state_of machine.now) step.now in row.access ≡ None) }
@@ -127,6 +128,7 @@ impl<M: TaggedStore> RunMachine<M> {
     }
 
     // Why what is asked refuses a step that its own checks permit.
+    #[inline(always)]
     pub(crate) fn asked_refusal(&self, step: &Step) -> Option<RunRefusal>
         requires { IsStepInRange step.now }
         ensures some { IfSome result (λ refusal.

@@ -74,8 +74,8 @@ impl<M: TaggedStore> RunMachine<M> {
         ensures asks { self.new.asks ≡ self.old.asks }
     {
         kind.in_range();
-        if self.asks.used || self.asks.owned {
-            return self.make_usual(&kind.into_step());
+        if let Some(refusal) = self.asked_if(&kind.into_step()) {
+            return Err(RunEnd::Refused(refusal));
         }
         self.usual_kind(kind)
     }
