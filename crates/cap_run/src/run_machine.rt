@@ -6,8 +6,7 @@ ghost use Rattle.cap_machine.specs.{Parents.IsSoundCap, Places.{IsCoded, place_a
 ghost use Rattle.cap_objects.specs.{Counts.CountsAre, Handed.held_of, HandoutsIn.objects_of};
 ghost use Rattle.cap_run.specs.{Owned.{AreWithin, object_by}, Run.{IsSource, IsTargetOf, register_key}, RunOf.{run_owners, run_state}};
 ghost use Rattle.cap_machine.specs.Helds.{account_of};
-ghost use Rattle.cap_run.specs.{RunChanges.{account_in, no_run, without_origins}, Safety.IsSafe};
-ghost use Rattle.cap_run.specs.Machines.run_in;
+ghost use Rattle.cap_run.specs.{Numbers.numbered_run, RunChanges.{account_in, no_run, without_origins}, Safety.IsSafe};
 
 use crate::asks::Asks;
 use crate::specials::Specials;
@@ -42,7 +41,7 @@ impl<M: TaggedStore> RunMachine<M> {
     /// A machine that holds NULL without a tag everywhere, over an empty store, and no objects, by strict rules.
     pub fn new(alloc: Global, memory: M, asks: Asks) -> RunMachine<M>
         requires { map.len (M.contents memory) ≡ 0 }
-        ensures run { run_in result ≡ no_run }
+        ensures run { numbered_run result.machine result.specials result.objects ≡ no_run }
         ensures asks { result.asks ≡ asks }
     {
         RunMachine {
@@ -57,14 +56,14 @@ impl<M: TaggedStore> RunMachine<M> {
     /// two of them reach. If [`Asks::held`] is false, that holds of live objects alone. It does nothing: what it says is its
     /// contract.
     pub fn kept(&self)
-        ensures safe { IsSafe self.now.asks.held (run_in self.now) }
+        ensures safe { IsSafe self.now.asks.held (numbered_run self.now.machine self.now.specials self.now.objects) }
     {
         self.objects.kept();
     }
 
     /// The registers and the memory, as steps of version 2 see them: without special registers and objects.
     pub fn machine(&self) -> &Machine<M>
-        ensures account { account_in (run_in self.now) ≡ without_origins (account_of result.now) }
+        ensures account { account_in (numbered_run self.now.machine self.now.specials self.now.objects) ≡ without_origins (account_of result.now) }
     {
         self.machine.kept();
         &self.machine
@@ -72,8 +71,8 @@ impl<M: TaggedStore> RunMachine<M> {
 
     /// From now on it follows these rules. All else is as before.
     pub fn follow(&mut self, rules: Rules)
-        ensures run { run_in self.new
-            ≡ record (run_in self.old) { rules = rules } }
+        ensures run { numbered_run self.new.machine self.new.specials self.new.objects
+            ≡ record (numbered_run self.old.machine self.old.specials self.old.objects) { rules = rules } }
         ensures asks { self.new.asks ≡ self.old.asks }
     {
         self.machine.follow(rules);
@@ -81,21 +80,21 @@ impl<M: TaggedStore> RunMachine<M> {
 
     /// How many steps were made.
     pub fn steps(&self) -> u32
-        ensures value { result ≡ (let run = run_in self.now in run.steps) }
+        ensures value { result ≡ (let run = numbered_run self.now.machine self.now.specials self.now.objects in run.steps) }
     {
         self.machine.steps()
     }
 
     /// How many roots were declared.
     pub fn roots(&self) -> u32
-        ensures value { result ≡ (let run = run_in self.now in run.roots) }
+        ensures value { result ≡ (let run = numbered_run self.now.machine self.now.specials self.now.objects in run.roots) }
     {
         self.machine.roots()
     }
 
     /// How many objects were handed out.
     pub fn count(&self) -> u32
-        ensures value { result ≡ (let run = run_in self.now in run.count) }
+        ensures value { result ≡ (let run = numbered_run self.now.machine self.now.specials self.now.objects in run.count) }
     {
         self.objects.count()
     }

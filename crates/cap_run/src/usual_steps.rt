@@ -74,10 +74,10 @@ impl<M: TaggedStore> RunMachine<M> {
         ensures asks { self.new.asks ≡ self.old.asks }
     {
         kind.in_range();
-        if let Some(refusal) = self.asked_if(&kind.into_step()) {
-            return Err(RunEnd::Refused(refusal));
+        match self.asked_if(&kind.into_step()) {
+            Some(refusal) => Err(RunEnd::Refused(refusal)),
+            None => self.usual_kind(kind),
         }
-        self.usual_kind(kind)
     }
 
     /// Makes a step of one kind, as [`RunMachine::make_usual`] does. Where no object was handed out, it takes no longer than in
