@@ -1,5 +1,6 @@
 -- The run of a machine (this profile's own).
-use Rattle.cap_run.specs.{declared.run_machine.RunMachine.{Ghosts, RunMachine}, Numbers.numbered_run, Run.Run, RunOf.run_of}
+use Rattle.tagmem.specs.declared.store.TaggedStore.{Ghosts}
+use Rattle.cap_run.specs.{declared.run_machine.RunMachine.RunMachine, Numbers.numbered_run, Run.Run, RunOf.run_of}
 
 -- by the numbers of its objects
 abbrev pub run_in : {M : Type 0} {ghosts : Ghosts M} → RunMachine M ghosts → Run

@@ -4,7 +4,7 @@ ghost use Rattle.std.specs.Prelude.{◌≡◌, ◌≢◌, ◌<◌, ◌-◌, ◌^
 ghost use Rattle.cap_machine.specs.{Parents.IsSoundCap, Places.{IsCoded, place_at}};
 ghost use Rattle.cap_run.specs.{Owned.{object_by, owner_for}, Run.{IsSource, IsTargetOf, register_key}};
 ghost use Rattle.cap_run.specs.{RunOf.{run_owners}, RunSteps.{Writes, WritesBoth}};
-ghost use Rattle.cap_run.specs.Machines.slots_in;
+ghost use Rattle.cap_run.specs.Machines.{slots_in};
 
 use crate::puts::put_at;
 use crate::run_machine::RunMachine;

@@ -6,7 +6,7 @@ ghost use Rattle.cap_log.specs.Lines.{IsStepInRange};
 ghost use Rattle.cap_machine.specs.{Changes.IsAccess, Helds.state_of, Steps.{access_through, row_of}};
 ghost use Rattle.cap_objects.specs.{declared.objects.Object.Object as ObjectIn, HandoutsIn.objects_of};
 ghost use Rattle.cap_run.specs.{RunChecks.{asked_checks, is_live, meets, usual_end}};
-ghost use Rattle.cap_run.specs.Machines.run_in;
+ghost use Rattle.cap_run.specs.Machines.{run_in};
 
 use crate::ends::RunRefusal;
 use crate::run_machine::RunMachine;

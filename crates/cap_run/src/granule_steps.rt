@@ -3,7 +3,7 @@
 ghost use Rattle.std.specs.Prelude.{◌≡◌, ◌<◌, ◌-◌, ◌^◌, ℕ, None, IsTrue, true, false, MatchResult, OnOk, OnErr, IfErr};
 ghost use Rattle.cap_machine.specs.{Changes.{EndsPut, is_past_limits}, Labels.untagged, Places.place_at, States.granule_key};
 ghost use Rattle.cap_run.specs.{GranuleSteps.{Counts, Fills}, Owned.object_by, RunOf.{run_owners, run_state}};
-ghost use Rattle.cap_run.specs.Machines.slots_in;
+ghost use Rattle.cap_run.specs.Machines.{slots_in};
 
 use crate::run_machine::{RunMachine, slot_by};
 use cap_log::Place;

@@ -6,7 +6,7 @@ ghost use Rattle.cap_run_log.specs.declared.lines.RunPlace.TheVariants.{Granule}
 ghost use Rattle.cap_run_log.specs.declared.lines.RunStep.TheVariants.{Drop, Fill};
 ghost use Rattle.cap_run.specs.{RunChanges.run_after};
 ghost use Rattle.cap_run.specs.RunChecks.{Answers, run_end, run_wants, usual_ended};
-ghost use Rattle.cap_run.specs.Machines.run_in;
+ghost use Rattle.cap_run.specs.Machines.{run_in};
 
 use crate::ends::{RunEnd, RunRefusal};
 use crate::run_machine::RunMachine;

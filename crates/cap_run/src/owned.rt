@@ -4,7 +4,7 @@ ghost use Rattle.std.specs.Prelude.{◌≡◌, ◌≤◌, ◌<◌, ◌^◌, ℕ,
 ghost use Rattle.cap_machine.specs.States.{granule_key};
 ghost use Rattle.cap_run_log.specs.RunLines.{IsRunPlace};
 ghost use Rattle.cap_run.specs.{Run.{IsSource, register_key}, RunChanges.place_key, RunOf.run_owners};
-ghost use Rattle.cap_run.specs.Machines.run_in;
+ghost use Rattle.cap_run.specs.Machines.{run_in};
 
 use crate::run_machine::RunMachine;
 use cap_objects::Object;

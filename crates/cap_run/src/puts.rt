@@ -6,7 +6,7 @@ ghost use Rattle.cap_machine.specs.{Helds.code_in, Parents.IsSoundCap, Places.{I
 ghost use Rattle.cap_objects.specs.Counts.{at_key};
 ghost use Rattle.cap_run.specs.{Owned.{is_empty, object_by, owner_for}, Run.{IsSource, IsTargetOf, register_key}};
 ghost use Rattle.cap_run.specs.{RunOf.{run_owners, run_state}, RunSteps.{IsUnstepped, Writes, WritesBoth}};
-ghost use Rattle.cap_run.specs.Machines.slots_in;
+ghost use Rattle.cap_run.specs.Machines.{slots_in};
 
 use crate::run_machine::{RunMachine, slot_by};
 use crate::specials::Specials;

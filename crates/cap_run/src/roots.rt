@@ -9,7 +9,7 @@ ghost use Rattle.cap_run_log.specs.RunLines.{IsRunPlace};
 ghost use Rattle.cap_run_log.specs.declared.lines.RunPlace.TheVariants.{Special};
 ghost use Rattle.cap_run_log.specs.UsualLines.{in_run};
 ghost use Rattle.cap_run.specs.{RunChanges.root_after, RunChecks.{Answers, root_end, root_wants}, RootSteps.{CountsRoot, EndsCount}};
-ghost use Rattle.cap_run.specs.Machines.run_in;
+ghost use Rattle.cap_run.specs.Machines.{run_in};
 
 use crate::ends::{RunEnd, RunRefusal};
 use crate::lines::usual_ended;

@@ -3,7 +3,7 @@
 ghost use Rattle.std.specs.Prelude.{◌≡◌, ℕ, List, ◌∷◌, ◌++◌};
 ghost use Rattle.cap_log.specs.{Heads.head_spelling};
 ghost use Rattle.cap_run.specs.{StepLines.{MakesUsualSteps, TakesAlone, TakesStep}};
-ghost use Rattle.cap_run.specs.Machines.run_in;
+ghost use Rattle.cap_run.specs.Machines.{run_in};
 
 use crate::ends::RunEnd;
 use crate::run_machine::RunMachine;

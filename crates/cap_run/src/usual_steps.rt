@@ -6,7 +6,7 @@ ghost use Rattle.cap_log.specs.Lines.{IsPlace, IsStepInRange};
 ghost use Rattle.cap_machine.specs.{Helds.{EndsStep, state_of}, Steps.written_by};
 ghost use Rattle.cap_objects.specs.HandoutsIn.{objects_of};
 ghost use Rattle.cap_run.specs.{RunSteps.IsUnstepped, UsualSteps.{MakesUsual, disowned, main_owners, owner_at}};
-ghost use Rattle.cap_run.specs.Machines.run_in;
+ghost use Rattle.cap_run.specs.Machines.{run_in};
 
 use crate::ends::{RunEnd, RunRefusal};
 use crate::lines::usual_ended;

@@ -17,7 +17,7 @@ use Rattle.cap_run_judge.specs.declared.judges.Due.TheVariants as dues
 use Rattle.cap_run_judge.specs.declared.verdict.RunVerdict.{RunVerdict, TheVariants.{Yes, No}}
 use Rattle.cap_run_judge.specs.Turns.{Allows, Body, Due, Ended, First, Goes, Refused, Second, Stage, refusal_at, stage_after}
 use Rattle.cap_run_judge.specs.{Judgings.{IsVerdictOf, StopsIn}, Verdicts.{Lacks, RefusesWhole, long_refusal}}
-use Rattle.cap_run.specs.Machines.run_in
+use Rattle.cap_run.specs.Machines.{run_in}
 
 -- what the code's stage says
 abbrev pub due_of : code.Due → Due

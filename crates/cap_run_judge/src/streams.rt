@@ -6,7 +6,7 @@ ghost use Rattle.cap_streams.specs.{declared.judging.judge_faults.JudgeFault.The
 ghost use Rattle.cap_streams.specs.{ReadBuffers.items, Streams.CountsOnly};
 ghost use Rattle.cap_run_judge.specs.{Judgings.{Judged, JudgedBy}, Turns.unread, Verdicts.{IsRunVerdict, NoRunVerdictIn}};
 ghost use Rattle.cap_run_judge.specs.Readings.{IsAnswered, StopsAt, lines_read, stage_of};
-ghost use Rattle.cap_run.specs.Machines.run_in;
+ghost use Rattle.cap_run.specs.Machines.{run_in};
 
 use crate::faults::RefusedRunLine;
 use crate::judges::RunJudge;

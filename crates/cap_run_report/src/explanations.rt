@@ -9,7 +9,7 @@ ghost use Rattle.cap_run_judge.specs.declared.verdict.RunVerdict.{RunVerdict as 
 ghost use Rattle.cap_run_judge.specs.Readings.{Follows, stage_of};
 ghost use Rattle.cap_run_judge.specs.{Reports.RunReported, Turns.unread, VerdictLines.run_verdict_line};
 ghost use Rattle.cap_run_report.specs.{Answers.{ExplainsRun, ExplainsRunEnd, ExplainsRunSoFar, IsRunWhyText}, LineReports.IsRunLineReport};
-ghost use Rattle.cap_run.specs.Machines.run_in;
+ghost use Rattle.cap_run.specs.Machines.{run_in};
 
 use crate::line_reports::put_run_report;
 use cap_log::buffers::put;

@@ -6,7 +6,7 @@ ghost use Rattle.cap_run_log.specs.RunLines.{IsRunPlace};
 ghost use Rattle.cap_run_log.specs.declared.lines.RunPlace.TheVariants as places;
 ghost use Rattle.cap_run_report.specs.ObjectParts.{AreExtentLines, AreHolderLines, AreMetLines, AreNumberLines, AreObjectLines, AreOwnerLines};
 ghost use Rattle.cap_run_report.specs.ObjectParts.{HasNoHolder, IsFirstHolder, IsLeastMet, MeetsNone, Owns, OwnsNone, freed_line, is_met, lesser};
-ghost use Rattle.cap_run.specs.Machines.run_in;
+ghost use Rattle.cap_run.specs.Machines.{run_in};
 
 use crate::cap_parts::put_held;
 use cap_log::buffers::put;

@@ -10,7 +10,7 @@ ghost use Rattle.cap_run_log.specs.RunLines.{IsRunStepInRange};
 ghost use Rattle.cap_run_report.specs.CapParts.{IsReadable};
 ghost use Rattle.cap_run_report.specs.StepParts.{AreAccessLines, AreRunStepLines, AreUsualLines, derived_lines, exchanged_lines};
 ghost use Rattle.cap_run_report.specs.StepParts.{invoked_lines, is_refused, opened_lines};
-ghost use Rattle.cap_run.specs.Machines.run_in;
+ghost use Rattle.cap_run.specs.Machines.{run_in};
 
 use crate::cap_parts::{place_of, put_held, put_register};
 use crate::object_parts::{put_met, put_owner};

@@ -6,7 +6,7 @@ use Rattle.cap_run_judge.specs.{Readings.{AnswerAtEnd, VerdictWith, stage_of}, T
 use Rattle.cap_run_judge.proofs.SourceLemmas.{answered_counts, closer, ended_answer, lacking_counts, lacking_judged, pull_judged, verdict_judged}
 use Rattle.cap_run_judge.proofs.{EndLemmas.{end_told, fault_told, lacks_memory}, TurnLemmas.{goes_none, goes_on}}
 use Rattle.cap_run_judge.proofs.streams.judge_source.Goals as goal
-use Rattle.cap_run.specs.Machines.run_in
+use Rattle.cap_run.specs.Machines.{run_in}
 
 pub pieces-init : goal.pieces-init
 pieces-init g c =

@@ -5,7 +5,7 @@ use Rattle.cap_run_judge.proofs.RunReportLemmas.{are_numbered, fault_counted, no
 use Rattle.cap_run_report.specs.Answers.{ExplainsRun}
 use Rattle.cap_run_report.proofs.WhyLemmas.{told}
 use Rattle.cap_run_report.proofs.explanations.judge_run_why.Goals as goal
-use Rattle.cap_run.specs.Machines.run_in
+use Rattle.cap_run.specs.Machines.{run_in}
 
 pub returns-clause-explained : goal.returns-clause-explained
 returns-clause-explained g c =

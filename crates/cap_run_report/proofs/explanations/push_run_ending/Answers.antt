@@ -6,7 +6,7 @@ use Rattle.cap_report.proofs.WhyLemmas.{on_err, on_ok}
 use Rattle.cap_run_report.specs.LineReports.{IsRunLineReport}
 use Rattle.cap_run_report.proofs.WhyLemmas.{no_at_end, yes_at_end}
 use Rattle.cap_run_report.proofs.explanations.push_run_ending.Goals as goal
-use Rattle.cap_run.specs.Machines.run_in
+use Rattle.cap_run.specs.Machines.{run_in}
 
 pub returns-in-Ok-clause-ok : goal.returns-in-Ok-clause-ok
 returns-in-Ok-clause-ok g c =

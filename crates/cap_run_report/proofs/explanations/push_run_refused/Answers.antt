@@ -7,7 +7,7 @@ use Rattle.cap_report.proofs.WhyLemmas.{on_err, on_ok}
 use Rattle.cap_run_report.specs.LineReports.{IsRunLineReport}
 use Rattle.cap_run_report.proofs.WhyLemmas.{so_far}
 use Rattle.cap_run_report.proofs.explanations.push_run_refused.Goals as goal
-use Rattle.cap_run.specs.Machines.run_in
+use Rattle.cap_run.specs.Machines.{run_in}
 
 pub returns-in-None-clause-ok : goal.returns-in-None-clause-ok
 returns-in-None-clause-ok g c = λ asks bytes read.

@@ -4,7 +4,7 @@ use Rattle.cap_run.specs.declared.ends.RunRefusal.{RunRefusal}
 use Rattle.cap_run_report.specs.{ObjectParts.AreOwnerLines, StepParts.AreLifeLines}
 use Rattle.cap_run_report.proofs.StepLemmas.{life_other}
 use Rattle.cap_run_report.proofs.object_steps.put_life.Goals as goal
-use Rattle.cap_run.specs.Machines.run_in
+use Rattle.cap_run.specs.Machines.{run_in}
 
 pub returns-in-AlreadyFreed-clause-written : goal.returns-in-AlreadyFreed-clause-written
 returns-in-AlreadyFreed-clause-written g c =

@@ -8,7 +8,7 @@ use Rattle.cap_run.specs.{declared.ends.RunRefusal.{RunRefusal, TheVariants.Usua
 use Rattle.cap_run_report.specs.{CapParts.register_lines, StepParts.{invoked_lines, opened_lines}}
 use Rattle.cap_run_report.proofs.StepLemmas.{invoked_other, invoked_usual}
 use Rattle.cap_run_report.proofs.step_parts.put_invoked.Goals as goal
-use Rattle.cap_run.specs.Machines.run_in
+use Rattle.cap_run.specs.Machines.{run_in}
 
 -- a pair that is invoked in vain for a recorded word, by whether that of the code is right
 invoked_by : (run : Run) (code datum : ℕ) (code_word datum_word : Word) (refusal : RunRefusal) (right : Bool) → refusal ≡ Usual WrongResult

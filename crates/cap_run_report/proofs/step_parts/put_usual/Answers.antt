@@ -8,7 +8,7 @@ use Rattle.cap_run.specs.{declared.ends.RunRefusal.RunRefusal, RunChanges.withou
 use Rattle.cap_run_report.specs.{RunSentences.run_sentence, StepParts.{AreAccessLines, AreUsualLines}}
 use Rattle.cap_run_report.proofs.StepLemmas.{usual_told}
 use Rattle.cap_run_report.proofs.step_parts.put_usual.Goals as goal
-use Rattle.cap_run.specs.Machines.run_in
+use Rattle.cap_run.specs.Machines.{run_in}
 
 pub returns-in-Usual-clause-written : goal.returns-in-Usual-clause-written
 returns-in-Usual-clause-written g c =

@@ -2,7 +2,7 @@ use Rattle.std.proofs.{Common.{◌≡◌, ◌≢◌, [], refl, rules}, lemmas.Li
 use Rattle.cap_run_judge.specs.Readings.{stage_of}
 use Rattle.cap_run_judge.proofs.TurnLemmas.{ended_clear, ended_some, ends_refused, unended}
 use Rattle.cap_run_judge.proofs.judges.RunJudge.ending.Goals as goal
-use Rattle.cap_run.specs.Machines.run_in
+use Rattle.cap_run.specs.Machines.{run_in}
 
 pub returns-else-is_empty-clause-ends : goal.returns-else-is_empty-clause-ends
 returns-else-is_empty-clause-ends g c = λ cut.

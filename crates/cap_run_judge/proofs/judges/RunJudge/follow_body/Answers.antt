@@ -4,7 +4,7 @@ use Rattle.cap_run.specs.declared.ends.RunRefusal.TheVariants.{Usual}
 use Rattle.cap_run_log.specs.declared.lines.RunLine.{RunLine}
 use Rattle.cap_run_judge.proofs.TurnLemmas.{body_answers}
 use Rattle.cap_run_judge.proofs.judges.RunJudge.follow_body.Goals as goal
-use Rattle.cap_run.specs.Machines.run_in
+use Rattle.cap_run.specs.Machines.{run_in}
 
 pub returns-in-Root : goal.returns-in-Root
 returns-in-Root g c =

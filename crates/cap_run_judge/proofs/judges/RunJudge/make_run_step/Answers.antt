@@ -3,7 +3,7 @@ use Rattle.cap_run_log.specs.declared.lines.RunLine.TheVariants as lines
 use Rattle.cap_run_judge.specs.Readings.{due_of}
 use Rattle.cap_run_judge.proofs.{FollowLemmas.{no_body, ok_no_err, stage_stays, step_follows, step_unmade, tried}}
 use Rattle.cap_run_judge.proofs.judges.RunJudge.make_run_step.Goals as goal
-use Rattle.cap_run.specs.Machines.run_in
+use Rattle.cap_run.specs.Machines.{run_in}
 
 pub returns-in-Ok-clause-taken : goal.returns-in-Ok-clause-taken
 returns-in-Ok-clause-taken g c =

@@ -3,7 +3,7 @@ use Rattle.cap_run_log.specs.RunLines.{exchange_line}
 use Rattle.cap_run_judge.specs.Readings.{due_of}
 use Rattle.cap_run_judge.proofs.{FollowLemmas.stage_stays, TurnLemmas.body_answers}
 use Rattle.cap_run_judge.proofs.judges.RunJudge.take_exchange.Goals as goal
-use Rattle.cap_run.specs.Machines.run_in
+use Rattle.cap_run.specs.Machines.{run_in}
 
 pub returns-in-Ok-clause-some : goal.returns-in-Ok-clause-some
 returns-in-Ok-clause-some g c =

@@ -6,7 +6,7 @@ use Rattle.cap_run_log.specs.{declared.lines.RunLine.RunLine, RunLines.run_spell
 use Rattle.cap_run_judge.specs.{Readings.{AnswersLine, EndsLine, Follows, due_of, stage_of}, Turns.{Body, Due, Stage}, Verdicts.Lacks}
 use Rattle.cap_run_judge.proofs.{FollowLemmas.{line_whole, ok_no_err, whole_taken}, TurnLemmas.{body, body_answers, err_same, line_is}}
 use Rattle.cap_run_judge.proofs.judges.RunJudge.take_line.Goals as goal
-use Rattle.cap_run.specs.Machines.run_in
+use Rattle.cap_run.specs.Machines.{run_in}
 
 -- a machine that changed nothing leads to the same stage
 abbrev stage_by : Asks → Run → Due → Stage
