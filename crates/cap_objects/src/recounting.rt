@@ -16,6 +16,9 @@ pub fn recount(objects: &mut Handouts, from: Option<usize>, to: Option<usize>)
     ensures rest { IsRecounted (objects_of objects.old) (objects_of objects.new) }
     ensures same { (objects.new.count ≡ objects.old.count) × (objects.new.keeps ≡ objects.old.keeps) }
 {
+    if from == to {
+        return;
+    }
     count_up_for(objects, to);
     count_down_for(objects, from);
 }

@@ -12,6 +12,7 @@ pub mod UsualSteps
 pub mod RunChanges
 pub mod RunChecks
 pub mod Numbers
+pub mod Machines
 pub mod Descents
 pub mod RootSteps
 pub mod Choices

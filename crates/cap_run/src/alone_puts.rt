@@ -3,7 +3,8 @@
 ghost use Rattle.std.specs.Prelude.{◌≡◌, ◌≢◌, ◌<◌, ◌-◌, ◌^◌, None};
 ghost use Rattle.cap_machine.specs.{Parents.IsSoundCap, Places.{IsCoded, place_at}};
 ghost use Rattle.cap_run.specs.{Owned.{object_by, owner_for}, Run.{IsSource, IsTargetOf, register_key}};
-ghost use Rattle.cap_run.specs.{RunOf.{run_of, run_owners}, RunSteps.{Writes, WritesBoth}};
+ghost use Rattle.cap_run.specs.{RunOf.{run_owners}, RunSteps.{Writes, WritesBoth}};
+ghost use Rattle.cap_run.specs.Machines.{slots_in};
 
 use crate::puts::put_at;
 use crate::run_machine::RunMachine;
@@ -29,9 +30,9 @@ impl<M: TaggedStore> RunMachine<M> {
         requires source { IsSource _source }
         requires sound { IsSoundCap cap }
         requires few { self.old.machine.steps < 2 ^ 32 - 1 }
-        ensures writes { Writes (run_of self.old.machine self.old.specials self.old.objects) (register_key target) cap
+        ensures writes { Writes (slots_in self.old) (register_key target) cap
             (owner_for cap (run_owners self.old.machine self.old.specials (register_key _source)))
-            (run_of self.new.machine self.new.specials self.new.objects) }
+            (slots_in self.new) }
         ensures asks { self.new.asks ≡ self.old.asks }
     {
         put_at(
@@ -61,10 +62,10 @@ impl<M: TaggedStore> RunMachine<M> {
         requires sound { IsSoundCap first_cap × IsSoundCap second_cap }
         requires few { self.old.machine.steps < 2 ^ 32 - 1 }
         ensures writes { let owners = run_owners self.old.machine self.old.specials in
-            WritesBoth (run_of self.old.machine self.old.specials self.old.objects)
+            WritesBoth (slots_in self.old)
             (register_key first) first_cap (owner_for first_cap (owners (register_key _first_source)))
             (register_key second) second_cap (owner_for second_cap (owners (register_key _second_source)))
-            (run_of self.new.machine self.new.specials self.new.objects) }
+            (slots_in self.new) }
         ensures asks { self.new.asks ≡ self.old.asks }
     {
         put_at(

@@ -5,7 +5,8 @@ ghost use Rattle.cap_ops.specs.Checks.{first_of};
 ghost use Rattle.cap_log.specs.Lines.{IsStepInRange};
 ghost use Rattle.cap_machine.specs.{Changes.IsAccess, Helds.state_of, Steps.{access_through, row_of}};
 ghost use Rattle.cap_objects.specs.{declared.objects.Object.Object as ObjectIn, HandoutsIn.objects_of};
-ghost use Rattle.cap_run.specs.{Numbers.numbered_run, RunChecks.{asked_checks, is_live, meets, usual_end}};
+ghost use Rattle.cap_run.specs.{RunChecks.{asked_checks, is_live, meets, usual_end}};
+ghost use Rattle.cap_run.specs.Machines.{run_in};
 
 use crate::ends::RunRefusal;
 use crate::run_machine::RunMachine;
@@ -16,7 +17,8 @@ use cap_ops::{Access, Kind, may_access};
 use cap_run_log::RunRegister;
 use tagmem::TaggedStore;
 
-// The access of a step, and the register that it goes through.
+// The access of a step, and the register that it goes through. It is inlined, so that a step of one kind isn't made in memory.
+#[inline(always)]
 fn access_by<M: TaggedStore>(machine: &Machine<M>, step: &Step) -> Option<(u8, Access)>
     requires { IsStepInRange step.now }
     ensures none { IfNone result (let row = row_of (state_of machine.now) step.now in row.access ≡ None) }
@@ -68,7 +70,7 @@ impl<M: TaggedStore> RunMachine<M> {
     // Whether an interval shares an address with the extent of a live object.
     fn meets_live(&self, base: u64, top: u128) -> bool
         requires { top ≤ 2 ^ 64 }
-        ensures { result ≡ meets (numbered_run self.now.machine self.now.specials self.now.objects) None is_live base top }
+        ensures { result ≡ meets (run_in self.now) None is_live base top }
     {
         match self.objects.extent_fault(base, top, None) {
             None => false,
@@ -90,11 +92,11 @@ impl<M: TaggedStore> RunMachine<M> {
     fn access_refusal(&self, authority: u8, access: Access) -> Option<RunRefusal>
         requires { authority ≤ 31 }
         ensures some { IfSome result (λ refusal.
-            let run = numbered_run self.now.machine self.now.specials self.now.objects in
+            let run = run_in self.now in
             let through = access_through (state_of self.now.machine) authority access.kind access.offset access.size in
             (first_of through.checks ≡ None) × (first_of (asked_checks self.now.asks run through.access) ≡ Some refusal)) }
         ensures none { IfNone result (
-            let run = numbered_run self.now.machine self.now.specials self.now.objects in
+            let run = run_in self.now in
             let through = access_through (state_of self.now.machine) authority access.kind access.offset access.size in
             first_of through.checks ≡ None → first_of (asked_checks self.now.asks run through.access) ≡ None) }
     {
@@ -126,11 +128,12 @@ impl<M: TaggedStore> RunMachine<M> {
     }
 
     // Why what is asked refuses a step that its own checks permit.
+    #[inline(always)]
     pub(crate) fn asked_refusal(&self, step: &Step) -> Option<RunRefusal>
         requires { IsStepInRange step.now }
         ensures some { IfSome result (λ refusal.
-            usual_end self.now.asks (numbered_run self.now.machine self.now.specials self.now.objects) step.now ≡ Some refusal) }
-        ensures none { IfNone result (let run = numbered_run self.now.machine self.now.specials self.now.objects in
+            usual_end self.now.asks (run_in self.now) step.now ≡ Some refusal) }
+        ensures none { IfNone result (let run = run_in self.now in
             usual_end self.now.asks run step.now ≡ usual_end (record self.now.asks { used = false; owned = false }) run step.now) }
     {
         self.machine.kept();

@@ -2,7 +2,8 @@
 
 ghost use Rattle.std.specs.Prelude.{◌≡◌, ◌<◌, ◌-◌, ◌^◌, ℕ, None, IsTrue, true, false, MatchResult, OnOk, OnErr, IfErr};
 ghost use Rattle.cap_machine.specs.{Changes.{EndsPut, is_past_limits}, Labels.untagged, Places.place_at, States.granule_key};
-ghost use Rattle.cap_run.specs.{GranuleSteps.{Counts, Fills}, Owned.object_by, RunOf.{run_of, run_owners, run_state}};
+ghost use Rattle.cap_run.specs.{GranuleSteps.{Counts, Fills}, Owned.object_by, RunOf.{run_owners, run_state}};
+ghost use Rattle.cap_run.specs.Machines.{slots_in};
 
 use crate::run_machine::{RunMachine, slot_by};
 use cap_log::Place;
@@ -19,8 +20,8 @@ impl<M: TaggedStore> RunMachine<M> {
         requires { granule < 2 ^ 60 }
         ensures outcome { MatchResult result
             (λ _. (is_past_limits self.old.machine granule ≡ false)
-            × Fills (run_of self.old.machine self.old.specials self.old.objects) granule (record { tag = false; word = word })
-            (run_of self.new.machine self.new.specials self.new.objects))
+            × Fills (slots_in self.old) granule (record { tag = false; word = word })
+            (slots_in self.new))
             (λ end. EndsPut self.old.machine granule end self.new.machine) }
         ensures err { OnErr result ((self.new.specials ≡ self.old.specials) × (self.new.objects ≡ self.old.objects)) }
         ensures asks { self.new.asks ≡ self.old.asks }
@@ -48,7 +49,7 @@ impl<M: TaggedStore> RunMachine<M> {
     pub(crate) fn granule_cap(&self, granule: u64) -> Cap
         requires { granule < 2 ^ 60 }
         ensures value { result ≡ run_state self.now.machine self.now.specials (granule_key granule) }
-        ensures named { IsTrue result.tag → let run = run_of self.now.machine self.now.specials self.now.objects in run.is_named granule ≡ true }
+        ensures named { IsTrue result.tag → let run = slots_in self.now in run.is_named granule ≡ true }
         ensures unowned { result.tag ≡ false → run_owners self.now.machine self.now.specials (granule_key granule) ≡ None }
     {
         self.machine.kept();
@@ -58,8 +59,8 @@ impl<M: TaggedStore> RunMachine<M> {
     // A step that changes nothing is counted.
     pub(crate) fn count_step(&mut self)
         requires { self.old.machine.steps < 2 ^ 32 - 1 }
-        ensures counts { Counts (run_of self.old.machine self.old.specials self.old.objects)
-            (run_of self.new.machine self.new.specials self.new.objects) }
+        ensures counts { Counts (slots_in self.old)
+            (slots_in self.new) }
         ensures asks { self.new.asks ≡ self.old.asks }
     {
         self.machine.count_step();

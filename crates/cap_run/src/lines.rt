@@ -4,8 +4,9 @@ ghost use Rattle.std.specs.Prelude.{◌≡◌, ◌<◌, ◌^◌};
 ghost use Rattle.cap_run_log.specs.RunLines.{IsRunPlace, IsRunStepInRange, derive_step, exchange_step};
 ghost use Rattle.cap_run_log.specs.declared.lines.RunPlace.TheVariants.{Granule};
 ghost use Rattle.cap_run_log.specs.declared.lines.RunStep.TheVariants.{Drop, Fill};
-ghost use Rattle.cap_run.specs.{Numbers.numbered_run, RunChanges.run_after};
+ghost use Rattle.cap_run.specs.{RunChanges.run_after};
 ghost use Rattle.cap_run.specs.RunChecks.{Answers, run_end, run_wants, usual_ended};
+ghost use Rattle.cap_run.specs.Machines.{run_in};
 
 use crate::ends::{RunEnd, RunRefusal};
 use crate::run_machine::RunMachine;
@@ -38,9 +39,9 @@ impl<M: TaggedStore> RunMachine<M> {
     /// `NoMemory` comes only at an object, and at a granule named for the first time.
     pub fn make(&mut self, step: &RunStep) -> Result<(), RunEnd>
         requires { IsRunStepInRange step.now }
-        ensures outcome { let old = numbered_run self.old.machine self.old.specials self.old.objects in
+        ensures outcome { let old = run_in self.old in
             Answers (run_end self.old.asks old step.now) (run_after old step.now) (run_wants old step.now) old result
-            (numbered_run self.new.machine self.new.specials self.new.objects) }
+            (run_in self.new) }
         ensures asks { self.new.asks ≡ self.old.asks }
     {
         match *step {
@@ -71,10 +72,10 @@ impl<M: TaggedStore> RunMachine<M> {
     #[inline(always)]
     pub fn make_exchange(&mut self, exchange: ExchangeLine) -> Result<(), RunEnd>
         requires { IsRunStepInRange (exchange_step exchange) }
-        ensures outcome { let old = numbered_run self.old.machine self.old.specials self.old.objects in
+        ensures outcome { let old = run_in self.old in
             let step = exchange_step exchange in
             Answers (run_end self.old.asks old step) (run_after old step) (run_wants old step) old result
-            (numbered_run self.new.machine self.new.specials self.new.objects) }
+            (run_in self.new) }
         ensures asks { self.new.asks ≡ self.old.asks }
     {
         self.exchange(
@@ -90,10 +91,10 @@ impl<M: TaggedStore> RunMachine<M> {
     #[inline(always)]
     pub fn make_derive(&mut self, derive: DeriveLine) -> Result<(), RunEnd>
         requires { IsRunStepInRange (derive_step derive) }
-        ensures outcome { let old = numbered_run self.old.machine self.old.specials self.old.objects in
+        ensures outcome { let old = run_in self.old in
             let step = derive_step derive in
             Answers (run_end self.old.asks old step) (run_after old step) (run_wants old step) old result
-            (numbered_run self.new.machine self.new.specials self.new.objects) }
+            (run_in self.new) }
         ensures asks { self.new.asks ≡ self.old.asks }
     {
         self.derive(derive.target, derive.source, derive.result)
@@ -102,10 +103,10 @@ impl<M: TaggedStore> RunMachine<M> {
     // A granule gets a word without a tag.
     pub(crate) fn filled(&mut self, granule: u64, word: Word) -> Result<(), RunEnd>
         requires { granule < 2 ^ 60 }
-        ensures outcome { let old = numbered_run self.old.machine self.old.specials self.old.objects in
+        ensures outcome { let old = run_in self.old in
             let step = Fill granule word in
             Answers (run_end self.old.asks old step) (run_after old step) (run_wants old step) old result
-            (numbered_run self.new.machine self.new.specials self.new.objects) }
+            (run_in self.new) }
         ensures asks { self.new.asks ≡ self.old.asks }
     {
         match self.fill(granule, word) {
@@ -117,10 +118,10 @@ impl<M: TaggedStore> RunMachine<M> {
     // The tag of a place goes.
     pub(crate) fn dropped(&mut self, place: RunPlace) -> Result<(), RunEnd>
         requires { IsRunPlace place }
-        ensures outcome { let old = numbered_run self.old.machine self.old.specials self.old.objects in
+        ensures outcome { let old = run_in self.old in
             let step = Drop place in
             Answers (run_end self.old.asks old step) (run_after old step) (run_wants old step) old result
-            (numbered_run self.new.machine self.new.specials self.new.objects) }
+            (run_in self.new) }
         ensures asks { self.new.asks ≡ self.old.asks }
     {
         match place {
@@ -133,10 +134,10 @@ impl<M: TaggedStore> RunMachine<M> {
     // The tag of a granule goes. A granule without a tag stays as it is, and isn't named by this.
     fn dropped_granule(&mut self, granule: u64) -> Result<(), RunEnd>
         requires { granule < 2 ^ 60 }
-        ensures outcome { let old = numbered_run self.old.machine self.old.specials self.old.objects in
+        ensures outcome { let old = run_in self.old in
             let step = Drop (Granule granule) in
             Answers (run_end self.old.asks old step) (run_after old step) (run_wants old step) old result
-            (numbered_run self.new.machine self.new.specials self.new.objects) }
+            (run_in self.new) }
         ensures asks { self.new.asks ≡ self.old.asks }
     {
         if let Some(refusal) = self.step_limit() {

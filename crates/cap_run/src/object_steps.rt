@@ -10,8 +10,9 @@ ghost use Rattle.cap_run.specs.declared.ends.RunRefusal.TheVariants.{Usual};
 ghost use Rattle.cap_ops.specs.declared.refusal.Refusal.TheVariants.{LimitPassed};
 ghost use Rattle.cap_run_log.specs.declared.lines.RunStep.TheVariants as steps;
 ghost use Rattle.cap_run.specs.ObjectSteps.{CanWiden, ExtentEnds, Frees, WidenEnds, Widens, ended, is_capability, object_refusal};
-ghost use Rattle.cap_run.specs.{Numbers.numbered_run, Owned.IsWithin, RunChanges.run_after, RunChecks.{Answers, run_end, run_wants}};
-ghost use Rattle.cap_run.specs.{RunOf.{run_of, run_owners, run_state}, RunSteps.{IsUnstepped, step_limit}};
+ghost use Rattle.cap_run.specs.{Owned.IsWithin, RunChanges.run_after, RunChecks.{Answers, run_end, run_wants}};
+ghost use Rattle.cap_run.specs.{RunOf.{run_owners, run_state}, RunSteps.{IsUnstepped, step_limit}};
+ghost use Rattle.cap_run.specs.Machines.{run_in, slots_in};
 
 use crate::ends::{RunEnd, RunRefusal};
 use crate::puts::put_at;
@@ -128,7 +129,7 @@ impl<M: TaggedStore> RunMachine<M> {
     // Why a register can't be an object's.
     fn object_refusal(&self, register: u8) -> Option<RunRefusal>
         requires { IsTarget register }
-        ensures { result ≡ object_refusal (run_of self.now.machine self.now.specials self.now.objects) register }
+        ensures { result ≡ object_refusal (slots_in self.now) register }
     {
         let register = RunRegister::General(register);
         if !is_capability(self.register(register)) {
@@ -144,8 +145,8 @@ impl<M: TaggedStore> RunMachine<M> {
     #[cold]
     fn late_end(&self, base: u64, top: u128, left_out: Option<usize>, refusal: Refusal) -> RunEnd
         requires in_memory { top ≤ 2 ^ 64 }
-        requires late { step_limit (run_of self.now.machine self.now.specials self.now.objects) ≡ Some (Usual refusal) }
-        ensures { ExtentEnds (run_of self.now.machine self.now.specials self.now.objects) self.now.objects.keeps left_out base top result }
+        requires late { step_limit (slots_in self.now) ≡ Some (Usual refusal) }
+        ensures { ExtentEnds (slots_in self.now) self.now.objects.keeps left_out base top result }
     {
         match self.objects.extent_fault(base, top, left_out) {
             Some(fault) => ended(fault),
@@ -159,10 +160,10 @@ impl<M: TaggedStore> RunMachine<M> {
     /// 4,294,967,295 steps (`LimitPassed`). After an error nothing has changed.
     pub(crate) fn hand_out(&mut self, register: u8) -> Result<(), RunEnd>
         requires { IsTarget register }
-        ensures outcome { let old = numbered_run self.old.machine self.old.specials self.old.objects in
+        ensures outcome { let old = run_in self.old in
             let step = steps.Object register in
             Answers (run_end self.old.asks old step) (run_after old step) (run_wants old step) old result
-            (numbered_run self.new.machine self.new.specials self.new.objects) }
+            (run_in self.new) }
         ensures asks { self.new.asks ≡ self.old.asks }
     {
         if let Some(refusal) = self.object_refusal(register) {
@@ -191,10 +192,10 @@ impl<M: TaggedStore> RunMachine<M> {
     /// (`LimitPassed`). After an error nothing has changed.
     pub(crate) fn widen(&mut self, register: u8, number: u32) -> Result<(), RunEnd>
         requires { IsTarget register }
-        ensures outcome { let old = numbered_run self.old.machine self.old.specials self.old.objects in
+        ensures outcome { let old = run_in self.old in
             let step = steps.Widen register number in
             Answers (run_end self.old.asks old step) (run_after old step) (run_wants old step) old result
-            (numbered_run self.new.machine self.new.specials self.new.objects) }
+            (run_in self.new) }
         ensures asks { self.new.asks ≡ self.old.asks }
     {
         if let Some(refusal) = self.object_refusal(register) {
@@ -212,14 +213,14 @@ impl<M: TaggedStore> RunMachine<M> {
         requires register { IsTarget register }
         requires low { slot < 2 ^ 32 }
         requires live { IsSomeAnd (objects_of self.old.objects slot) (λ object. object.freed ≡ false) }
-        requires can { object_refusal (run_of self.old.machine self.old.specials self.old.objects) register ≡ None }
-        ensures ok { OnOk result (Widens (run_of self.old.machine self.old.specials self.old.objects) register slot
-            (run_of self.new.machine self.new.specials self.new.objects)) }
-        ensures few { OnOk result (step_limit (run_of self.old.machine self.old.specials self.old.objects) ≡ None) }
-        ensures room { OnOk result (CanWiden (run_of self.old.machine self.old.specials self.old.objects) self.old.objects.keeps register slot) }
-        ensures end { IfErr result (WidenEnds (run_of self.old.machine self.old.specials self.old.objects) self.old.objects.keeps register slot) }
-        ensures err { OnErr result (run_of self.new.machine self.new.specials self.new.objects
-            ≡ run_of self.old.machine self.old.specials self.old.objects) }
+        requires can { object_refusal (slots_in self.old) register ≡ None }
+        ensures ok { OnOk result (Widens (slots_in self.old) register slot
+            (slots_in self.new)) }
+        ensures few { OnOk result (step_limit (slots_in self.old) ≡ None) }
+        ensures room { OnOk result (CanWiden (slots_in self.old) self.old.objects.keeps register slot) }
+        ensures end { IfErr result (WidenEnds (slots_in self.old) self.old.objects.keeps register slot) }
+        ensures err { OnErr result (slots_in self.new
+            ≡ slots_in self.old) }
         ensures asks { self.new.asks ≡ self.old.asks }
     {
         let bounds = bounds(self.register(RunRegister::General(register)).word);
@@ -242,9 +243,9 @@ impl<M: TaggedStore> RunMachine<M> {
     fn late_widening(&self, slot: usize, base: u64, top: u128) -> RunEnd
         requires there { IsSome (objects_of self.now.objects slot) }
         requires in_memory { top ≤ 2 ^ 64 }
-        requires late { step_limit (run_of self.now.machine self.now.specials self.now.objects) ≡ Some (Usual LimitPassed) }
+        requires late { step_limit (slots_in self.now) ≡ Some (Usual LimitPassed) }
         ensures { (object : ObjectIn) → objects_of self.now.objects slot ≡ Some object
-            → ExtentEnds (run_of self.now.machine self.now.specials self.now.objects) self.now.objects.keeps (Some slot)
+            → ExtentEnds (slots_in self.now) self.now.objects.keeps (Some slot)
             (min object.base base) (max (top_of_extent object) top) result }
     {
         let object = self.objects.object(slot);
@@ -257,8 +258,8 @@ impl<M: TaggedStore> RunMachine<M> {
     fn free_slot(&mut self, slot: usize)
         requires live { IsSomeAnd (objects_of self.old.objects slot) (λ object. object.freed ≡ false) }
         requires few { self.old.machine.steps < 2 ^ 32 - 1 }
-        ensures frees { Frees (run_of self.old.machine self.old.specials self.old.objects) slot
-            (run_of self.new.machine self.new.specials self.new.objects) }
+        ensures frees { Frees (slots_in self.old) slot
+            (slots_in self.new) }
         ensures asks { self.new.asks ≡ self.old.asks }
     {
         let step = self.machine.steps() + 1;
@@ -270,10 +271,10 @@ impl<M: TaggedStore> RunMachine<M> {
     /// freed (`AlreadyFreed`); there are 4,294,967,295 steps (`LimitPassed`). Then nothing has changed. It takes no
     /// memory.
     pub(crate) fn free_by_number(&mut self, number: u32) -> Result<(), RunEnd>
-        ensures outcome { let old = numbered_run self.old.machine self.old.specials self.old.objects in
+        ensures outcome { let old = run_in self.old in
             let step = steps.FreeNumber number in
             Answers (run_end self.old.asks old step) (run_after old step) (run_wants old step) old result
-            (numbered_run self.new.machine self.new.specials self.new.objects) }
+            (run_in self.new) }
         ensures asks { self.new.asks ≡ self.old.asks }
     {
         match self.objects.live(number) {
@@ -294,10 +295,10 @@ impl<M: TaggedStore> RunMachine<M> {
     /// (`LimitPassed`). Then nothing has changed. A sealed capability frees, too. It takes no memory.
     pub(crate) fn free_owner(&mut self, register: u8) -> Result<(), RunEnd>
         requires { IsTarget register }
-        ensures outcome { let old = numbered_run self.old.machine self.old.specials self.old.objects in
+        ensures outcome { let old = run_in self.old in
             let step = steps.FreeOwner register in
             Answers (run_end self.old.asks old step) (run_after old step) (run_wants old step) old result
-            (numbered_run self.new.machine self.new.specials self.new.objects) }
+            (run_in self.new) }
         ensures asks { self.new.asks ≡ self.old.asks }
     {
         let place = RunRegister::General(register);

@@ -3,7 +3,8 @@
 ghost use Rattle.std.specs.Prelude.{◌≡◌, ◌≤◌, ◌<◌, ◌^◌, ℕ, None, Some, IfNone, IfSome};
 ghost use Rattle.cap_machine.specs.States.{granule_key};
 ghost use Rattle.cap_run_log.specs.RunLines.{IsRunPlace};
-ghost use Rattle.cap_run.specs.{Numbers.numbered_run, Run.{IsSource, register_key}, RunChanges.place_key, RunOf.run_owners};
+ghost use Rattle.cap_run.specs.{Run.{IsSource, register_key}, RunChanges.place_key, RunOf.run_owners};
+ghost use Rattle.cap_run.specs.Machines.{run_in};
 
 use crate::run_machine::RunMachine;
 use cap_objects::Object;
@@ -15,7 +16,7 @@ impl<M: TaggedStore> RunMachine<M> {
     /// What a place holds.
     pub fn holds(&self, place: RunPlace) -> Cap
         requires { IsRunPlace place }
-        ensures value { result ≡ (let run = numbered_run self.now.machine self.now.specials self.now.objects in run.state (place_key place)) }
+        ensures value { result ≡ (let run = run_in self.now in run.state (place_key place)) }
     {
         match place {
             RunPlace::General(number) => self.register(RunRegister::General(number)),
@@ -27,7 +28,7 @@ impl<M: TaggedStore> RunMachine<M> {
     /// The number of the object that owns a place, if there is one.
     pub fn owner_number(&self, place: RunPlace) -> Option<u32>
         requires { IsRunPlace place }
-        ensures value { result ≡ (let run = numbered_run self.now.machine self.now.specials self.now.objects in run.owners (place_key place)) }
+        ensures value { result ≡ (let run = run_in self.now in run.owners (place_key place)) }
     {
         match self.owner_at(place) {
             Some(slot) => Some(self.objects.object(slot).number),
@@ -38,7 +39,7 @@ impl<M: TaggedStore> RunMachine<M> {
     /// The number of the object that owns a register, if there is one: c0 has none.
     pub fn register_owner(&self, register: RunRegister) -> Option<u32>
         requires { IsSource register }
-        ensures value { result ≡ (let run = numbered_run self.now.machine self.now.specials self.now.objects in run.owners (register_key register)) }
+        ensures value { result ≡ (let run = run_in self.now in run.owners (register_key register)) }
     {
         match self.owner(register) {
             Some(slot) => Some(self.objects.object(slot).number),
@@ -60,7 +61,7 @@ impl<M: TaggedStore> RunMachine<M> {
 
     /// The present object with a number, if there is one.
     pub fn object_numbered(&self, number: u32) -> Option<Object>
-        ensures value { result ≡ (let run = numbered_run self.now.machine self.now.specials self.now.objects in run.objects number) }
+        ensures value { result ≡ (let run = run_in self.now in run.objects number) }
     {
         match self.objects.next_number(number) {
             None => None,
@@ -75,10 +76,10 @@ impl<M: TaggedStore> RunMachine<M> {
 
     /// The present object of least number from a number on.
     pub fn next_object(&self, from: u32) -> Option<Object>
-        ensures some { IfSome result (λ object. let run = numbered_run self.now.machine self.now.specials self.now.objects in
+        ensures some { IfSome result (λ object. let run = run_in self.now in
             (run.objects object.number ≡ Some object) × (from ≤ object.number)
             × ((number : ℕ) → from ≤ number → number < object.number → run.objects number ≡ None)) }
-        ensures none { IfNone result (let run = numbered_run self.now.machine self.now.specials self.now.objects in
+        ensures none { IfNone result (let run = run_in self.now in
             (number : ℕ) → from ≤ number → run.objects number ≡ None) }
     {
         match self.objects.next_number(from) {
@@ -89,10 +90,10 @@ impl<M: TaggedStore> RunMachine<M> {
 
     /// The least granule from a number on that was named: no object owns one before it.
     pub fn next_granule(&self, from: u64) -> Option<u64>
-        ensures some { IfSome result (λ granule. let run = numbered_run self.now.machine self.now.specials self.now.objects in
+        ensures some { IfSome result (λ granule. let run = run_in self.now in
             (from ≤ granule) × (granule < 2 ^ 60)
             × ((other : ℕ) → from ≤ other → other < granule → run.owners (granule_key other) ≡ None)) }
-        ensures none { IfNone result (let run = numbered_run self.now.machine self.now.specials self.now.objects in
+        ensures none { IfNone result (let run = run_in self.now in
             (other : ℕ) → from ≤ other → other < 2 ^ 60 → run.owners (granule_key other) ≡ None) }
     {
         self.machine.next_put(from)

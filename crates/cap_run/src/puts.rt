@@ -5,7 +5,8 @@ ghost use Rattle.cap_ops.specs.Authority.{StaysWithin};
 ghost use Rattle.cap_machine.specs.{Helds.code_in, Parents.IsSoundCap, Places.{IsCoded, place_at}, States.put};
 ghost use Rattle.cap_objects.specs.Counts.{at_key};
 ghost use Rattle.cap_run.specs.{Owned.{is_empty, object_by, owner_for}, Run.{IsSource, IsTargetOf, register_key}};
-ghost use Rattle.cap_run.specs.{RunOf.{run_of, run_owners, run_state}, RunSteps.{IsUnstepped, Writes, WritesBoth}};
+ghost use Rattle.cap_run.specs.{RunOf.{run_owners, run_state}, RunSteps.{IsUnstepped, Writes, WritesBoth}};
+ghost use Rattle.cap_run.specs.Machines.{slots_in};
 
 use crate::run_machine::{RunMachine, slot_by};
 use crate::specials::Specials;
@@ -75,9 +76,9 @@ impl<M: TaggedStore> RunMachine<M> {
         requires source_sound { IsSoundCap (run_state self.old.machine self.old.specials (register_key source)) }
         requires within { IsTrue cap.tag → StaysWithin cap (run_state self.old.machine self.old.specials (register_key source)) }
         requires few { self.old.machine.steps < 2 ^ 32 - 1 }
-        ensures writes { Writes (run_of self.old.machine self.old.specials self.old.objects) (register_key target) cap
+        ensures writes { Writes (slots_in self.old) (register_key target) cap
             (owner_for cap (run_owners self.old.machine self.old.specials (register_key source)))
-            (run_of self.new.machine self.new.specials self.new.objects) }
+            (slots_in self.new) }
         ensures asks { self.new.asks ≡ self.old.asks }
     {
         let label = label_for(cap, self.label(source));
@@ -109,10 +110,10 @@ impl<M: TaggedStore> RunMachine<M> {
         requires second_within { IsTrue second_cap.tag → StaysWithin second_cap (run_state self.old.machine self.old.specials (register_key second_source)) }
         requires few { self.old.machine.steps < 2 ^ 32 - 1 }
         ensures writes { let owners = run_owners self.old.machine self.old.specials in
-            WritesBoth (run_of self.old.machine self.old.specials self.old.objects)
+            WritesBoth (slots_in self.old)
             (register_key first) first_cap (owner_for first_cap (owners (register_key first_source)))
             (register_key second) second_cap (owner_for second_cap (owners (register_key second_source)))
-            (run_of self.new.machine self.new.specials self.new.objects) }
+            (slots_in self.new) }
         ensures asks { self.new.asks ≡ self.old.asks }
     {
         let first_label = label_for(first_cap, self.label(first_source));

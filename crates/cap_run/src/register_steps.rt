@@ -6,9 +6,10 @@ ghost use Rattle.cap_log.specs.Lines.{IsTarget};
 ghost use Rattle.cap_machine.specs.{Labels.untagged, Parents.IsSoundCap};
 ghost use Rattle.cap_run_log.specs.declared.lines.RunRegister.TheVariants.{General, Special};
 ghost use Rattle.cap_run_log.specs.declared.lines.RunStep.TheVariants.{Derive, Exchange, Invoke};
-ghost use Rattle.cap_run.specs.{Numbers.numbered_run, Run.{IsSource, IsTargetOf, register_key}, RunOf.{run_of, run_state}};
+ghost use Rattle.cap_run.specs.{Run.{IsSource, IsTargetOf, register_key}, RunOf.{run_state}};
 ghost use Rattle.cap_run.specs.{RunChanges.{run_after, stepped, with_place}, RunChecks.{Answers, run_end, run_wants}};
 ghost use Rattle.cap_run.specs.RunSteps.{derived_refusal, invoked_refusal, is_pcc, step_limit};
+ghost use Rattle.cap_run.specs.Machines.{run_in, slots_in};
 
 use crate::derivations::is_plainly_derived;
 use crate::ends::{RunEnd, RunRefusal};
@@ -85,7 +86,7 @@ impl<M: TaggedStore> RunMachine<M> {
     // Whether one step more passes the limit.
     #[inline(always)]
     pub(crate) fn step_limit(&self) -> Option<RunRefusal>
-        ensures value { result ≡ step_limit (run_of self.now.machine self.now.specials self.now.objects) }
+        ensures value { result ≡ step_limit (slots_in self.now) }
         ensures few { result ≡ None → self.now.machine.steps < 2 ^ 32 - 1 }
     {
         if self.machine.steps() >= MOST_STEPS {
@@ -145,10 +146,10 @@ impl<M: TaggedStore> RunMachine<M> {
     ) -> Result<(), RunEnd>
         requires target { IsTargetOf target }
         requires source { IsSource source }
-        ensures outcome { let old = numbered_run self.old.machine self.old.specials self.old.objects in
+        ensures outcome { let old = run_in self.old in
             let step = Derive target source recorded in
             Answers (run_end self.old.asks old step) (run_after old step) (run_wants old step) old result
-            (numbered_run self.new.machine self.new.specials self.new.objects) }
+            (run_in self.new) }
         ensures asks { self.new.asks ≡ self.old.asks }
     {
         if self.objects.count() == 0
@@ -171,10 +172,10 @@ impl<M: TaggedStore> RunMachine<M> {
     ) -> Result<(), RunEnd>
         requires target { IsTargetOf target }
         requires source { IsSource source }
-        ensures outcome { let old = numbered_run self.old.machine self.old.specials self.old.objects in
+        ensures outcome { let old = run_in self.old in
             let step = Derive target source recorded in
             Answers (run_end self.old.asks old step) (run_after old step) (run_wants old step) old result
-            (numbered_run self.new.machine self.new.specials self.new.objects) }
+            (run_in self.new) }
         ensures asks { self.new.asks ≡ self.old.asks }
     {
         if let Some(refusal) = self.refusal_of_derived(target, source, recorded) {
@@ -201,10 +202,10 @@ impl<M: TaggedStore> RunMachine<M> {
         requires target { IsTarget target }
         requires source { source ≤ 31 }
         requires number { number ≤ 31 }
-        ensures outcome { let old = numbered_run self.old.machine self.old.specials self.old.objects in
+        ensures outcome { let old = run_in self.old in
             let step = Exchange target source number recorded special_recorded in
             Answers (run_end self.old.asks old step) (run_after old step) (run_wants old step) old result
-            (numbered_run self.new.machine self.new.specials self.new.objects) }
+            (run_in self.new) }
         ensures asks { self.new.asks ≡ self.old.asks }
     {
         let general = RunRegister::General(target);
@@ -247,10 +248,10 @@ impl<M: TaggedStore> RunMachine<M> {
         requires target { IsTarget target }
         requires source { source ≤ 31 }
         requires number { number ≤ 31 }
-        ensures outcome { let old = numbered_run self.old.machine self.old.specials self.old.objects in
+        ensures outcome { let old = run_in self.old in
             let step = Exchange target source number recorded special_recorded in
             Answers (run_end self.old.asks old step) (run_after old step) (run_wants old step) old result
-            (numbered_run self.new.machine self.new.specials self.new.objects) }
+            (run_in self.new) }
         ensures asks { self.new.asks ≡ self.old.asks }
     {
         let general = RunRegister::General(target);
@@ -286,10 +287,10 @@ impl<M: TaggedStore> RunMachine<M> {
     ) -> Result<(), RunEnd>
         requires code { code ≤ 31 }
         requires data_register { data_register ≤ 31 }
-        ensures outcome { let old = numbered_run self.old.machine self.old.specials self.old.objects in
+        ensures outcome { let old = run_in self.old in
             let step = Invoke code data_register code_word data_word in
             Answers (run_end self.old.asks old step) (run_after old step) (run_wants old step) old result
-            (numbered_run self.new.machine self.new.specials self.new.objects) }
+            (run_in self.new) }
         ensures asks { self.new.asks ≡ self.old.asks }
     {
         let code = RunRegister::General(code);
@@ -327,10 +328,10 @@ impl<M: TaggedStore> RunMachine<M> {
     /// The tag of a register goes, and its word stays: a revoker's work.
     pub(crate) fn drop_register(&mut self, register: RunRegister) -> Result<(), RunEnd>
         requires { IsTargetOf register }
-        ensures outcome { let old = numbered_run self.old.machine self.old.specials self.old.objects in
+        ensures outcome { let old = run_in self.old in
             let key = register_key register in
             Answers (step_limit old) (stepped (with_place old key (untagged (old.state key)) None)) false old result
-            (numbered_run self.new.machine self.new.specials self.new.objects) }
+            (run_in self.new) }
         ensures asks { self.new.asks ≡ self.old.asks }
     {
         if let Some(refusal) = self.step_limit() {

@@ -8,7 +8,8 @@ ghost use Rattle.cap_machine.specs.{Accounts.root_checks, Helds.{EndsRoot, accou
 ghost use Rattle.cap_run_log.specs.RunLines.{IsRunPlace};
 ghost use Rattle.cap_run_log.specs.declared.lines.RunPlace.TheVariants.{Special};
 ghost use Rattle.cap_run_log.specs.UsualLines.{in_run};
-ghost use Rattle.cap_run.specs.{Numbers.numbered_run, RunChanges.root_after, RunChecks.{Answers, root_end, root_wants}, RootSteps.{CountsRoot, EndsCount}};
+ghost use Rattle.cap_run.specs.{RunChanges.root_after, RunChecks.{Answers, root_end, root_wants}, RootSteps.{CountsRoot, EndsCount}};
+ghost use Rattle.cap_run.specs.Machines.{run_in};
 
 use crate::ends::{RunEnd, RunRefusal};
 use crate::lines::usual_ended;
@@ -45,9 +46,9 @@ impl<M: TaggedStore> RunMachine<M> {
     /// granule named for the first time. After an error nothing has changed.
     pub fn declare(&mut self, place: RunPlace, word: Word) -> Result<(), RunEnd>
         requires { IsRunPlace place }
-        ensures outcome { let old = numbered_run self.old.machine self.old.specials self.old.objects in
+        ensures outcome { let old = run_in self.old in
             Answers (root_end old place word) (root_after old place word) (root_wants old place) old result
-            (numbered_run self.new.machine self.new.specials self.new.objects) }
+            (run_in self.new) }
         ensures asks { self.new.asks ≡ self.old.asks }
     {
         if self.machine.steps() > 0 {
@@ -64,9 +65,9 @@ impl<M: TaggedStore> RunMachine<M> {
     fn declare_main(&mut self, place: Place, word: Word) -> Result<(), RunEnd>
         requires place { IsPlace place }
         requires first { self.old.machine.steps ≡ 0 }
-        ensures outcome { let old = numbered_run self.old.machine self.old.specials self.old.objects in
+        ensures outcome { let old = run_in self.old in
             Answers (root_end old (in_run place) word) (root_after old (in_run place) word) (root_wants old (in_run place)) old result
-            (numbered_run self.new.machine self.new.specials self.new.objects) }
+            (run_in self.new) }
         ensures asks { self.new.asks ≡ self.old.asks }
     {
         self.machine.kept();
@@ -80,9 +81,9 @@ impl<M: TaggedStore> RunMachine<M> {
     fn declare_special(&mut self, number: u8, word: Word) -> Result<(), RunEnd>
         requires number { number ≤ 31 }
         requires first { self.old.machine.steps ≡ 0 }
-        ensures outcome { let old = numbered_run self.old.machine self.old.specials self.old.objects in
+        ensures outcome { let old = run_in self.old in
             Answers (root_end old (Special number) word) (root_after old (Special number) word) (root_wants old (Special number)) old result
-            (numbered_run self.new.machine self.new.specials self.new.objects) }
+            (run_in self.new) }
         ensures asks { self.new.asks ≡ self.old.asks }
     {
         if self.specials.cap(number).tag {

@@ -2,7 +2,8 @@
 
 ghost use Rattle.std.specs.Prelude.{◌≡◌, ℕ, List, ◌∷◌, ◌++◌};
 ghost use Rattle.cap_log.specs.{Heads.head_spelling};
-ghost use Rattle.cap_run.specs.{Numbers.numbered_run, StepLines.{MakesUsualSteps, TakesAlone, TakesStep}};
+ghost use Rattle.cap_run.specs.{StepLines.{MakesUsualSteps, TakesAlone, TakesStep}};
+ghost use Rattle.cap_run.specs.Machines.{run_in};
 
 use crate::ends::RunEnd;
 use crate::run_machine::RunMachine;
@@ -19,8 +20,8 @@ impl<M: TaggedStore> RunMachine<M> {
     /// follows them. By the first that isn't taken nothing has changed.
     pub fn take_steps<'a>(&mut self, bytes: &'a [u8]) -> &'a [u8]
         ensures taken { (front : List ℕ) × (bytes.now ≡ front ++ result.now)
-            × MakesUsualSteps self.old.asks (numbered_run self.old.machine self.old.specials self.old.objects) front
-            (numbered_run self.new.machine self.new.specials self.new.objects) }
+            × MakesUsualSteps self.old.asks (run_in self.old) front
+            (run_in self.new) }
         ensures asks { self.new.asks ≡ self.old.asks }
     {
         if self.objects.count() != 0 {
@@ -34,9 +35,9 @@ impl<M: TaggedStore> RunMachine<M> {
     /// Takes bytes that are the line of a step of version 2, with its line feed, and no more: how that step ends, as
     /// [`RunMachine::make_usual`] says. `None`, and nothing has changed, where they are not.
     #[inline(always)]
-    pub fn take_alone(&mut self, line: &[u8]) -> Option<Result<(), RunEnd>>
-        ensures taken { TakesAlone self.old.asks (numbered_run self.old.machine self.old.specials self.old.objects) line.now result
-            self.new.asks (numbered_run self.new.machine self.new.specials self.new.objects) }
+    pub fn take_lone_step(&mut self, line: &[u8]) -> Option<Result<(), RunEnd>>
+        ensures taken { TakesAlone self.old.asks (run_in self.old) line.now result
+            self.new.asks (run_in self.new) }
     {
         let (head, operands) = Head::take(line, b' ')?;
         by_head::<RunMachine<M>, Alone>(self, head, operands)
@@ -46,8 +47,8 @@ impl<M: TaggedStore> RunMachine<M> {
     #[inline(never)]
     fn take_owned_steps<'a>(&mut self, bytes: &'a [u8]) -> &'a [u8]
         ensures taken { (front : List ℕ) × (bytes.now ≡ front ++ result.now)
-            × MakesUsualSteps self.old.asks (numbered_run self.old.machine self.old.specials self.old.objects) front
-            (numbered_run self.new.machine self.new.specials self.new.objects) }
+            × MakesUsualSteps self.old.asks (run_in self.old) front
+            (run_in self.new) }
         ensures asks { self.new.asks ≡ self.old.asks }
     {
         let mut rest = bytes;
@@ -63,8 +64,8 @@ impl<M: TaggedStore> RunMachine<M> {
     // `None`, and nothing has changed.
     #[inline(always)]
     fn take_owned_step<'a>(&mut self, bytes: &'a [u8]) -> Option<&'a [u8]>
-        ensures { TakesStep self.old.asks (numbered_run self.old.machine self.old.specials self.old.objects) bytes.now result
-            self.new.asks (numbered_run self.new.machine self.new.specials self.new.objects) }
+        ensures { TakesStep self.old.asks (run_in self.old) bytes.now result
+            self.new.asks (run_in self.new) }
     {
         if bytes.len() < MOST_BYTES {
             return None;
@@ -78,9 +79,9 @@ impl<M: TaggedStore> RunMachine<M> {
     // Takes a step of a usual kind from after its head.
     #[inline(always)]
     fn take_kind<'a, I: Instruction>(&mut self, operands: &'a [u8]) -> Option<&'a [u8]>
-        ensures { TakesStep self.old.asks (numbered_run self.old.machine self.old.specials self.old.objects)
+        ensures { TakesStep self.old.asks (run_in self.old)
             (head_spelling I.HEAD ++ 32 ∷ operands.now) result
-            self.new.asks (numbered_run self.new.machine self.new.specials self.new.objects) }
+            self.new.asks (run_in self.new) }
     {
         if I::IS_RARE {
             return None;
@@ -101,8 +102,8 @@ pub(crate) struct Owned;
 impl<'a, M: TaggedStore> ByKind<'a, RunMachine<M>> for Owned {
     type Answer = Option<&'a [u8]>;
 
-    ghost does = { λ old bytes result new. TakesStep old.asks (numbered_run old.machine old.specials old.objects) bytes result
-        new.asks (numbered_run new.machine new.specials new.objects) };
+    ghost does = { λ old bytes result new. TakesStep old.asks (run_in old) bytes result
+        new.asks (run_in new) };
 
     #[inline(always)]
     fn with_kind<I: Instruction>(run: &mut RunMachine<M>, operands: &'a [u8]) -> Option<&'a [u8]> {
@@ -122,8 +123,8 @@ pub(crate) struct Alone;
 impl<'a, M: TaggedStore> ByKind<'a, RunMachine<M>> for Alone {
     type Answer = Option<Result<(), RunEnd>>;
 
-    ghost does = { λ old bytes result new. TakesAlone old.asks (numbered_run old.machine old.specials old.objects) bytes result
-        new.asks (numbered_run new.machine new.specials new.objects) };
+    ghost does = { λ old bytes result new. TakesAlone old.asks (run_in old) bytes result
+        new.asks (run_in new) };
 
     #[inline(always)]
     fn with_kind<I: Instruction>(

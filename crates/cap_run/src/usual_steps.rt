@@ -1,11 +1,12 @@
 //! The steps of version 2 in a run.
 
 ghost use Rattle.std.specs.Prelude.{◌≡◌, ℕ, Some, false, IfNone, IfSome, MatchResult, OnErr};
-ghost use Rattle.cap_run.specs.{Numbers.numbered_run, RunChanges.usual_after, RunChecks.{Answers, usual_end, usual_wants}};
+ghost use Rattle.cap_run.specs.{RunChanges.usual_after, RunChecks.{Answers, usual_end, usual_wants}};
 ghost use Rattle.cap_log.specs.Lines.{IsPlace, IsStepInRange};
 ghost use Rattle.cap_machine.specs.{Helds.{EndsStep, state_of}, Steps.written_by};
 ghost use Rattle.cap_objects.specs.HandoutsIn.{objects_of};
 ghost use Rattle.cap_run.specs.{RunSteps.IsUnstepped, UsualSteps.{MakesUsual, disowned, main_owners, owner_at}};
+ghost use Rattle.cap_run.specs.Machines.{run_in};
 
 use crate::ends::{RunEnd, RunRefusal};
 use crate::lines::usual_ended;
@@ -53,9 +54,9 @@ impl<M: TaggedStore> RunMachine<M> {
     /// has changed.
     pub fn make_usual(&mut self, step: &Step) -> Result<(), RunEnd>
         requires { IsStepInRange step.now }
-        ensures outcome { let old = numbered_run self.old.machine self.old.specials self.old.objects in
+        ensures outcome { let old = run_in self.old in
             Answers (usual_end self.old.asks old step.now) (usual_after old step.now) (usual_wants old step.now) old result
-            (numbered_run self.new.machine self.new.specials self.new.objects) }
+            (run_in self.new) }
         ensures asks { self.new.asks ≡ self.old.asks }
     {
         if let Some(refusal) = self.asked_if(step) {
@@ -67,25 +68,25 @@ impl<M: TaggedStore> RunMachine<M> {
     /// Makes a step of one kind, as [`RunMachine::make_usual`] does.
     #[inline(always)]
     pub(crate) fn make_kind<I: Instruction>(&mut self, kind: I) -> Result<(), RunEnd>
-        ensures outcome { let old = numbered_run self.old.machine self.old.specials self.old.objects in
+        ensures outcome { let old = run_in self.old in
             Answers (usual_end self.old.asks old (I.step kind)) (usual_after old (I.step kind)) (usual_wants old (I.step kind)) old result
-            (numbered_run self.new.machine self.new.specials self.new.objects) }
+            (run_in self.new) }
         ensures asks { self.new.asks ≡ self.old.asks }
     {
         kind.in_range();
-        if self.asks.used || self.asks.owned {
-            return self.make_usual(&kind.into_step());
+        match self.asked_if(&kind.into_step()) {
+            Some(refusal) => Err(RunEnd::Refused(refusal)),
+            None => self.usual_kind(kind),
         }
-        self.usual_kind(kind)
     }
 
     /// Makes a step of one kind, as [`RunMachine::make_usual`] does. Where no object was handed out, it takes no longer than in
     /// the machine without objects.
     #[inline(always)]
     pub fn make_instruction<I: Instruction>(&mut self, kind: I) -> Result<(), RunEnd>
-        ensures outcome { let old = numbered_run self.old.machine self.old.specials self.old.objects in
+        ensures outcome { let old = run_in self.old in
             Answers (usual_end self.old.asks old (I.step kind)) (usual_after old (I.step kind)) (usual_wants old (I.step kind)) old result
-            (numbered_run self.new.machine self.new.specials self.new.objects) }
+            (run_in self.new) }
         ensures asks { self.new.asks ≡ self.old.asks }
         ensures range { IsStepInRange (I.step kind) }
     {
@@ -100,9 +101,9 @@ impl<M: TaggedStore> RunMachine<M> {
     // none was.
     #[inline(always)]
     fn make_among<I: Instruction>(&mut self, kind: I) -> Result<(), RunEnd>
-        ensures outcome { let old = numbered_run self.old.machine self.old.specials self.old.objects in
+        ensures outcome { let old = run_in self.old in
             Answers (usual_end self.old.asks old (I.step kind)) (usual_after old (I.step kind)) (usual_wants old (I.step kind)) old result
-            (numbered_run self.new.machine self.new.specials self.new.objects) }
+            (run_in self.new) }
         ensures asks { self.new.asks ≡ self.old.asks }
     {
         self.make_kind(kind)
@@ -113,9 +114,9 @@ impl<M: TaggedStore> RunMachine<M> {
     fn make_alone<I: Instruction>(&mut self, kind: I) -> Result<(), RunEnd>
         requires none { self.old.objects.count ≡ 0 }
         requires range { IsStepInRange (I.step kind) }
-        ensures outcome { let old = numbered_run self.old.machine self.old.specials self.old.objects in
+        ensures outcome { let old = run_in self.old in
             Answers (usual_end self.old.asks old (I.step kind)) (usual_after old (I.step kind)) (usual_wants old (I.step kind)) old result
-            (numbered_run self.new.machine self.new.specials self.new.objects) }
+            (run_in self.new) }
         ensures asks { self.new.asks ≡ self.old.asks }
     {
         self.machine.kept();
@@ -129,9 +130,9 @@ impl<M: TaggedStore> RunMachine<M> {
     #[inline(always)]
     fn usual_kind<I: Instruction>(&mut self, kind: I) -> Result<(), RunEnd>
         requires { IsStepInRange (I.step kind) }
-        ensures outcome { let old = numbered_run self.old.machine self.old.specials self.old.objects in
+        ensures outcome { let old = run_in self.old in
             Answers (usual_end (record self.old.asks { used = false; owned = false }) old (I.step kind)) (usual_after old (I.step kind))
-            (usual_wants old (I.step kind)) old result (numbered_run self.new.machine self.new.specials self.new.objects) }
+            (usual_wants old (I.step kind)) old result (run_in self.new) }
         ensures asks { self.new.asks ≡ self.old.asks }
     {
         self.machine.kept();
@@ -147,8 +148,8 @@ impl<M: TaggedStore> RunMachine<M> {
     fn asked_if(&self, step: &Step) -> Option<RunRefusal>
         requires { IsStepInRange step.now }
         ensures some { IfSome result (λ refusal.
-            usual_end self.now.asks (numbered_run self.now.machine self.now.specials self.now.objects) step.now ≡ Some refusal) }
-        ensures none { IfNone result (let run = numbered_run self.now.machine self.now.specials self.now.objects in
+            usual_end self.now.asks (run_in self.now) step.now ≡ Some refusal) }
+        ensures none { IfNone result (let run = run_in self.now in
             usual_end self.now.asks run step.now ≡ usual_end (record self.now.asks { used = false; owned = false }) run step.now) }
     {
         if !self.asks.used && !self.asks.owned {
@@ -160,9 +161,9 @@ impl<M: TaggedStore> RunMachine<M> {
     // Makes a step of version 2, where nothing is asked of its access.
     fn usual(&mut self, step: &Step) -> Result<(), RunEnd>
         requires { IsStepInRange step.now }
-        ensures outcome { let old = numbered_run self.old.machine self.old.specials self.old.objects in
+        ensures outcome { let old = run_in self.old in
             Answers (usual_end (record self.old.asks { used = false; owned = false }) old step.now) (usual_after old step.now)
-            (usual_wants old step.now) old result (numbered_run self.new.machine self.new.specials self.new.objects) }
+            (usual_wants old step.now) old result (run_in self.new) }
         ensures asks { self.new.asks ≡ self.old.asks }
     {
         self.machine.kept();

@@ -13,8 +13,8 @@ use Rattle.cap_judge.proofs.TurnLemmas.{IsWhole, front_more, whole_some}
 use Rattle.cap_run.specs.declared.{asks.Asks.Asks, ends.{RunEnd.RunEnd, RunRefusal.{RunRefusal, TheVariants.Usual}}}
 use Rattle.cap_run.specs.{Run.Run, RunChanges.line_after, RunChecks.{Answers, line_end, line_wants}}
 use Rattle.cap_run_judge.specs.declared.verdict.RunVerdict.{RunVerdict, TheVariants.{No}}
-use Rattle.cap_run_judge.specs.declared.judges.NextRunLine as code
-use Rattle.cap_run_judge.specs.declared.judges.NextRunLine.TheVariants as stages
+use Rattle.cap_run_judge.specs.declared.judges.Due as code
+use Rattle.cap_run_judge.specs.declared.judges.Due.TheVariants as dues
 use Rattle.cap_run_judge.specs.Turns.{Body, Due, Goes, Reads, Refused, Stage, next_due, refusal_by, text_of, unread}
 use Rattle.cap_run_judge.specs.Readings.{VerdictAtEnd, VerdictWith, Faults, Follows, IsAtFault, IsUnmade, RefusesNext, StopsAt, Takes, due_at_end, due_of}
 use Rattle.cap_run_judge.specs.Verdicts.{IsRunVerdict, Lacks, Refuses}
@@ -216,12 +216,12 @@ stage_stays asks_are asks_then old new due_is line end same answers =
     rw (same, stays) refl
 
 -- one that was not tried
-pub no_body : (stage : code.NextRunLine) → (stage ≡ stages.Body → ⊥) → due_of stage ≢ Body
-no_body stages.Body other is = other refl
-no_body stages.Version other is = cc
-no_body stages.Mode other is = cc
-no_body stages.Ended other is = cc
-no_body (stages.Refused fault) other is = cc
+pub no_body : (stage : code.Due) → (stage ≡ dues.Body → ⊥) → due_of stage ≢ Body
+no_body dues.Body other is = other refl
+no_body dues.First other is = cc
+no_body dues.Second other is = cc
+no_body dues.Ended other is = cc
+no_body (dues.Refused fault) other is = cc
 
 -- Answers that are not these
 

@@ -19,8 +19,8 @@ use Rattle.cap_run.specs.RunChecks.{Answers, line_end, line_wants}
 use Rattle.cap_ops.specs.declared.refusal.Refusal.TheVariants.{Misplaced, Truncated}
 use Rattle.cap_run.proofs.StepTakingLemmas.{line_shorter}
 use Rattle.cap_run_judge.specs.declared.{faults.RefusedRunLine.RefusedRunLine}
-use Rattle.cap_run_judge.specs.declared.judges.NextRunLine as code
-use Rattle.cap_run_judge.specs.declared.judges.NextRunLine.TheVariants as stages
+use Rattle.cap_run_judge.specs.declared.judges.Due as code
+use Rattle.cap_run_judge.specs.declared.judges.Due.TheVariants as dues
 use Rattle.cap_run_judge.specs.Turns.{Body, Ended, Goes, Reads, Refused, Stage}
 use Rattle.cap_run_judge.specs.Turns.{refusal_at, stage_after, text_of}
 use Rattle.cap_run_judge.specs.Readings.{AnswersLine, AnswerAtEnd, EndsBytes, EndsLine, IsAtFault, RefusesNext, StopsAt, Takes, due_at_end}
@@ -179,8 +179,8 @@ formless stage bytes n refusal is none refused =
     inl (take n bytes, rest, is, (None, (λ line range same. none line rest (range, is.whole ∙ ap (λ (t : List ℕ). t ++ 10 ∷ rest) same)), refused))
 
 -- no line is faulty
-pub clear_of : (stage : code.NextRunLine) → ((fault : RefusedRunLine) → stage ≡ stages.Refused fault → ⊥) → IsAtFault (due_of stage) → ⊥
-clear_of (stages.Refused fault) clear is = clear fault refl
+pub clear_of : (stage : code.Due) → ((fault : RefusedRunLine) → stage ≡ dues.Refused fault → ⊥) → IsAtFault (due_of stage) → ⊥
+clear_of (dues.Refused fault) clear is = clear fault refl
 clear_of stage clear is = is
 
 -- the text of what is refused, whatever follows
@@ -206,13 +206,13 @@ pub ended_some : (run_is : Run) (rest : List ℕ) → rest ≢ []
 ended_some run_is [] some = absurd (some refl)
 ended_some run_is (b ∷ rest) some = refl
 
-pub unended : (stage : code.NextRunLine) (run_is : Run) (rest : List ℕ) → (stage ≡ stages.Ended → ⊥)
-    → ((fault : RefusedRunLine) → stage ≡ stages.Refused fault → ⊥)
+pub unended : (stage : code.Due) (run_is : Run) (rest : List ℕ) → (stage ≡ dues.Ended → ⊥)
+    → ((fault : RefusedRunLine) → stage ≡ dues.Refused fault → ⊥)
     → due_at_end run_is (due_of stage) rest ≡ Refused (lines_by run_is (due_of stage) + 1) (Usual Truncated) rest
-unended stages.Ended run_is rest goes clear = absurd (goes refl)
-unended (stages.Refused fault) run_is rest goes clear = absurd (clear fault refl)
+unended dues.Ended run_is rest goes clear = absurd (goes refl)
+unended (dues.Refused fault) run_is rest goes clear = absurd (clear fault refl)
 unended stage run_is rest goes clear = refl
 
 -- no line is faulty where the end line has come
-pub ended_clear : (stage : code.NextRunLine) (fault : RefusedRunLine) → stage ≡ stages.Ended → stage ≡ stages.Refused fault → ⊥
+pub ended_clear : (stage : code.Due) (fault : RefusedRunLine) → stage ≡ dues.Ended → stage ≡ dues.Refused fault → ⊥
 ended_clear stage fault ended refused = cc

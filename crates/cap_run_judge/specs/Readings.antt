@@ -12,27 +12,24 @@ use Rattle.cap_run.specs.{Numbers.numbered_run, Run.Run, RunChecks.line_wants}
 use Rattle.cap_run.specs.declared.run_machine.RunMachine.{RunMachine}
 use Rattle.cap_run_judge.specs.declared.faults.RefusedRunLine as faults
 use Rattle.cap_run_judge.specs.declared.judges.{RunJudge.RunJudge}
-use Rattle.cap_run_judge.specs.declared.judges.NextRunLine as code
-use Rattle.cap_run_judge.specs.declared.judges.NextRunLine.TheVariants as stages
+use Rattle.cap_run_judge.specs.declared.judges.Due as code
+use Rattle.cap_run_judge.specs.declared.judges.Due.TheVariants as dues
 use Rattle.cap_run_judge.specs.declared.verdict.RunVerdict.{RunVerdict, TheVariants.{Yes, No}}
 use Rattle.cap_run_judge.specs.Turns.{Allows, Body, Due, Ended, First, Goes, Refused, Second, Stage, refusal_at, stage_after}
 use Rattle.cap_run_judge.specs.{Judgings.{IsVerdictOf, StopsIn}, Verdicts.{Lacks, RefusesWhole, long_refusal}}
-
--- the run of a machine
-abbrev pub run_in : {M : Type 0} {ghosts : Ghosts M} → RunMachine M ghosts → Run
-run_in machine = numbered_run machine.machine machine.specials machine.objects
+use Rattle.cap_run.specs.Machines.{run_in}
 
 -- what the code's stage says
-abbrev pub due_of : code.NextRunLine → Due
-due_of stages.Version = First
-due_of stages.Mode = Second
-due_of stages.Body = Body
-due_of stages.Ended = Ended
-due_of (stages.Refused fault) = Refused fault.line fault.refusal (bytes_of fault.text)
+abbrev pub due_of : code.Due → Due
+due_of dues.First = First
+due_of dues.Second = Second
+due_of dues.Body = Body
+due_of dues.Ended = Ended
+due_of (dues.Refused fault) = Refused fault.line fault.refusal (bytes_of fault.text)
 
 -- how far a judge has read
 abbrev pub stage_of : {M : Type 0} {ghosts : Ghosts M} → RunJudge M ghosts → Stage
-stage_of judge = record { asks = judge.machine.asks; run = run_in judge.machine; due = due_of judge.stage }
+stage_of judge = record { asks = judge.machine.asks; run = run_in judge.machine; due = due_of judge.due }
 
 -- a line is faulty
 abbrev pub IsAtFault : Due → Type 0

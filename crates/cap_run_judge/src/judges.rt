@@ -7,7 +7,7 @@ ghost use Rattle.cap_streams.specs.{FaultLines.bytes_of, Front.{IsCut, IsFront, 
 ghost use Rattle.cap_judge.specs.declared.judges.Stop.TheVariants as stops;
 ghost use Rattle.cap_run_log.specs.{declared.lines.RunLine.RunLine, RunLines.{IsRunLineInRange, run_spelling}};
 ghost use Rattle.cap_run_judge.specs.declared.faults.RefusedRunLine.{RefusedRunLine as FaultIn};
-ghost use Rattle.cap_run_judge.specs.declared.judges.NextRunLine.TheVariants.{Body, Refused as RefusedIn};
+ghost use Rattle.cap_run_judge.specs.declared.judges.Due.TheVariants.{Body, Refused as RefusedIn};
 ghost use Rattle.cap_run_judge.specs.Readings.{AnswersLine, AnswerAtEnd, EndsBytes, IsAtFault, IsFaultOf, StopsAt, Takes};
 ghost use Rattle.cap_run_judge.specs.Readings.{lines_read, stage_of};
 ghost use Rattle.cap_run_judge.specs.Turns.{Goes, refusal_at, unread};
@@ -31,11 +31,11 @@ const MOST_BYTES: usize = LINE_LIMIT + 1;
 
 /// What the next line of a run log has to be.
 #[derive(Drop)]
-pub enum NextRunLine {
+pub enum Due {
     /// The version line.
-    Version,
+    First,
     /// The mode line.
-    Mode,
+    Second,
     /// A root, a step or the end line.
     Body,
     /// None: the end line has come.
@@ -49,7 +49,7 @@ pub enum NextRunLine {
 #[derive(Drop)]
 pub struct RunJudge<M: TaggedStore> {
     pub(crate) machine: RunMachine<M>,
-    pub(crate) stage: NextRunLine,
+    pub(crate) due: Due,
 }
 
 impl<M: TaggedStore> RunJudge<M> {
@@ -60,7 +60,7 @@ impl<M: TaggedStore> RunJudge<M> {
     {
         RunJudge {
             machine: RunMachine::new(alloc, memory, asks),
-            stage: NextRunLine::Version,
+            due: Due::First,
         }
     }
 
@@ -75,8 +75,8 @@ impl<M: TaggedStore> RunJudge<M> {
     {
         let mut rest = bytes;
         'lines: loop {
-            let before = self.take_front(rest);
-            match self.take_next(before) {
+            let before = self.take_front_steps(rest);
+            match self.take_any_line(before) {
                 Ok(behind) => rest = behind,
                 Err(stop) => {
                     let count = bytes.len() - before.len();
@@ -89,11 +89,11 @@ impl<M: TaggedStore> RunJudge<M> {
     /// The verdict if no other bytes follow than these, which are less than a line: a `yes`, or the faulty line.
     pub fn ending(&self, rest: &[u8]) -> Result<RunVerdict, RefusedRunLine>
         ensures ends { IsCut rest.now → AnswerAtEnd (stage_of self.now) rest.now result }
-        ensures fault { (fault : FaultIn) → self.now.stage ≡ RefusedIn fault → result ≡ Err fault }
+        ensures fault { (fault : FaultIn) → self.now.due ≡ RefusedIn fault → result ≡ Err fault }
     {
-        match &self.stage {
-            NextRunLine::Refused(fault) => Err(*fault),
-            NextRunLine::Ended => {
+        match &self.due {
+            Due::Refused(fault) => Err(*fault),
+            Due::Ended => {
                 if rest.is_empty() {
                     Ok(RunVerdict::Yes {
                         steps: self.machine.steps(),
@@ -119,8 +119,8 @@ impl<M: TaggedStore> RunJudge<M> {
     pub fn refused(&self) -> Option<RefusedRunLine>
         ensures fault { IsFaultOf (stage_of self.now).due result }
     {
-        match &self.stage {
-            NextRunLine::Refused(fault) => Some(*fault),
+        match &self.due {
+            Due::Refused(fault) => Some(*fault),
             _ => None,
         }
     }
@@ -128,20 +128,20 @@ impl<M: TaggedStore> RunJudge<M> {
     // Takes the lines of derivations, exchanges and steps of version 2 at the front of some bytes, where they may come next: what
     // follows them.
     #[inline(always)]
-    fn take_front<'a>(&mut self, bytes: &'a [u8]) -> &'a [u8]
+    fn take_front_steps<'a>(&mut self, bytes: &'a [u8]) -> &'a [u8]
         ensures { (front : List ℕ) × (bytes.now ≡ front ++ result.now)
             × Goes (stage_of self.old) front (stage_of self.new) }
     {
-        if let NextRunLine::Body = self.stage {
-            return self.take_often(bytes);
+        if let Due::Body = self.due {
+            return self.take_steps(bytes);
         }
         bytes
     }
 
     // Takes such lines, as long as a line of any length has room: what follows them.
     #[inline(always)]
-    fn take_often<'a>(&mut self, bytes: &'a [u8]) -> &'a [u8]
-        requires { self.old.stage ≡ Body }
+    fn take_steps<'a>(&mut self, bytes: &'a [u8]) -> &'a [u8]
+        requires { self.old.due ≡ Body }
         ensures taken { (front : List ℕ) × (bytes.now ≡ front ++ result.now) × Goes (stage_of self.old) front (stage_of self.new) }
     {
         let mut rest = bytes;
@@ -158,9 +158,9 @@ impl<M: TaggedStore> RunJudge<M> {
     // Takes the lines of derivations and exchanges at the front of some bytes, as long as a line of any length has room: what
     // follows them.
     fn take_derivations<'a>(&mut self, bytes: &'a [u8]) -> &'a [u8]
-        requires { self.old.stage ≡ Body }
+        requires { self.old.due ≡ Body }
         ensures taken { (front : List ℕ) × (bytes.now ≡ front ++ result.now) × Goes (stage_of self.old) front (stage_of self.new) }
-        ensures body { self.new.stage ≡ Body }
+        ensures body { self.new.due ≡ Body }
     {
         let mut rest = bytes;
         'lines: loop {
@@ -179,11 +179,11 @@ impl<M: TaggedStore> RunJudge<M> {
     // `None`, and nothing has changed.
     #[inline(always)]
     fn take_exchange<'a>(&mut self, bytes: &'a [u8]) -> Option<&'a [u8]>
-        requires { self.old.stage ≡ Body }
+        requires { self.old.due ≡ Body }
         ensures some { IfSome result (λ rest. (line : RunLine) × Begins IsRunLineInRange run_spelling 10 bytes.now line rest.now
             × Takes (stage_of self.old) line (stage_of self.new)) }
         ensures none { IfNone result (stage_of self.new ≡ stage_of self.old) }
-        ensures body { self.new.stage ≡ Body }
+        ensures body { self.new.due ≡ Body }
     {
         if bytes.len() < MOST_BYTES {
             return None;
@@ -200,11 +200,11 @@ impl<M: TaggedStore> RunJudge<M> {
     // The same of the line of a derivation.
     #[inline(always)]
     fn take_derive<'a>(&mut self, bytes: &'a [u8]) -> Option<&'a [u8]>
-        requires { self.old.stage ≡ Body }
+        requires { self.old.due ≡ Body }
         ensures some { IfSome result (λ rest. (line : RunLine) × Begins IsRunLineInRange run_spelling 10 bytes.now line rest.now
             × Takes (stage_of self.old) line (stage_of self.new)) }
         ensures none { IfNone result (stage_of self.new ≡ stage_of self.old) }
-        ensures body { self.new.stage ≡ Body }
+        ensures body { self.new.due ≡ Body }
     {
         if bytes.len() < MOST_BYTES {
             return None;
@@ -219,12 +219,12 @@ impl<M: TaggedStore> RunJudge<M> {
     }
 
     // Takes the line at the front of some bytes: what follows it.
-    pub(crate) fn take_next<'a>(&mut self, bytes: &'a [u8]) -> Result<&'a [u8], Stop>
+    pub(crate) fn take_any_line<'a>(&mut self, bytes: &'a [u8]) -> Result<&'a [u8], Stop>
         ensures ok { IfOk result (λ rest. (line : RunLine) × Begins IsRunLineInRange run_spelling 10 bytes.now line rest.now
             × Takes (stage_of self.old) line (stage_of self.new)) }
         ensures err { IfErr result (λ stop. StopsAt (stage_of self.old) [] bytes.now stop (stage_of self.new)) }
     {
-        if let NextRunLine::Refused(_) = self.stage {
+        if let Due::Refused(_) = self.due {
             return Err(Stop::Fault);
         }
         match take_run_line(bytes) {
@@ -265,7 +265,7 @@ impl<M: TaggedStore> RunJudge<M> {
         match end {
             RunEnd::NoMemory => Stop::NoMemory,
             RunEnd::Refused(refusal) => {
-                self.stage = NextRunLine::Refused(self.fault(refusal, found, bytes));
+                self.due = Due::Refused(self.fault(refusal, found, bytes));
                 Stop::Fault
             }
         }
@@ -291,11 +291,11 @@ impl<M: TaggedStore> RunJudge<M> {
         ensures few { result ≤ 8589934600 }
     {
         let body = u64::from(self.machine.roots()) + u64::from(self.machine.steps());
-        match self.stage {
-            NextRunLine::Version => 1,
-            NextRunLine::Mode => 2,
-            NextRunLine::Body => body + 3,
-            NextRunLine::Ended | NextRunLine::Refused(_) => body + 4,
+        match self.due {
+            Due::First => 1,
+            Due::Second => 2,
+            Due::Body => body + 3,
+            Due::Ended | Due::Refused(_) => body + 4,
         }
     }
 
@@ -311,11 +311,11 @@ impl<M: TaggedStore> RunJudge<M> {
     fn refusal_of_long(&self) -> RunRefusal
         ensures { result ≡ long_refusal (stage_of self.now).due }
     {
-        match self.stage {
-            NextRunLine::Version | NextRunLine::Mode | NextRunLine::Body => usual(
+        match self.due {
+            Due::First | Due::Second | Due::Body => usual(
                 Refusal::LineTooLong,
             ),
-            NextRunLine::Ended | NextRunLine::Refused(_) => usual(Refusal::Misplaced),
+            Due::Ended | Due::Refused(_) => usual(Refusal::Misplaced),
         }
     }
 
@@ -323,11 +323,11 @@ impl<M: TaggedStore> RunJudge<M> {
     fn refusal_of_formless(&self) -> RunRefusal
         ensures { refusal_at (stage_of self.now) None ≡ Some result }
     {
-        match self.stage {
-            NextRunLine::Version => usual(Refusal::BadHeader),
-            NextRunLine::Mode => usual(Refusal::BadMode),
-            NextRunLine::Body => usual(Refusal::BadLine),
-            NextRunLine::Ended | NextRunLine::Refused(_) => usual(Refusal::Misplaced),
+        match self.due {
+            Due::First => usual(Refusal::BadHeader),
+            Due::Second => usual(Refusal::BadMode),
+            Due::Body => usual(Refusal::BadLine),
+            Due::Ended | Due::Refused(_) => usual(Refusal::Misplaced),
         }
     }
 
@@ -336,24 +336,24 @@ impl<M: TaggedStore> RunJudge<M> {
         requires in_range { IsRunLineInRange line.now }
         ensures { AnswersLine (stage_of self.old) line.now result (stage_of self.new) }
     {
-        match self.stage {
-            NextRunLine::Version => match *line {
+        match self.due {
+            Due::First => match *line {
                 RunLine::Version => {
-                    self.stage = NextRunLine::Mode;
+                    self.due = Due::Second;
                     Ok(())
                 }
                 _ => Err(RunEnd::Refused(usual(Refusal::BadHeader))),
             },
-            NextRunLine::Mode => match *line {
+            Due::Second => match *line {
                 RunLine::Mode(mode) => {
                     self.machine.follow(rules_of(mode));
-                    self.stage = NextRunLine::Body;
+                    self.due = Due::Body;
                     Ok(())
                 }
                 _ => Err(RunEnd::Refused(usual(Refusal::BadMode))),
             },
-            NextRunLine::Body => self.follow_body(line),
-            NextRunLine::Ended | NextRunLine::Refused(_) => {
+            Due::Body => self.follow_body(line),
+            Due::Ended | Due::Refused(_) => {
                 Err(RunEnd::Refused(usual(Refusal::Misplaced)))
             }
         }
@@ -361,7 +361,7 @@ impl<M: TaggedStore> RunJudge<M> {
 
     // Goes on by a line after the header.
     fn follow_body(&mut self, line: &RunLine) -> Result<(), RunEnd>
-        requires body { self.old.stage ≡ Body }
+        requires body { self.old.due ≡ Body }
         requires in_range { IsRunLineInRange line.now }
         ensures { AnswersLine (stage_of self.old) line.now result (stage_of self.new) }
     {
@@ -376,7 +376,7 @@ impl<M: TaggedStore> RunJudge<M> {
                 if count != self.machine.steps() {
                     return Err(RunEnd::Refused(usual(Refusal::WrongCount)));
                 }
-                self.stage = NextRunLine::Ended;
+                self.due = Due::Ended;
                 Ok(())
             }
         }

@@ -4,7 +4,8 @@ ghost use Rattle.std.specs.Prelude.{◌≡◌, ◌≤◌, ℕ, length, take, Err
 ghost use Rattle.std.specs.FinMap as map;
 ghost use Rattle.cap_streams.specs.declared.judging.judge_faults.JudgeToFault.TheVariants.{Pull, Push};
 ghost use Rattle.cap_streams.specs.Streams.{CountsFault, CountsOnly};
-ghost use Rattle.cap_run_judge.specs.{OwnerLists.run_report_text, Readings.run_in, Reports.{RunReported, TellsRun}, VerdictLines.run_verdict_line};
+ghost use Rattle.cap_run_judge.specs.{OwnerLists.run_report_text, Reports.{RunReported, TellsRun}, VerdictLines.run_verdict_line};
+ghost use Rattle.cap_run.specs.Machines.{run_in};
 
 use crate::owners::push_owners;
 use crate::streams::{RunJudgeEnd, judge_run_keeping};

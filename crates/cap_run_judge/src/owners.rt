@@ -6,7 +6,7 @@ ghost use Rattle.cap_run_log.specs.RunLines.{IsRunPlace, run_place_spelling};
 ghost use Rattle.cap_streams.specs.{Streams.CountsFault, Written.Writes};
 ghost use Rattle.cap_run_judge.specs.OwnerLists.{extent_spelling, general_lines, granule_lines, life_spelling, object_line, object_lines};
 ghost use Rattle.cap_run_judge.specs.OwnerLists.{owner_line, owner_lines, place_line, special_lines};
-ghost use Rattle.cap_run_judge.specs.Readings.{run_in};
+ghost use Rattle.cap_run.specs.Machines.{run_in};
 
 use cap_log::Place;
 use cap_log::buffers::{put, put_decimal, put_hex, put_place};

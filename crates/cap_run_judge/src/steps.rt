@@ -10,7 +10,7 @@ ghost use Rattle.cap_run_log.specs.RunLines.{IsRunLineInRange, IsRunStepInRange,
 ghost use Rattle.cap_run_judge.specs.Readings.{Follows, IsAtFault, IsUnmade, stage_of};
 ghost use Rattle.cap_run_judge.specs.{Turns.Body, Verdicts.Lacks};
 
-use crate::judges::{NextRunLine, RunJudge};
+use crate::judges::{Due, RunJudge};
 use cap_judge::{Stop, TakeFault};
 use cap_machine::Instruction;
 use cap_run::RunEnd;
@@ -31,19 +31,19 @@ impl<M: TaggedStore> RunJudge<M> {
         // out an object.
         ensures no_memory { result ≡ Err NoMemory → Lacks (stage_of self.old) line.now [] }
     {
-        if let NextRunLine::Body = self.stage {
-            return match self.machine.take_alone(line) {
+        if let Due::Body = self.due {
+            return match self.machine.take_lone_step(line) {
                 Some(Ok(())) => Ok(()),
-                Some(Err(end)) => self.take_end(end, line),
-                None => self.take_whole(line),
+                Some(Err(end)) => self.take_ended_step(end, line),
+                None => self.take_lone_line(line),
             };
         }
-        self.take_whole(line)
+        self.take_lone_line(line)
     }
 
     // Takes bytes of any kind as one line.
     #[inline(never)]
-    fn take_whole(&mut self, line: &[u8]) -> Result<(), TakeFault>
+    fn take_lone_line(&mut self, line: &[u8]) -> Result<(), TakeFault>
         ensures taken { OnOk result (Follows (stage_of self.old) line.now (stage_of self.new)) }
         ensures unchanged { IfErr result (λ _. stage_of self.new ≡ stage_of self.old) }
         ensures no_line { (result ≡ Err NoLine) ↔ IsNoLine line.now }
@@ -52,7 +52,7 @@ impl<M: TaggedStore> RunJudge<M> {
         if !is_whole(front(line), line) {
             return Err(TakeFault::NoLine);
         }
-        match self.take_next(line) {
+        match self.take_any_line(line) {
             Ok(_) => Ok(()),
             Err(Stop::Fault) => Ok(()),
             Err(Stop::NoMemory) => Err(TakeFault::NoMemory),
@@ -71,7 +71,7 @@ impl<M: TaggedStore> RunJudge<M> {
         ensures unmade { IfErr result (λ end. IfSome end (IsUnmade (stage_of self.old) (lines.Step (I.step step)))) }
         ensures untried { result ≡ Err None → (stage_of self.old).due ≢ Body }
     {
-        if let NextRunLine::Body = self.stage {
+        if let Due::Body = self.due {
             return match self.machine.make_instruction(step) {
                 Ok(()) => Ok(()),
                 Err(end) => Err(Some(end)),
@@ -89,7 +89,7 @@ impl<M: TaggedStore> RunJudge<M> {
         ensures unmade { IfErr result (λ end. IfSome end (IsUnmade (stage_of self.old) (lines.Run step.now))) }
         ensures untried { result ≡ Err None → (stage_of self.old).due ≢ Body }
     {
-        if let NextRunLine::Body = self.stage {
+        if let Due::Body = self.due {
             return match self.machine.make(step) {
                 Ok(()) => Ok(()),
                 Err(end) => Err(Some(end)),
@@ -114,14 +114,14 @@ impl<M: TaggedStore> RunJudge<M> {
         let length = write_run_line(line, &mut buffer);
         let text = &buffer[..length];
         match end {
-            Some(end) => self.take_end(end, text),
+            Some(end) => self.take_ended_step(end, text),
             None => self.take_line(text),
         }
     }
 
     // Ends a line at a step that was not made.
     #[inline(never)]
-    fn take_end(&mut self, end: RunEnd, text: &[u8]) -> Result<(), TakeFault>
+    fn take_ended_step(&mut self, end: RunEnd, text: &[u8]) -> Result<(), TakeFault>
         requires ends { (line : RunLine) × Begins IsRunLineInRange run_spelling 10 text.now line []
             × IsUnmade (stage_of self.old) line end }
         ensures taken { OnOk result (Follows (stage_of self.old) text.now (stage_of self.new)) }

@@ -5,7 +5,8 @@ ghost use Rattle.std.specs.FinMap as map;
 ghost use Rattle.cap_streams.specs.{declared.judging.judge_faults.JudgeFault.TheVariants.Pull, FaultLines.bytes_of};
 ghost use Rattle.cap_streams.specs.{ReadBuffers.items, Streams.CountsOnly};
 ghost use Rattle.cap_run_judge.specs.{Judgings.{Judged, JudgedBy}, Turns.unread, Verdicts.{IsRunVerdict, NoRunVerdictIn}};
-ghost use Rattle.cap_run_judge.specs.Readings.{IsAnswered, StopsAt, lines_read, run_in, stage_of};
+ghost use Rattle.cap_run_judge.specs.Readings.{IsAnswered, StopsAt, lines_read, stage_of};
+ghost use Rattle.cap_run.specs.Machines.{run_in};
 
 use crate::faults::RefusedRunLine;
 use crate::judges::RunJudge;

@@ -3,11 +3,11 @@
 ghost use Rattle.std.specs.Prelude.{◌≡◌, ◌+◌, ◌++◌, ◌≤◌, length};
 ghost use Rattle.cap_streams.specs.Written.{Writes};
 ghost use Rattle.cap_run.specs.Run.{IsSource};
-ghost use Rattle.cap_run_judge.specs.Readings.{run_in};
 ghost use Rattle.cap_run_log.specs.RunLines.{run_place_spelling};
 ghost use Rattle.cap_texts.specs.TextLines.{says_line};
 ghost use Rattle.cap_report.specs.Says.{taken_text};
 ghost use Rattle.cap_run_report.specs.CapParts.{IsReadable, held_lines, owned_lines, place_of, register_lines};
+ghost use Rattle.cap_run.specs.Machines.{run_in};
 
 use cap_log::Place;
 use cap_log::buffers::{put, put_decimal, put_flag, put_hex, put_place};

@@ -6,9 +6,10 @@ ghost use Rattle.cap_streams.specs.declared.judging.judge_faults.JudgeToFault.Th
 ghost use Rattle.cap_streams.specs.{FaultLines.bytes_of, Streams.{CountsFault, CountsOnly}};
 ghost use Rattle.cap_run.specs.declared.asks.Asks.{Asks as AsksIn};
 ghost use Rattle.cap_run_judge.specs.declared.verdict.RunVerdict.{RunVerdict as RunVerdictIn, TheVariants.No};
-ghost use Rattle.cap_run_judge.specs.Readings.{Follows, run_in, stage_of};
+ghost use Rattle.cap_run_judge.specs.Readings.{Follows, stage_of};
 ghost use Rattle.cap_run_judge.specs.{Reports.RunReported, Turns.unread, VerdictLines.run_verdict_line};
 ghost use Rattle.cap_run_report.specs.{Answers.{ExplainsRun, ExplainsRunEnd, ExplainsRunSoFar, IsRunWhyText}, LineReports.IsRunLineReport};
+ghost use Rattle.cap_run.specs.Machines.{run_in};
 
 use crate::line_reports::put_run_report;
 use cap_log::buffers::put;

@@ -4,9 +4,9 @@ ghost use Rattle.std.specs.Prelude.{◌≡◌, ◌+◌, ◌≤◌, ℕ, List, �
 ghost use Rattle.cap_streams.specs.{FaultLines.bytes_of, Written.Writes};
 ghost use Rattle.cap_report.specs.FaultReports.{count_lines, due_line};
 ghost use Rattle.cap_run.specs.RunChanges.{account_in};
-ghost use Rattle.cap_run_judge.specs.Readings.{run_in};
 ghost use Rattle.cap_run_log.specs.RunLines.{IsRunLineInRange, IsRunPlace};
 ghost use Rattle.cap_run_report.specs.LineReports.{AreKnownLines, AreLineDetails, AreRunDetails, AreUsualDetails, IsRunLineReport, root_lines};
+ghost use Rattle.cap_run.specs.Machines.{run_in};
 
 use crate::bad_run_lines::{put_bad_run_header, put_bad_run_line};
 use crate::cap_parts::{put_held, put_taken_says};

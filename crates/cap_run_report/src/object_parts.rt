@@ -2,11 +2,11 @@
 
 ghost use Rattle.std.specs.Prelude.{◌≡◌, ◌+◌, ◌≤◌, ◌^◌, ℕ, List, false, IsTrue, IfSome, IfNone, length};
 ghost use Rattle.cap_streams.specs.Written.{Writes};
-ghost use Rattle.cap_run_judge.specs.Readings.{run_in};
 ghost use Rattle.cap_run_log.specs.RunLines.{IsRunPlace};
 ghost use Rattle.cap_run_log.specs.declared.lines.RunPlace.TheVariants as places;
 ghost use Rattle.cap_run_report.specs.ObjectParts.{AreExtentLines, AreHolderLines, AreMetLines, AreNumberLines, AreObjectLines, AreOwnerLines};
 ghost use Rattle.cap_run_report.specs.ObjectParts.{HasNoHolder, IsFirstHolder, IsLeastMet, MeetsNone, Owns, OwnsNone, freed_line, is_met, lesser};
+ghost use Rattle.cap_run.specs.Machines.{run_in};
 
 use crate::cap_parts::put_held;
 use cap_log::buffers::put;

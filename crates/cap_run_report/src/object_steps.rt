@@ -3,8 +3,8 @@
 ghost use Rattle.std.specs.Prelude.{◌≡◌, ◌+◌, ◌≤◌, ℕ, List, length};
 ghost use Rattle.cap_streams.specs.Written.{Writes};
 ghost use Rattle.cap_log.specs.Lines.{IsTarget};
-ghost use Rattle.cap_run_judge.specs.Readings.{run_in};
 ghost use Rattle.cap_run_report.specs.StepParts.{AreAskedLines, AreFreeLines, AreLifeLines, AreObjectStepLines, asked_extent, meant};
+ghost use Rattle.cap_run.specs.Machines.{run_in};
 
 use crate::cap_parts::{put_owned, put_register};
 use crate::object_parts::{put_extent, put_numbered, put_owner};

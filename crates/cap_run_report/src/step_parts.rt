@@ -6,11 +6,11 @@ ghost use Rattle.cap_ops.specs.{DerivedWords.is_opened, Permissions.{unsealed_ty
 ghost use Rattle.cap_log.specs.Lines.{IsStepInRange};
 ghost use Rattle.cap_machine.specs.Shown.{IsShown, shown_of};
 ghost use Rattle.cap_run.specs.{Run.{IsSource, IsTargetOf}, RunChanges.account_in};
-ghost use Rattle.cap_run_judge.specs.Readings.{run_in};
 ghost use Rattle.cap_run_log.specs.RunLines.{IsRunStepInRange};
 ghost use Rattle.cap_run_report.specs.CapParts.{IsReadable};
 ghost use Rattle.cap_run_report.specs.StepParts.{AreAccessLines, AreRunStepLines, AreUsualLines, derived_lines, exchanged_lines};
 ghost use Rattle.cap_run_report.specs.StepParts.{invoked_lines, is_refused, opened_lines};
+ghost use Rattle.cap_run.specs.Machines.{run_in};
 
 use crate::cap_parts::{place_of, put_held, put_register};
 use crate::object_parts::{put_met, put_owner};

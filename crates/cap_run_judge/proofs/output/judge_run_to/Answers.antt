@@ -1,8 +1,9 @@
 use Rattle.std.proofs.{Common.{Err, ap, refl, subst, ◌∙◌}, lemmas.Result.err_from_is_err_and}
 use Rattle.cap_streams.specs.{FaultLines.bytes_of, declared.judging.judge_faults.JudgeToFault.TheVariants.{Pull, Push}}
-use Rattle.cap_run_judge.specs.{Judgings.JudgedBy, OwnerLists.run_report_text, Readings.run_in, Reports.TellsRun}
+use Rattle.cap_run_judge.specs.{Judgings.JudgedBy, OwnerLists.run_report_text, Reports.TellsRun}
 use Rattle.cap_run_judge.proofs.RunReportLemmas.{are_numbered, fault_counted, leads, no_pull, no_push, none_counted, none_pulled, push_counted, pushed_nothing}
 use Rattle.cap_run_judge.proofs.output.judge_run_to.Goals as goal
+use Rattle.cap_run.specs.Machines.{run_in}
 
 pub returns-in_err-verdict-clause-reported : goal.returns-in_err-verdict-clause-reported
 returns-in_err-verdict-clause-reported g c =

@@ -1,7 +1,7 @@
 use Rattle.std.proofs.Common.{List, OnErr, OnOk, subst, take, ℕ}
-use Rattle.cap_run_judge.specs.Readings.{run_in}
 use Rattle.cap_run_judge.proofs.{OwnerLemmas.{both_ok, both_err, first_err}, RunReportLemmas.{asked_text, no_text, plain_text}}
 use Rattle.cap_run_judge.proofs.output.push_run_report.Goals as goal
+use Rattle.cap_run.specs.Machines.{run_in}
 
 pub returns-in-Ok-clause-ok : goal.returns-in-Ok-clause-ok
 returns-in-Ok-clause-ok g c =

@@ -1,7 +1,8 @@
 use Rattle.std.proofs.Common.{◌≡◌, ◌-◌}
 use Rattle.cap_run_log.specs.declared.lines.RunPlace.TheVariants.{General}
-use Rattle.cap_run_judge.specs.{OwnerLists.{lines_from, place_line}, Readings.run_in}
+use Rattle.cap_run_judge.specs.{OwnerLists.{lines_from, place_line}}
 use Rattle.cap_run_judge.proofs.owners.push_generals.Given as goal
+use Rattle.cap_run.specs.Machines.{run_in}
 
 -- the lines of the registers below this one were pushed
 abbrev pub invariant-loop-number : goal.invariant-loop-number

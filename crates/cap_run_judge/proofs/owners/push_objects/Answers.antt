@@ -1,7 +1,8 @@
 use Rattle.std.proofs.Common.{◌≡◌, ◌+◌, ◌-◌, ℕ, List, take, refl, subst, ◌∙◌, arith}
-use Rattle.cap_run_judge.specs.{OwnerLists.{numbered_line}, Readings.run_in}
+use Rattle.cap_run_judge.specs.{OwnerLists.{numbered_line}}
 use Rattle.cap_run_judge.proofs.{OwnerLemmas.{no_lines, one_more, skip_lines, stopped}, RunReportLemmas.{listed, object_told, object_untold}}
 use Rattle.cap_run_judge.proofs.owners.push_objects.Goals as goal
+use Rattle.cap_run.specs.Machines.{run_in}
 
 pub loop-object-init : goal.loop-object-init
 loop-object-init g c = record {

@@ -1,6 +1,7 @@
 use Rattle.std.proofs.Common.{◌≡◌, ◌+◌, ◌-◌, ◌≤◌}
-use Rattle.cap_run_judge.specs.{OwnerLists.{lines_from, numbered_line}, Readings.run_in}
+use Rattle.cap_run_judge.specs.{OwnerLists.{lines_from, numbered_line}}
 use Rattle.cap_run_judge.proofs.owners.push_objects.Given as goal
+use Rattle.cap_run.specs.Machines.{run_in}
 
 -- the lines of the objects whose numbers are below this one were pushed
 abbrev pub invariant-loop-object : goal.invariant-loop-object

@@ -1,8 +1,9 @@
 use Rattle.std.proofs.Common.{◌≡◌, ◌+◌, ℕ, List, refl, subst, ◌∙◌, arith}
 use Rattle.cap_run_log.specs.declared.lines.RunPlace.TheVariants.{Special}
-use Rattle.cap_run_judge.specs.{OwnerLists.place_line, Readings.run_in}
+use Rattle.cap_run_judge.specs.{OwnerLists.place_line}
 use Rattle.cap_run_judge.proofs.OwnerLemmas.{no_lines, one_more, stopped}
 use Rattle.cap_run_judge.proofs.owners.push_specials.Goals as goal
+use Rattle.cap_run.specs.Machines.{run_in}
 
 pub loop-number-init : goal.loop-number-init
 loop-number-init g c = record {

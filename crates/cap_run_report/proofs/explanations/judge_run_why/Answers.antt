@@ -1,10 +1,11 @@
 use Rattle.std.proofs.{Common.{Err, ap, subst, ◌∙◌}, lemmas.Result.err_from_is_err_and}
 use Rattle.cap_streams.specs.{FaultLines.bytes_of, declared.judging.judge_faults.JudgeToFault.TheVariants.{Pull, Push}}
-use Rattle.cap_run_judge.specs.{Judgings.JudgedBy, Readings.run_in}
+use Rattle.cap_run_judge.specs.{Judgings.JudgedBy}
 use Rattle.cap_run_judge.proofs.RunReportLemmas.{are_numbered, fault_counted, no_pull, no_push, none_counted, none_pulled, push_counted, pushed_nothing}
 use Rattle.cap_run_report.specs.Answers.{ExplainsRun}
 use Rattle.cap_run_report.proofs.WhyLemmas.{told}
 use Rattle.cap_run_report.proofs.explanations.judge_run_why.Goals as goal
+use Rattle.cap_run.specs.Machines.{run_in}
 
 pub returns-clause-explained : goal.returns-clause-explained
 returns-clause-explained g c =

@@ -1,11 +1,12 @@
 use Rattle.std.proofs.{Common.{◌++◌, ◌≢◌, arith, subst}, lemmas.List.Elements.All-nil}
 use Rattle.cap_streams.specs.FaultLines.{bytes_of}
-use Rattle.cap_run_judge.specs.{declared.verdict.RunVerdict.TheVariants.No, Readings.{run_in, stage_of}, Reports.AreNumbered, VerdictLines.run_verdict_line}
+use Rattle.cap_run_judge.specs.{declared.verdict.RunVerdict.TheVariants.No, Readings.{stage_of}, Reports.AreNumbered, VerdictLines.run_verdict_line}
 use Rattle.cap_run_judge.proofs.RunReportLemmas.{are_numbered}
 use Rattle.cap_report.proofs.WhyLemmas.{on_err, on_ok}
 use Rattle.cap_run_report.specs.LineReports.{IsRunLineReport}
 use Rattle.cap_run_report.proofs.WhyLemmas.{no_at_end, yes_at_end}
 use Rattle.cap_run_report.proofs.explanations.push_run_ending.Goals as goal
+use Rattle.cap_run.specs.Machines.{run_in}
 
 pub returns-in-Ok-clause-ok : goal.returns-in-Ok-clause-ok
 returns-in-Ok-clause-ok g c =

@@ -1,8 +1,9 @@
 use Rattle.std.proofs.Common.{◌++◌, subst, sym, take}
-use Rattle.cap_run_judge.specs.{Readings.run_in, VerdictLines.run_verdict_line}
+use Rattle.cap_run_judge.specs.{VerdictLines.run_verdict_line}
 use Rattle.cap_report.proofs.WhyLemmas.{on_ok, on_err}
 use Rattle.cap_run_report.proofs.WhyLemmas.{why_yes, why_no}
 use Rattle.cap_run_report.proofs.explanations.push_why.Goals as goal
+use Rattle.cap_run.specs.Machines.{run_in}
 
 pub returns-in-Yes-clause-ok : goal.returns-in-Yes-clause-ok
 returns-in-Yes-clause-ok g c =

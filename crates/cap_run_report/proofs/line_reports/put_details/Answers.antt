@@ -1,9 +1,9 @@
 use Rattle.std.proofs.Common.{subst, sym}
 use Rattle.cap_run.specs.declared.ends.RunRefusal.{RunRefusal}
-use Rattle.cap_run_judge.specs.Readings.{run_in}
 use Rattle.cap_run_report.specs.LineReports.{AreRunDetails}
 use Rattle.cap_run_report.proofs.StepLemmas.{run_details}
 use Rattle.cap_run_report.proofs.line_reports.put_details.Goals as goal
+use Rattle.cap_run.specs.Machines.{run_in}
 
 pub returns-in-Usual-clause-written : goal.returns-in-Usual-clause-written
 returns-in-Usual-clause-written g c =

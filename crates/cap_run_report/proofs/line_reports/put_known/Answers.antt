@@ -1,10 +1,10 @@
 use Rattle.std.proofs.Common.{◌++◌, refl, subst, sym}
 use Rattle.cap_streams.specs.Written.{◌⨾◌}
 use Rattle.cap_texts.specs.TextLines.{says_line}
-use Rattle.cap_run_judge.specs.Readings.{run_in}
 use Rattle.cap_run_log.specs.declared.lines.RunLine.{RunLine}
 use Rattle.cap_run_report.specs.{LineReports.{AreKnownLines, root_lines}, RunSentences.run_sentence}
 use Rattle.cap_run_report.proofs.line_reports.put_known.Goals as goal
+use Rattle.cap_run.specs.Machines.{run_in}
 
 pub returns-in-Root-clause-written : goal.returns-in-Root-clause-written
 returns-in-Root-clause-written g c =

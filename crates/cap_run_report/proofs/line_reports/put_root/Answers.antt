@@ -1,10 +1,10 @@
 use Rattle.std.proofs.Common.{ap, rules, ◌∙◌}
 use Rattle.cap_streams.specs.Written.{◌⨾◌}
 use Rattle.cap_run.specs.declared.ends.RunRefusal.TheVariants.{Usual}
-use Rattle.cap_run_judge.specs.Readings.{run_in}
 use Rattle.cap_run_report.proofs.{ObjectLemmas.readable, StepLemmas.root_other}
 use Rattle.cap_run_report.proofs.line_reports.put_root.Goals.{in_default-via-in-Usual+in_default, in_default-via-in_default}
 use Rattle.cap_run_report.proofs.line_reports.put_root.Goals as goal
+use Rattle.cap_run.specs.Machines.{run_in}
 
 pub put_held-at-requires-clause-place : goal.put_held-at-requires-clause-place
 put_held-at-requires-clause-place g c = readable c.args.place c.requires.place

@@ -1,8 +1,8 @@
 use Rattle.std.proofs.Common.{inl, inr, refl}
 use Rattle.cap_streams.specs.Written.{◌⨾◌}
-use Rattle.cap_run_judge.specs.Readings.{run_in}
 use Rattle.cap_run_report.proofs.StepLemmas.{details_other}
 use Rattle.cap_run_report.proofs.line_reports.put_usual_details.Goals as goal
+use Rattle.cap_run.specs.Machines.{run_in}
 
 pub returns-in_default-clause-written : goal.returns-in_default-clause-written
 returns-in_default-clause-written g c =

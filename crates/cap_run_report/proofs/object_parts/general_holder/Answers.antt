@@ -1,9 +1,9 @@
 use Rattle.std.proofs.Common.{◌≡◌, ℕ, inl, inr, subst, arith}
 use Rattle.std.proofs.lemmas.Bool.{cases_lt}
-use Rattle.cap_run_judge.specs.Readings.{run_in}
 use Rattle.cap_run_log.specs.declared.lines.RunPlace.TheVariants.{General}
 use Rattle.cap_run_report.specs.ObjectParts.{Owns}
 use Rattle.cap_run_report.proofs.object_parts.general_holder.Goals as goal
+use Rattle.cap_run.specs.Machines.{run_in}
 
 pub loop-register-init : goal.loop-register-init
 loop-register-init g c = λ n least below owned. absurd (omega (arith, least, below))

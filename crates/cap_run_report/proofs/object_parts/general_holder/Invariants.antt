@@ -1,7 +1,7 @@
-use Rattle.cap_run_judge.specs.Readings.{run_in}
 use Rattle.cap_run_log.specs.declared.lines.RunPlace.TheVariants.{General}
 use Rattle.cap_run_report.specs.ObjectParts.{OwnsNone}
 use Rattle.cap_run_report.proofs.object_parts.general_holder.Given as goal
+use Rattle.cap_run.specs.Machines.{run_in}
 
 -- no register before this one is the object's
 abbrev pub invariant-loop-register : goal.invariant-loop-register

@@ -1,9 +1,9 @@
 use Rattle.std.proofs.Common.{◌≡◌, ℕ, inl, inr, sym, subst, ◌∙◌, arith}
 use Rattle.std.proofs.lemmas.{Bool.cases_lt, Option.none-some}
-use Rattle.cap_run_judge.specs.Readings.{run_in}
 use Rattle.cap_run_log.specs.declared.lines.RunPlace.TheVariants.{Granule}
 use Rattle.cap_run_report.specs.ObjectParts.{Owns}
 use Rattle.cap_run_report.proofs.object_parts.granule_holder.Goals as goal
+use Rattle.cap_run.specs.Machines.{run_in}
 
 pub loop-granule-preserved : goal.loop-granule-preserved
 loop-granule-preserved g c =

@@ -1,8 +1,8 @@
 use Rattle.std.proofs.Common.{◌-◌, ◌≤◌, ◌^◌}
-use Rattle.cap_run_judge.specs.Readings.{run_in}
 use Rattle.cap_run_log.specs.declared.lines.RunPlace.TheVariants.{Granule}
 use Rattle.cap_run_report.specs.ObjectParts.{OwnsNone}
 use Rattle.cap_run_report.proofs.object_parts.granule_holder.Given as goal
+use Rattle.cap_run.specs.Machines.{run_in}
 
 -- no granule below this one is the object's
 abbrev pub invariant-loop-granule : goal.invariant-loop-granule

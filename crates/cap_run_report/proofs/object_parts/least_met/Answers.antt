@@ -1,9 +1,9 @@
 use Rattle.std.proofs.Common.{◌+◌, MatchOption, Option, arith, subst, sym}
 use Rattle.cap_objects.specs.declared.objects.Object.{Object}
-use Rattle.cap_run_judge.specs.Readings.{run_in}
 use Rattle.cap_run_report.specs.ObjectParts.{IsLeastMet, MeetsNone}
 use Rattle.cap_run_report.proofs.ObjectLemmas.{all_found, found_more, least_left, none_left}
 use Rattle.cap_run_report.proofs.object_parts.least_met.Goals as goal
+use Rattle.cap_run.specs.Machines.{run_in}
 
 pub loop-object-preserved : goal.loop-object-preserved
 loop-object-preserved g c =

@@ -1,7 +1,7 @@
 use Rattle.std.proofs.Common.{◌+◌, ◌-◌, ◌≤◌, MatchOption}
-use Rattle.cap_run_judge.specs.Readings.{run_in}
 use Rattle.cap_run_report.specs.ObjectParts.{IsLeastMet, MeetsNone}
 use Rattle.cap_run_report.proofs.object_parts.least_met.Given as goal
+use Rattle.cap_run.specs.Machines.{run_in}
 
 -- what was found is the least among the objects whose numbers are below this one
 abbrev pub invariant-loop-object : goal.invariant-loop-object

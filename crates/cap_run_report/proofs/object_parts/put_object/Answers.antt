@@ -1,8 +1,9 @@
 use Rattle.std.proofs.Common.{ℕ, ◌++◌, refl, subst}
 use Rattle.cap_streams.specs.Written.{Writes, ◌⨾◌}
-use Rattle.cap_run_judge.specs.{OwnerLists.object_line, Readings.run_in}
+use Rattle.cap_run_judge.specs.{OwnerLists.object_line}
 use Rattle.cap_run_report.specs.ObjectParts.{freed_line}
 use Rattle.cap_run_report.proofs.object_parts.put_object.Goals as goal
+use Rattle.cap_run.specs.Machines.{run_in}
 
 pub returns-clause-written : goal.returns-clause-written
 returns-clause-written g c =

@@ -1,8 +1,8 @@
 use Rattle.std.proofs.Common.{ℕ, [], Option, refl, subst, sym, ◌∙◌}
 use Rattle.cap_streams.specs.Written.{Writes-nothing}
-use Rattle.cap_run_judge.specs.Readings.{run_in}
 use Rattle.cap_run_report.specs.StepParts.{AreAskedLines}
 use Rattle.cap_run_report.proofs.object_steps.put_asked.Goals as goal
+use Rattle.cap_run.specs.Machines.{run_in}
 
 pub returns-in-Some-clause-written : goal.returns-in-Some-clause-written
 returns-in-Some-clause-written g c =

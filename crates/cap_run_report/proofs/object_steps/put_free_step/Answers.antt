@@ -1,8 +1,8 @@
 use Rattle.std.proofs.Common.{[], refl, ◌∙◌}
 use Rattle.cap_streams.specs.Written.{Writes-nothing}
-use Rattle.cap_run_judge.specs.Readings.{run_in}
 use Rattle.cap_run_report.proofs.StepLemmas.{free_other}
 use Rattle.cap_run_report.proofs.object_steps.put_free_step.Goals as goal
+use Rattle.cap_run.specs.Machines.{run_in}
 
 pub returns-in-AlreadyFreed-clause-written : goal.returns-in-AlreadyFreed-clause-written
 returns-in-AlreadyFreed-clause-written g c = rw c.in-AlreadyFreed.is c.put_numbered.ensures.written

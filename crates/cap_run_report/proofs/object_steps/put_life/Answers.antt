@@ -1,10 +1,10 @@
 use Rattle.std.proofs.Common.{ℕ, [], Option, subst, sym, arith}
 use Rattle.cap_streams.specs.Written.{Writes-nothing}
 use Rattle.cap_run.specs.declared.ends.RunRefusal.{RunRefusal}
-use Rattle.cap_run_judge.specs.Readings.{run_in}
 use Rattle.cap_run_report.specs.{ObjectParts.AreOwnerLines, StepParts.AreLifeLines}
 use Rattle.cap_run_report.proofs.StepLemmas.{life_other}
 use Rattle.cap_run_report.proofs.object_steps.put_life.Goals as goal
+use Rattle.cap_run.specs.Machines.{run_in}
 
 pub returns-in-AlreadyFreed-clause-written : goal.returns-in-AlreadyFreed-clause-written
 returns-in-AlreadyFreed-clause-written g c =

@@ -1,10 +1,10 @@
 use Rattle.std.proofs.Common.{◌++◌, refl}
 use Rattle.std.specs.Prelude.{codes}
 use Rattle.cap_streams.specs.Written.{◌⨾◌}
-use Rattle.cap_run_judge.specs.Readings.{run_in}
 use Rattle.cap_run_log.specs.declared.lines.RunRegister.TheVariants.{General}
 use Rattle.cap_run_report.specs.CapParts.{owned_lines, register_lines}
 use Rattle.cap_run_report.proofs.object_steps.put_object_step.Goals as goal
+use Rattle.cap_run.specs.Machines.{run_in}
 
 pub returns-clause-written : goal.returns-clause-written
 returns-clause-written g c =

@@ -1,9 +1,9 @@
 use Rattle.std.proofs.Common.{ℕ, [], Option, refl, subst, ap, ◌∙◌, arith}
 use Rattle.cap_streams.specs.Written.{Writes-nothing}
-use Rattle.cap_run_judge.specs.Readings.{run_in}
 use Rattle.cap_run_report.specs.ObjectParts.{AreOwnerLines}
 use Rattle.cap_run_report.proofs.StepLemmas.{reached_other}
 use Rattle.cap_run_report.proofs.step_parts.put_access.Goals as goal
+use Rattle.cap_run.specs.Machines.{run_in}
 
 pub returns-in-OwnerFreed-clause-written : goal.returns-in-OwnerFreed-clause-written
 returns-in-OwnerFreed-clause-written g c =

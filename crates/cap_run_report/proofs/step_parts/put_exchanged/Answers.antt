@@ -2,9 +2,9 @@ use Rattle.std.proofs.{Common.{◌≡◌, ◌∙◌, ℕ, List, ap, subst, sym, 
 use Rattle.cap_streams.specs.Written.{Writes}
 use Rattle.cap_word.specs.declared.word.Cap.{Cap}
 use Rattle.cap_run.specs.Run.{register_key}
-use Rattle.cap_run_judge.specs.Readings.{run_in}
 use Rattle.cap_run_report.specs.StepParts.{derived_lines, is_refused}
 use Rattle.cap_run_report.proofs.step_parts.put_exchanged.Goals as goal
+use Rattle.cap_run.specs.Machines.{run_in}
 
 pub returns-then-is_refused-clause-written : goal.returns-then-is_refused-clause-written
 returns-then-is_refused-clause-written g c =

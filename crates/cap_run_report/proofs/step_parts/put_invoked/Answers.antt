@@ -5,10 +5,10 @@ use Rattle.cap_streams.specs.Written.{Writes, ◌⨾◌, Writes-nothing}
 use Rattle.cap_run_log.specs.declared.lines.RunPlace.TheVariants as places
 use Rattle.cap_run_log.specs.declared.lines.RunRegister.TheVariants.{General}
 use Rattle.cap_run.specs.{declared.ends.RunRefusal.{RunRefusal, TheVariants.Usual}, Run.Run}
-use Rattle.cap_run_judge.specs.Readings.{run_in}
 use Rattle.cap_run_report.specs.{CapParts.register_lines, StepParts.{invoked_lines, opened_lines}}
 use Rattle.cap_run_report.proofs.StepLemmas.{invoked_other, invoked_usual}
 use Rattle.cap_run_report.proofs.step_parts.put_invoked.Goals as goal
+use Rattle.cap_run.specs.Machines.{run_in}
 
 -- a pair that is invoked in vain for a recorded word, by whether that of the code is right
 invoked_by : (run : Run) (code datum : ℕ) (code_word datum_word : Word) (refusal : RunRefusal) (right : Bool) → refusal ≡ Usual WrongResult

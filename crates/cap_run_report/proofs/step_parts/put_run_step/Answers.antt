@@ -1,11 +1,11 @@
 use Rattle.std.proofs.Common.{◌≡◌, ℕ, List, [], inl, inr, refl, subst, sym}
 use Rattle.cap_streams.specs.Written.{Writes, Writes-nothing}
 use Rattle.cap_run.specs.{declared.ends.RunRefusal.RunRefusal, Run.{IsSource, Run}}
-use Rattle.cap_run_judge.specs.Readings.{run_in}
 use Rattle.cap_run_log.specs.declared.lines.{RunRegister.{RunRegister, TheVariants.{General, Special}}, RunStep.RunStep}
 use Rattle.cap_run_log.specs.RunLines.{IsRunRegister}
 use Rattle.cap_run_report.specs.StepParts.{AreRunStepLines, derived_lines, exchanged_lines, invoked_lines}
 use Rattle.cap_run_report.proofs.step_parts.put_run_step.Goals as goal
+use Rattle.cap_run.specs.Machines.{run_in}
 
 abbrev Tells : Run → RunRefusal → ℕ → List ℕ → List ℕ → ℕ → RunStep → Type 0
 Tells run refusal at old new end step = (told : List ℕ) × AreRunStepLines run step refusal told × Writes at told old new end

@@ -5,10 +5,10 @@ use Rattle.cap_machine.specs.declared.shown.Shown.{Shown}
 use Rattle.cap_report.specs.{Parts.lines_of_parts, StepLines.{asked_parts, step_lines}}
 use Rattle.cap_texts.specs.TextLines.{says_line}
 use Rattle.cap_run.specs.{declared.ends.RunRefusal.RunRefusal, RunChanges.without_origins}
-use Rattle.cap_run_judge.specs.Readings.{run_in}
 use Rattle.cap_run_report.specs.{RunSentences.run_sentence, StepParts.{AreAccessLines, AreUsualLines}}
 use Rattle.cap_run_report.proofs.StepLemmas.{usual_told}
 use Rattle.cap_run_report.proofs.step_parts.put_usual.Goals as goal
+use Rattle.cap_run.specs.Machines.{run_in}
 
 pub returns-in-Usual-clause-written : goal.returns-in-Usual-clause-written
 returns-in-Usual-clause-written g c =

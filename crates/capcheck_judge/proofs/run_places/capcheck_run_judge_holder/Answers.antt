@@ -1,9 +1,10 @@
 use Rattle.std.proofs.Common.{◌≡◌, ◌∙◌, ap, subst, sym, Some}
 use Rattle.cap_run.specs.Run.{Run}
-use Rattle.cap_run_judge.specs.Readings.{run_in, stage_of}
+use Rattle.cap_run_judge.specs.Readings.{stage_of}
 use Rattle.capcheck_judge.specs.{RunHandles.{RunJudgeIn, run_behind}, RunPlaces.IsHolderTold}
 use Rattle.capcheck_judge.proofs.{RunStepLemmas.holder_told, RunTakingLemmas.one_held}
 use Rattle.capcheck_judge.proofs.run_places.capcheck_run_judge_holder.Goals as goal
+use Rattle.cap_run.specs.Machines.{run_in}
 
 pub returns-in-Some-clause-holder : goal.returns-in-Some-clause-holder
 returns-in-Some-clause-holder c = λ asks bytes holds.

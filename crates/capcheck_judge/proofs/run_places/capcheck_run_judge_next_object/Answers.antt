@@ -1,9 +1,10 @@
 use Rattle.std.proofs.Common.{◌≡◌, ◌∙◌, ap, inl, subst, sym, Some}
 use Rattle.cap_run.specs.Run.{Run}
-use Rattle.cap_run_judge.specs.Readings.{run_in, stage_of}
+use Rattle.cap_run_judge.specs.Readings.{stage_of}
 use Rattle.capcheck_judge.specs.{RunHandles.{RunJudgeIn, run_behind}, RunPlaces.IsNextTold}
 use Rattle.capcheck_judge.proofs.RunTakingLemmas.{one_held}
 use Rattle.capcheck_judge.proofs.run_places.capcheck_run_judge_next_object.Goals as goal
+use Rattle.cap_run.specs.Machines.{run_in}
 
 pub returns-in-Some-next-clause-next : goal.returns-in-Some-next-clause-next
 returns-in-Some-next-clause-next c = λ asks bytes holds.

@@ -1,7 +1,8 @@
 use Rattle.std.proofs.{Common.{◌≡◌, ◌≢◌, [], refl, rules}, lemmas.List.nil_from_length}
-use Rattle.cap_run_judge.specs.Readings.{run_in, stage_of}
+use Rattle.cap_run_judge.specs.Readings.{stage_of}
 use Rattle.cap_run_judge.proofs.TurnLemmas.{ended_clear, ended_some, ends_refused, unended}
 use Rattle.cap_run_judge.proofs.judges.RunJudge.ending.Goals as goal
+use Rattle.cap_run.specs.Machines.{run_in}
 
 pub returns-else-is_empty-clause-ends : goal.returns-else-is_empty-clause-ends
 returns-else-is_empty-clause-ends g c = λ cut.
@@ -14,7 +15,7 @@ pub returns-in_default-clause-ends : goal.returns-in_default-clause-ends
 returns-in_default-clause-ends g c = λ cut.
     ends_refused (stage_of c.args.self.now) c.args.rest.now _ c.fault-in_default.result
     (rw c.usual-in_default.ensures
-    (unended c.args.self.now.stage (run_in c.args.self.now.machine) c.args.rest.now c.in_default.not-Ended c.in_default.not-Refused))
+    (unended c.args.self.now.due (run_in c.args.self.now.machine) c.args.rest.now c.in_default.not-Ended c.in_default.not-Refused))
     cut c.fault-in_default.ensures.line c.fault-in_default.ensures.refusal c.fault-in_default.ensures.front
 
 pub returns-then-is_empty-clause-ends : goal.returns-then-is_empty-clause-ends
@@ -23,10 +24,10 @@ returns-then-is_empty-clause-ends g c = λ cut.
     rw (c.in-Ended.is, none) (refl, c.steps.ensures.value, c.roots.ensures.value, c.count.ensures.value)
 
 pub returns-else-is_empty-clause-fault : goal.returns-else-is_empty-clause-fault
-returns-else-is_empty-clause-fault g c = λ fault is. absurd (ended_clear c.args.self.now.stage fault c.in-Ended.is is)
+returns-else-is_empty-clause-fault g c = λ fault is. absurd (ended_clear c.args.self.now.due fault c.in-Ended.is is)
 
 pub returns-then-is_empty-clause-fault : goal.returns-then-is_empty-clause-fault
-returns-then-is_empty-clause-fault g c = λ fault is. absurd (ended_clear c.args.self.now.stage fault c.in-Ended.is is)
+returns-then-is_empty-clause-fault g c = λ fault is. absurd (ended_clear c.args.self.now.due fault c.in-Ended.is is)
 
 pub returns-in_default-clause-fault : goal.returns-in_default-clause-fault
 returns-in_default-clause-fault g c = λ fault is. absurd (c.in_default.not-Refused fault is)

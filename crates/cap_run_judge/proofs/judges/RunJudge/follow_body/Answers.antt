@@ -2,9 +2,9 @@ use Rattle.std.proofs.{Common.{◌==◌, ◌∙◌, None, Some, eq-eqb, refl}, l
 use Rattle.cap_ops.specs.declared.refusal.Refusal.TheVariants.{WrongCount}
 use Rattle.cap_run.specs.declared.ends.RunRefusal.TheVariants.{Usual}
 use Rattle.cap_run_log.specs.declared.lines.RunLine.{RunLine}
-use Rattle.cap_run_judge.specs.Readings.{run_in}
 use Rattle.cap_run_judge.proofs.TurnLemmas.{body_answers}
 use Rattle.cap_run_judge.proofs.judges.RunJudge.follow_body.Goals as goal
+use Rattle.cap_run.specs.Machines.{run_in}
 
 pub returns-in-Root : goal.returns-in-Root
 returns-in-Root g c =

@@ -1,21 +1,22 @@
 use Rattle.std.proofs.Common.{None, ap, refl}
 use Rattle.cap_run_log.specs.declared.lines.RunLine.TheVariants as lines
-use Rattle.cap_run_judge.specs.Readings.{due_of, run_in}
+use Rattle.cap_run_judge.specs.Readings.{due_of}
 use Rattle.cap_run_judge.proofs.{FollowLemmas.{no_body, ok_no_err, stage_stays, step_follows, step_unmade, tried}}
 use Rattle.cap_run_judge.proofs.judges.RunJudge.make_run_step.Goals as goal
+use Rattle.cap_run.specs.Machines.{run_in}
 
 pub returns-in-Ok-clause-taken : goal.returns-in-Ok-clause-taken
 returns-in-Ok-clause-taken g c =
     let s = c.args.self.now in
     let step = c.args.step.now in
     rw c.make.ensures.asks
-    (step_follows s.machine.asks (run_in s.machine) (run_in c.make.new.self) (due_of s.stage) (lines.Run step) (ap due_of c.in-Body.is)
+    (step_follows s.machine.asks (run_in s.machine) (run_in c.make.new.self) (due_of s.due) (lines.Run step) (ap due_of c.in-Body.is)
     c.requires refl c.in-Ok.ensures.outcome)
 
 pub returns-in-Err-clause-same : goal.returns-in-Err-clause-same
 returns-in-Err-clause-same g c =
     let s = c.args.self.now in
-    stage_stays s.machine.asks c.make.new.self.asks (run_in s.machine) (run_in c.make.new.self) (due_of s.stage) (lines.Run c.args.step.now)
+    stage_stays s.machine.asks c.make.new.self.asks (run_in s.machine) (run_in c.make.new.self) (due_of s.due) (lines.Run c.args.step.now)
     c.in-Err.end c.make.ensures.asks c.in-Err.ensures.outcome
 
 pub returns-in-Ok-clause-goes_on : goal.returns-in-Ok-clause-goes_on
@@ -27,11 +28,11 @@ returns-in-Ok-clause-untried g c = λ is. absurd (ok_no_err tt None is)
 pub returns-in-Err-clause-unmade : goal.returns-in-Err-clause-unmade
 returns-in-Err-clause-unmade g c =
     let s = c.args.self.now in
-    step_unmade s.machine.asks (run_in s.machine) (run_in c.make.new.self) (due_of s.stage) (lines.Run c.args.step.now)
+    step_unmade s.machine.asks (run_in s.machine) (run_in c.make.new.self) (due_of s.due) (lines.Run c.args.step.now)
     c.in-Err.end (ap due_of c.in-Body.is) c.in-Err.ensures.outcome
 
 pub returns-in-Err-clause-untried : goal.returns-in-Err-clause-untried
 returns-in-Err-clause-untried g c = λ is. absurd (tried c.in-Err.end is)
 
 pub returns : goal.returns
-returns g c = record { taken = tt; goes_on = tt; same = refl; unmade = tt; untried = λ _. no_body c.args.self.now.stage c.in_default.not-Body }
+returns g c = record { taken = tt; goes_on = tt; same = refl; unmade = tt; untried = λ _. no_body c.args.self.now.due c.in_default.not-Body }

@@ -9,40 +9,40 @@ lines-init g c = record { taken = ([], refl, goes_none (stage_of c.args.self.now
 pub lines-preserved : goal.lines-preserved
 lines-preserved g c =
     let first = stage_of c.args.self.now in
-    let middle = stage_of c.take_front-before.new.self in
+    let middle = stage_of c.take_front_steps-before.new.self in
     let so_far = c.lines.invariant.taken in
-    let steps = c.take_front-before.ensures in
-    let here = c.take_front-before.result.now in
+    let steps = c.take_front_steps-before.ensures in
+    let here = c.take_front_steps-before.result.now in
     let on = goes_more first (stage_of c.lines.self) middle c.args.bytes.now so_far.0 c.lines.rest.now steps.0 here
     so_far.1 so_far.2 steps.1 steps.2 in
     let line = c.in-Ok.ensures.ok in
     record {
-      taken = goes_line first middle (stage_of c.take_next.new.self) c.args.bytes.now on.0 here c.in-Ok.behind.now line.0 on.1 on.2
+      taken = goes_line first middle (stage_of c.take_any_line.new.self) c.args.bytes.now on.0 here c.in-Ok.behind.now line.0 on.1 on.2
           line.1 line.2;
     }
 
 pub returns-in-Err-clause-stops : goal.returns-in-Err-clause-stops
 returns-in-Err-clause-stops g c =
     let first = stage_of c.args.self.now in
-    let middle = stage_of c.take_front-before.new.self in
+    let middle = stage_of c.take_front_steps-before.new.self in
     let so_far = c.lines.invariant.taken in
-    let steps = c.take_front-before.ensures in
-    let here = c.take_front-before.result.now in
+    let steps = c.take_front_steps-before.ensures in
+    let here = c.take_front_steps-before.result.now in
     let on = goes_more first (stage_of c.lines.self) middle c.args.bytes.now so_far.0 c.lines.rest.now steps.0 here
     so_far.1 so_far.2 steps.1 steps.2 in
-    stops_here first middle (stage_of c.take_next.new.self) c.args.bytes.now on.0 here c.in-Err.stop on.1 on.2 c.in-Err.ensures.err
+    stops_here first middle (stage_of c.take_any_line.new.self) c.args.bytes.now on.0 here c.in-Err.stop on.1 on.2 c.in-Err.ensures.err
 
 pub lines-smaller : goal.lines-smaller
 lines-smaller g c =
-    let steps = c.take_front-before.ensures in
+    let steps = c.take_front_steps-before.ensures in
     let line = c.in-Ok.ensures.ok in
-    later_shorter c.lines.rest.now steps.0 c.take_front-before.result.now c.in-Ok.behind.now line.0 steps.1 line.1
+    later_shorter c.lines.rest.now steps.0 c.take_front_steps-before.result.now c.in-Ok.behind.now line.0 steps.1 line.1
 
 pub overflow_sub-count : goal.overflow_sub-count
 overflow_sub-count g c =
     let so_far = c.lines.invariant.taken in
-    let steps = c.take_front-before.ensures in
-    later_fits c.args.bytes.now so_far.0 c.lines.rest.now steps.0 c.take_front-before.result.now so_far.1 steps.1
+    let steps = c.take_front_steps-before.ensures in
+    later_fits c.args.bytes.now so_far.0 c.lines.rest.now steps.0 c.take_front_steps-before.result.now so_far.1 steps.1
 
 pub returns-in-Err-clause-count : goal.returns-in-Err-clause-count
-returns-in-Err-clause-count g c = sub-le (length c.args.bytes.now) (length c.take_front-before.result.now)
+returns-in-Err-clause-count g c = sub-le (length c.args.bytes.now) (length c.take_front_steps-before.result.now)

@@ -1,8 +1,9 @@
 use Rattle.std.proofs.Common.{Ok, refl}
 use Rattle.cap_run_log.specs.RunLines.{derive_line}
-use Rattle.cap_run_judge.specs.Readings.{due_of, run_in}
+use Rattle.cap_run_judge.specs.Readings.{due_of}
 use Rattle.cap_run_judge.proofs.{FollowLemmas.stage_stays, TurnLemmas.body_answers}
 use Rattle.cap_run_judge.proofs.judges.RunJudge.take_derive.Goals as goal
+use Rattle.cap_run.specs.Machines.{run_in}
 
 pub returns-in-Ok-clause-some : goal.returns-in-Ok-clause-some
 returns-in-Ok-clause-some g c =
@@ -17,5 +18,5 @@ returns-in-Ok-clause-some g c =
 pub returns-in-Err-clause-none : goal.returns-in-Err-clause-none
 returns-in-Err-clause-none g c =
     let s = c.args.self.now in
-    stage_stays s.machine.asks c.make_derive.new.self.asks (run_in s.machine) (run_in c.make_derive.new.self) (due_of s.stage) (derive_line c.in-Some.derive)
+    stage_stays s.machine.asks c.make_derive.new.self.asks (run_in s.machine) (run_in c.make_derive.new.self) (due_of s.due) (derive_line c.in-Some.derive)
     c.in-Err.field-0 c.make_derive.ensures.asks c.in-Err.ensures.outcome

@@ -3,9 +3,10 @@ use Rattle.cap_judge.specs.declared.verdict.TakeFault.TheVariants.{NoLine, NoMem
 use Rattle.cap_log.specs.declared.kinds.Step.{Step}
 use Rattle.cap_run.specs.{declared.{asks.Asks.Asks, ends.RunEnd.RunEnd}, Run.Run, RunChanges.usual_after, RunChecks.{Answers, usual_end, usual_wants}, StepLines.TakesAlone}
 use Rattle.cap_run_log.specs.{declared.lines.RunLine.RunLine, RunLines.run_spelling}
-use Rattle.cap_run_judge.specs.{Readings.{AnswersLine, EndsLine, Follows, due_of, run_in, stage_of}, Turns.{Body, Due, Stage}, Verdicts.Lacks}
+use Rattle.cap_run_judge.specs.{Readings.{AnswersLine, EndsLine, Follows, due_of, stage_of}, Turns.{Body, Due, Stage}, Verdicts.Lacks}
 use Rattle.cap_run_judge.proofs.{FollowLemmas.{line_whole, ok_no_err, whole_taken}, TurnLemmas.{body, body_answers, err_same, line_is}}
 use Rattle.cap_run_judge.proofs.judges.RunJudge.take_line.Goals as goal
+use Rattle.cap_run.specs.Machines.{run_in}
 
 -- a machine that changed nothing leads to the same stage
 abbrev stage_by : Asks → Run → Due → Stage
@@ -28,10 +29,10 @@ step_answers : (asks_are : Asks) (old new : Run) (step : Step) (result : Result 
     → AnswersLine (body asks_are old) (RunLine.Step step) result (body asks_are new)
 step_answers asks_are old new step result answers = body_answers asks_are old new (RunLine.Step step) result refl answers
 
-pub take_end-requires : goal.take_end-requires
-take_end-requires g c =
+pub take_ended_step-requires : goal.take_ended_step-requires
+take_ended_step-requires g c =
     let s = c.args.self.now in
-    let n = c.take_alone.new.self in
+    let n = c.take_lone_step.new.self in
     let old = run_in s.machine in
     let taken = subst (λ (r : Result (Unit {0}) RunEnd). TakesAlone s.machine.asks (run_in s.machine) c.args.line.now (Some r) n.asks (run_in n))
     c.in-Some-Err.field-0-is c.in-Some-Err.ensures.taken in
@@ -49,8 +50,8 @@ take_end-requires g c =
 pub returns-in-Some-Ok-clause-taken : goal.returns-in-Some-Ok-clause-taken
 returns-in-Some-Ok-clause-taken g c =
     let s = c.args.self.now in
-    let n = c.take_alone.new.self in
-    let taken = rw (c.in-Some-Ok.is ∙ ap Some c.in-Some-Ok.field-0-is) at c.take_alone.ensures.taken in
+    let n = c.take_lone_step.new.self in
+    let taken = rw (c.in-Some-Ok.is ∙ ap Some c.in-Some-Ok.field-0-is) at c.take_lone_step.ensures.taken in
     let line = RunLine.Step taken.0 in
     rw (c.in-Body.is, taken.3)
     (whole_taken (body s.machine.asks (run_in s.machine)) (body s.machine.asks (run_in n)) c.args.line.now [] line (line_whole c.args.line.now line taken.1) taken.1
@@ -58,7 +59,7 @@ returns-in-Some-Ok-clause-taken g c =
 
 pub returns-in-Some-Ok-clause-no_line : goal.returns-in-Some-Ok-clause-no_line
 returns-in-Some-Ok-clause-no_line g c =
-    let taken = rw (c.in-Some-Ok.is ∙ ap Some c.in-Some-Ok.field-0-is) at c.take_alone.ensures.taken in (
+    let taken = rw (c.in-Some-Ok.is ∙ ap Some c.in-Some-Ok.field-0-is) at c.take_lone_step.ensures.taken in (
       λ e. absurd (ok_no_err tt NoLine e),
       λ none. absurd (none.0 (run_spelling (RunLine.Step taken.0)) (line_is (RunLine.Step taken.0) c.args.line.now [] taken.1)),
     )
@@ -66,60 +67,60 @@ returns-in-Some-Ok-clause-no_line g c =
 pub returns-in-Some-Err-clause-taken : goal.returns-in-Some-Err-clause-taken
 returns-in-Some-Err-clause-taken g c =
     let s = c.args.self.now in
-    let n = c.take_alone.new.self in
+    let n = c.take_lone_step.new.self in
     let old = run_in s.machine in
     let taken = subst (λ (r : Result (Unit {0}) RunEnd). TakesAlone s.machine.asks (run_in s.machine) c.args.line.now (Some r) n.asks (run_in n))
     c.in-Some-Err.field-0-is c.in-Some-Err.ensures.taken in
-    subst (λ (st : Stage). OnOk c.take_end.result (Follows st c.args.line.now (stage_of c.take_end.new.self)))
-    (alone_same s.machine.asks n.asks old (run_in n) (due_of s.stage) c.args.line.now c.in-Some-Err.end taken) c.take_end.ensures.taken
+    subst (λ (st : Stage). OnOk c.take_ended_step.result (Follows st c.args.line.now (stage_of c.take_ended_step.new.self)))
+    (alone_same s.machine.asks n.asks old (run_in n) (due_of s.due) c.args.line.now c.in-Some-Err.end taken) c.take_ended_step.ensures.taken
 
 pub returns-in-Some-Err-clause-unchanged : goal.returns-in-Some-Err-clause-unchanged
 returns-in-Some-Err-clause-unchanged g c =
     let s = c.args.self.now in
-    let n = c.take_alone.new.self in
+    let n = c.take_lone_step.new.self in
     let old = run_in s.machine in
     let taken = subst (λ (r : Result (Unit {0}) RunEnd). TakesAlone s.machine.asks (run_in s.machine) c.args.line.now (Some r) n.asks (run_in n))
     c.in-Some-Err.field-0-is c.in-Some-Err.ensures.taken in
-    subst (λ (st : Stage). IfErr c.take_end.result (λ _. stage_of c.take_end.new.self ≡ st))
-    (alone_same s.machine.asks n.asks old (run_in n) (due_of s.stage) c.args.line.now c.in-Some-Err.end taken) c.take_end.ensures.unchanged
+    subst (λ (st : Stage). IfErr c.take_ended_step.result (λ _. stage_of c.take_ended_step.new.self ≡ st))
+    (alone_same s.machine.asks n.asks old (run_in n) (due_of s.due) c.args.line.now c.in-Some-Err.end taken) c.take_ended_step.ensures.unchanged
 
 pub returns-in-Some-Err-clause-no_line : goal.returns-in-Some-Err-clause-no_line
 returns-in-Some-Err-clause-no_line g c =
-    let taken = rw (c.in-Some-Err.is ∙ ap Some c.in-Some-Err.field-0-is) at c.take_alone.ensures.taken in (
-      λ e. absurd (c.take_end.ensures.line e),
+    let taken = rw (c.in-Some-Err.is ∙ ap Some c.in-Some-Err.field-0-is) at c.take_lone_step.ensures.taken in (
+      λ e. absurd (c.take_ended_step.ensures.line e),
       λ none. absurd (none.0 (run_spelling (RunLine.Step taken.0)) (line_is (RunLine.Step taken.0) c.args.line.now [] taken.1)),
     )
 
 pub returns-in-Some-Err-clause-no_memory : goal.returns-in-Some-Err-clause-no_memory
 returns-in-Some-Err-clause-no_memory g c =
     let s = c.args.self.now in
-    let n = c.take_alone.new.self in
+    let n = c.take_lone_step.new.self in
     let old = run_in s.machine in
     let taken = subst (λ (r : Result (Unit {0}) RunEnd). TakesAlone s.machine.asks (run_in s.machine) c.args.line.now (Some r) n.asks (run_in n))
     c.in-Some-Err.field-0-is c.in-Some-Err.ensures.taken in
-    subst (λ (st : Stage). c.take_end.result ≡ Err NoMemory → Lacks st c.args.line.now [])
-    (alone_same s.machine.asks n.asks old (run_in n) (due_of s.stage) c.args.line.now c.in-Some-Err.end taken) c.take_end.ensures.no_memory
+    subst (λ (st : Stage). c.take_ended_step.result ≡ Err NoMemory → Lacks st c.args.line.now [])
+    (alone_same s.machine.asks n.asks old (run_in n) (due_of s.due) c.args.line.now c.in-Some-Err.end taken) c.take_ended_step.ensures.no_memory
 
 pub returns-in-None-clause-taken : goal.returns-in-None-clause-taken
 returns-in-None-clause-taken g c =
     let s = c.args.self.now in
-    let n = c.take_alone.new.self in
+    let n = c.take_lone_step.new.self in
     let same = c.in-None.ensures.taken in
-    subst (λ (st : Stage). OnOk c.take_whole.result (Follows st c.args.line.now (stage_of c.take_whole.new.self)))
-    (same_stage s.machine.asks n.asks (run_in s.machine) (run_in n) (due_of s.stage) same.1 same.0) c.take_whole.ensures.taken
+    subst (λ (st : Stage). OnOk c.take_lone_line.result (Follows st c.args.line.now (stage_of c.take_lone_line.new.self)))
+    (same_stage s.machine.asks n.asks (run_in s.machine) (run_in n) (due_of s.due) same.1 same.0) c.take_lone_line.ensures.taken
 
 pub returns-in-None-clause-unchanged : goal.returns-in-None-clause-unchanged
 returns-in-None-clause-unchanged g c =
     let s = c.args.self.now in
-    let n = c.take_alone.new.self in
+    let n = c.take_lone_step.new.self in
     let same = c.in-None.ensures.taken in
-    subst (λ (st : Stage). IfErr c.take_whole.result (λ _. stage_of c.take_whole.new.self ≡ st))
-    (same_stage s.machine.asks n.asks (run_in s.machine) (run_in n) (due_of s.stage) same.1 same.0) c.take_whole.ensures.unchanged
+    subst (λ (st : Stage). IfErr c.take_lone_line.result (λ _. stage_of c.take_lone_line.new.self ≡ st))
+    (same_stage s.machine.asks n.asks (run_in s.machine) (run_in n) (due_of s.due) same.1 same.0) c.take_lone_line.ensures.unchanged
 
 pub returns-in-None-clause-no_memory : goal.returns-in-None-clause-no_memory
 returns-in-None-clause-no_memory g c =
     let s = c.args.self.now in
-    let n = c.take_alone.new.self in
+    let n = c.take_lone_step.new.self in
     let same = c.in-None.ensures.taken in
-    subst (λ (st : Stage). c.take_whole.result ≡ Err NoMemory → Lacks st c.args.line.now [])
-    (same_stage s.machine.asks n.asks (run_in s.machine) (run_in n) (due_of s.stage) same.1 same.0) c.take_whole.ensures.no_memory
+    subst (λ (st : Stage). c.take_lone_line.result ≡ Err NoMemory → Lacks st c.args.line.now [])
+    (same_stage s.machine.asks n.asks (run_in s.machine) (run_in n) (due_of s.due) same.1 same.0) c.take_lone_line.ensures.no_memory

@@ -6,10 +6,10 @@ use Rattle.cap_run_judge.proofs.TurnLemmas.{IsLine-run_spelling}
 use Rattle.cap_run_judge.proofs.judges.RunJudge.take_unmade.Goals as goal
 
 pub returns-in-Some-clause-taken : goal.returns-in-Some-clause-taken
-returns-in-Some-clause-taken g c = rw c.write_run_line-length.ensures.line.written at c.take_end.ensures.taken
+returns-in-Some-clause-taken g c = rw c.write_run_line-length.ensures.line.written at c.take_ended_step.ensures.taken
 
 pub returns-in-Some-clause-no_memory : goal.returns-in-Some-clause-no_memory
-returns-in-Some-clause-no_memory g c = rw c.write_run_line-length.ensures.line.written at c.take_end.ensures.no_memory
+returns-in-Some-clause-no_memory g c = rw c.write_run_line-length.ensures.line.written at c.take_ended_step.ensures.no_memory
 
 -- what a line spells is one line
 line_is_line : (line : RunLine) → IsRunLineInRange line → IsNoLine (run_spelling line ++ 10 ∷ []) → ⊥
@@ -22,8 +22,8 @@ pub returns-in-None-clause-line : goal.returns-in-None-clause-line
 returns-in-None-clause-line g c = λ is.
     line_is_line _ c.requires.range (subst IsNoLine c.write_run_line-length.ensures.line.written (c.take_line.ensures.no_line.0 is))
 
-pub take_end-requires : goal.take_end-requires
-take_end-requires g c =
+pub take_ended_step-requires : goal.take_ended_step-requires
+take_ended_step-requires g c =
     record { ends = (c.args.line.now, (c.requires.range, c.write_run_line-length.ensures.line.written), rw c.in-Some.is at c.requires.ends) }
 
 pub returns-in-None-clause-no_memory : goal.returns-in-None-clause-no_memory

@@ -1,14 +1,14 @@
 use Rattle.std.proofs.Common.{◌≡◌, ◌++◌, ℕ, List, length}
-use Rattle.cap_run_judge.specs.declared.judges.NextRunLine.TheVariants.{Body}
+use Rattle.cap_run_judge.specs.declared.judges.Due.TheVariants.{Body}
 use Rattle.cap_run_judge.specs.{Readings.stage_of, Turns.Goes}
-use Rattle.cap_run_judge.proofs.judges.RunJudge.take_often.Given as goal
+use Rattle.cap_run_judge.proofs.judges.RunJudge.take_steps.Given as goal
 
 -- the lines so far are the front of the bytes
 abbrev pub invariant-lines : goal.invariant-lines
 invariant-lines g l = record {
   taken : (front : List ℕ) × (l.fn.bytes ≡ front ++ l.rest)
       × Goes (stage_of l.fn.self) front (stage_of l.self);
-  body : l.self.stage ≡ Body;
+  body : l.self.due ≡ Body;
 }
 
 -- each step shortens the rest

@@ -1,8 +1,9 @@
 use Rattle.std.proofs.Common.{[], refl, subst, sym}
 use Rattle.cap_run.specs.declared.asks.Asks.{Asks}
-use Rattle.cap_run_judge.specs.{Readings.{run_in, stage_of}, Turns.Goes}
+use Rattle.cap_run_judge.specs.{Readings.{stage_of}, Turns.Goes}
 use Rattle.cap_run_judge.proofs.TurnLemmas.{body, goes_more, goes_none, later_smaller, steps_go}
-use Rattle.cap_run_judge.proofs.judges.RunJudge.take_often.Goals as goal
+use Rattle.cap_run_judge.proofs.judges.RunJudge.take_steps.Goals as goal
+use Rattle.cap_run.specs.Machines.{run_in}
 
 pub lines-init : goal.lines-init
 lines-init g c = record { taken = ([], refl, goes_none (stage_of c.args.self.now)); body = c.requires }

@@ -1,7 +1,7 @@
 use Rattle.std.proofs.Common.{[], inl, refl, rules, subst, sym}
 use Rattle.cap_run_judge.specs.{Readings.{EndsBytes, IsAtFault, StopsAt, stage_of}, Turns.Stage}
 use Rattle.cap_run_judge.proofs.TurnLemmas.{clear_of, ends_at, goes_none}
-use Rattle.cap_run_judge.proofs.judges.RunJudge.take_next.Goals as goal
+use Rattle.cap_run_judge.proofs.judges.RunJudge.take_any_line.Goals as goal
 
 pub returns-in-Refused-clause-err : goal.returns-in-Refused-clause-err
 returns-in-Refused-clause-err g c =
@@ -15,7 +15,7 @@ stop-requires g c =
     let answer = c.in-Err.ensures in
     record {
       found = c.front.ensures.found;
-      clear = subst (λ (s : Stage). IsAtFault s.due → ⊥) (sym answer.1) (clear_of c.args.self.now.stage c.in_default.not-Refused);
+      clear = subst (λ (s : Stage). IsAtFault s.due → ⊥) (sym answer.1) (clear_of c.args.self.now.due c.in_default.not-Refused);
       ends = subst (λ (s : Stage). EndsBytes s bytes c.in-Err.end) (sym answer.1)
           (ends_at old bytes c.in-Some.rest.now c.in-Some.line c.in-Err.end c.in-Some.ensures.some answer.0);
     }

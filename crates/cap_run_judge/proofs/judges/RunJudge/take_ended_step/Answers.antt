@@ -4,7 +4,7 @@ use Rattle.cap_judge.proofs.TurnLemmas.{whole_uncut}
 use Rattle.cap_run_judge.specs.{Readings.{StopsAt, stage_of}, Turns.Stage, Verdicts.Lacks}
 use Rattle.cap_run_judge.proofs.FollowLemmas.{line_whole, nothing_goes, ok_no_err, stop_follows, whole_lacks}
 use Rattle.cap_run_judge.proofs.TurnLemmas.{ends_at}
-use Rattle.cap_run_judge.proofs.judges.RunJudge.take_end.Goals as goal
+use Rattle.cap_run_judge.proofs.judges.RunJudge.take_ended_step.Goals as goal
 
 pub stop-requires-clause-ends : goal.stop-requires-clause-ends
 stop-requires-clause-ends g c =
