@@ -5,9 +5,10 @@ ghost use Rattle.cap_streams.specs.Front.{IsCut};
 ghost use Rattle.cap_judge.specs.Expectations.{expected_of};
 ghost use Rattle.cap_run.specs.declared.asks.Asks.{Asks as AsksIn};
 ghost use Rattle.cap_run_judge.specs.Questions.{ExpectsAt, GivesForText, verdict_so_far};
-ghost use Rattle.cap_run_judge.specs.Readings.{VerdictAtEnd, run_in, stage_of};
+ghost use Rattle.cap_run_judge.specs.Readings.{VerdictAtEnd, stage_of};
+ghost use Rattle.cap_run.specs.Machines.{run_in};
 
-use crate::judges::{NextRunLine, RunJudge};
+use crate::judges::{Due, RunJudge};
 use crate::verdict::RunVerdict;
 use cap_judge::Expected;
 use cap_machine::{Given, Refusal};
@@ -21,8 +22,8 @@ impl<M: TaggedStore> RunJudge<M> {
     pub fn answer(&self) -> Option<RunVerdict>
         ensures so_far { result ≡ verdict_so_far (stage_of self.now).due }
     {
-        match &self.stage {
-            NextRunLine::Refused(fault) => Some(fault.verdict()),
+        match &self.due {
+            Due::Refused(fault) => Some(fault.verdict()),
             _ => None,
         }
     }
@@ -42,8 +43,8 @@ impl<M: TaggedStore> RunJudge<M> {
     pub fn expected(&self) -> Option<Expected>
         ensures expects { ExpectsAt (stage_of self.now) result }
     {
-        match &self.stage {
-            NextRunLine::Refused(fault) => match fault.refusal {
+        match &self.due {
+            Due::Refused(fault) => match fault.refusal {
                 RunRefusal::Usual(refusal) => match refusal {
                     Refusal::WrongResult => given_for(&self.machine, fault.text.as_slice()),
                     _ => None,

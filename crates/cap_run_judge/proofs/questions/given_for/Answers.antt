@@ -4,7 +4,7 @@ use Rattle.cap_judge.specs.Expectations.{GivesFor}
 use Rattle.cap_judge.proofs.ExpectedLemmas.{gives_shown}
 use Rattle.cap_run_log.specs.RunLines.{SpellsRun}
 use Rattle.cap_run_log.specs.declared.lines.RunLine.{RunLine}
-use Rattle.cap_run_judge.specs.Readings.{run_in}
+use Rattle.cap_run.specs.Machines.{run_in}
 use Rattle.cap_run_judge.proofs.QuestionLemmas.{for_text, gives_bare, not_for_text, other_line}
 use Rattle.cap_run_judge.proofs.questions.given_for.Goals as goal
 

@@ -1,6 +1,7 @@
 use Rattle.std.proofs.Common.{◌∙◌, ap, subst}
 use Rattle.cap_run.specs.declared.ends.RunRefusal.{RunRefusal}
-use Rattle.cap_run_judge.specs.{Questions.GivesForText, Readings.run_in}
+use Rattle.cap_run_judge.specs.{Questions.GivesForText}
+use Rattle.cap_run.specs.Machines.{run_in}
 use Rattle.cap_run_judge.proofs.judges.RunJudge.expected.Goals as goal
 
 pub returns-in-WrongResult : goal.returns-in-WrongResult
