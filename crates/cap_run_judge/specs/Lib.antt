@@ -6,3 +6,4 @@ pub mod Judgings
 pub mod OwnerLists
 pub mod Reports
 pub mod Readings
+pub mod ChosenVerdicts
