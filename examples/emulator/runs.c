@@ -16,6 +16,49 @@
 
 static int failures;
 
+/* The blocks that the judge holds and their bytes, counted above the C library; and the number of allocations that succeed
+ * before all fail, or -1 if none is to fail. Each block has its size before it. */
+static long blocks, bytes;
+static long until_refused = -1;
+
+typedef union {
+    size_t size;
+    char room[16];
+} head;
+
+static void *resized(head *old, size_t size) {
+    size_t before = old == NULL ? 0 : old->size;
+    head *block;
+    if (until_refused >= 0 && until_refused-- == 0) {
+        until_refused = 0;
+        return NULL;
+    }
+    block = (head *)realloc(old, sizeof(head) + size);
+    if (block == NULL)
+        return NULL;
+    block->size = size;
+    blocks += old == NULL;
+    bytes += (long)size - (long)before;
+    return block + 1;
+}
+
+#ifdef __cplusplus
+extern "C" {
+#endif
+static void *take(size_t size) { return resized(NULL, size); }
+
+static void *again(void *old, size_t size) { return resized(old == NULL ? NULL : (head *)old - 1, size); }
+
+static void give(void *block) {
+    head *old = block == NULL ? NULL : (head *)block - 1;
+    blocks -= old != NULL;
+    bytes -= old != NULL ? (long)old->size : 0;
+    free(old);
+}
+#ifdef __cplusplus
+}
+#endif
+
 static void expect(bool holds, int line) {
     if (!holds) {
         fprintf(stderr, "runs.c:%d: not as expected\n", line);
@@ -434,9 +477,67 @@ static void asked(void) {
     EXPECT(capcheck_run_judge_bytes((const uint8_t *)lines, length, asks).state == CAPCHECK_YES);
 }
 
+/* One allocation fails and all later ones, each in turn, while lines are handed over at once: they are taken up to a line
+ * that wants memory, and no fault is told. With memory again the others get the verdict. A closed judge holds no memory. */
+static void refused_in_turn(void) {
+    static const char rest[] = "sc c2 c1 16\nstore c1 1024 1 12\nload c1 1024 1 = 12\nload c1 1024 1 = 13\n";
+    char lines[600];
+    long turn = 0;
+    bool is_refused = true, stops[3] = {false, false, false};
+    narrowed(lines, sizeof lines - sizeof rest);
+    strcat(lines, rest);
+    for (; is_refused && turn < 1000; turn++) {
+        const char *const object = strstr(lines, "object"), *const stored = strstr(lines, "sc c2"), *const named = strstr(lines, "store");
+        capcheck_run_judge judge = CAPCHECK_NO_RUN_JUDGE_YET;
+        capcheck_taken taken;
+        capcheck_run_answer answer;
+        EXPECT(capcheck_run_judge_open(&judge, usual) == CAPCHECK_GOES_ON);
+        until_refused = turn;
+        taken = capcheck_run_judge_lines(&judge, lines, strlen(lines));
+        is_refused = until_refused == 0;
+        until_refused = -1;
+        if (taken.state == CAPCHECK_NO_MEMORY) {
+            const char *stop = lines + taken.bytes;
+            EXPECT(is_refused && (stop == object || stop == stored || stop == named));
+            EXPECT(capcheck_run_judge_answer(&judge).state == CAPCHECK_GOES_ON);
+            stops[0] = stops[0] || stop == object;
+            stops[1] = stops[1] || stop == stored;
+            stops[2] = stops[2] || stop == named;
+            taken = capcheck_run_judge_lines(&judge, stop, strlen(stop));
+            EXPECT(stop + taken.bytes == strstr(lines, "load c1 1024 1 = 13"));
+        }
+        answer = capcheck_run_judge_answer(&judge);
+        EXPECT(taken.state == CAPCHECK_NO && answer.line == 10 && answer.refusal == CAPCHECK_WRONG_RESULT);
+        capcheck_run_judge_close(&judge);
+        EXPECT(blocks == 0 && bytes == 0);
+    }
+    EXPECT(!is_refused && stops[0] && stops[1] && stops[2]);
+}
+
+/* Thousands of objects, each gone before the next is handed out, want no more memory than a hundred. */
+static void objects_in_turn(void) {
+    capcheck_run_judge judge = CAPCHECK_NO_RUN_JUDGE_YET;
+    char lines[600];
+    long most = 0;
+    int turn;
+    narrowed(lines, sizeof lines - 20);
+    strcat(lines, "free c2\ndrop c2\n");
+    EXPECT(capcheck_run_judge_open(&judge, usual) == CAPCHECK_GOES_ON && pass(&judge, BEGIN) == CAPCHECK_GOES_ON);
+    for (turn = 1; turn <= 3000; turn++) {
+        EXPECT(pass(&judge, lines + sizeof BEGIN - 1) == CAPCHECK_GOES_ON);
+        if (turn <= 100 && bytes > most)
+            most = bytes;
+        EXPECT(bytes <= most);
+    }
+    EXPECT(pass(&judge, "end 15000\n") == CAPCHECK_GOES_ON && capcheck_run_judge_end(&judge).objects == 3000);
+    capcheck_run_judge_close(&judge);
+    EXPECT(blocks == 0 && bytes == 0);
+}
+
 int main(int count, char **words) {
     if (count > 1)
         return judge_files(count, words);
+    capcheck_judge_memory(take, again, give);
     no_places();
     objects();
     holders();
@@ -444,5 +545,8 @@ int main(int count, char **words) {
     expected();
     reports();
     asked();
+    EXPECT(blocks == 0 && bytes == 0);
+    refused_in_turn();
+    objects_in_turn();
     return failures == 0 ? 0 : 1;
 }

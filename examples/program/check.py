@@ -222,6 +222,19 @@ def verdicts(room):
                 room.wants(f"{words}, {what} behind the first fault", room.run(words, own), (1, room.said_no, b""))
 
 
+def several(room):
+    """Several files get a verdict each, and the status is the greatest, whichever file it is of."""
+    if room.program != "capdiag":
+        return
+    shown = {"good": SAID_YES, "bad": room.said_no, "gone": b""}
+    room.put("good", YES)
+    room.put("bad", NO)
+    for names, status in ((["bad", "good"], 1), (["good", "bad"], 1), (["bad", "gone", "good"], 3), (["gone", "good"], 3), (["good", "good"], 0)):
+        out = b"".join(shown[it].replace(b"\n", f"\nfile {it}\n".encode(), 1) for it in names)
+        err = b"".join(room.fault("cannot open 'gone': no such file") for it in names if it == "gone")
+        room.wants(f"why {names}", room.run(["why", *names]), (status, out, err))
+
+
 def outputs(room):
     """Standard output that is full, that fills up, that is busy, that nobody reads any more, and that is closed."""
     fault = (3, None, room.fault("write fault"))
@@ -304,7 +317,7 @@ def main(programs):
     for program in programs or PROGRAMS:
         with tempfile.TemporaryDirectory() as folder:
             room = Room(folder, program)
-            for part in (printed, inputs, unopened, verdicts, outputs, errors, terminals):
+            for part in (printed, inputs, unopened, verdicts, several, outputs, errors, terminals):
                 part(room)
         print("\n".join([*room.wrong, f"{room.count} runs of {program}, {len(room.wrong)} otherwise than is wanted"]))
         wrong += room.wrong

@@ -1,6 +1,6 @@
 //! A source that keeps what another gives.
 
-ghost use Rattle.std.specs.Prelude.{◌≡◌, ◌++◌, List, ℕ, refl, true};
+ghost use Rattle.std.specs.Prelude.{◌≡◌, ◌≤◌, ◌+◌, ◌++◌, List, ℕ, length, refl, true};
 ghost use Rattle.std.proofs.Common.{◌∙◌, ap, append-nil, append_assoc, sym};
 
 use cap_streams::{PullFault, Source};
@@ -15,7 +15,7 @@ pub struct Recorder<'a, S: Source> {
 }
 
 impl<'a, S: Source> Recorder<'a, S> {
-    ghost use Rattle.cap_context.specs.Recordings.{is_whole, kept_by, name_of_kept, name_of_source, source_of};
+    ghost use Rattle.cap_context.specs.Recordings.{is_whole, kept_by, name_of_kept, name_of_source, room_of, source_of};
 
     /// What the source gives is appended to the vector if that is asked.
     pub fn new(source: &'a mut S, kept: &'a mut Vec<u8>, is_asked: bool) -> Recorder<'a, S>
@@ -23,6 +23,7 @@ impl<'a, S: Source> Recorder<'a, S> {
         ensures source { source_of result ≡ source.old }
         ensures same_kept { name_of_kept result ≡ kept.entry.ghost_name }
         ensures kept { kept_by result ≡ kept.old.items }
+        ensures asked { is_whole result ≡ is_asked }
     {
         Recorder {
             source,
@@ -44,6 +45,7 @@ impl<'a, S: Source> Recorder<'a, S> {
         ensures source { source_of self.new ≡ source_of self.old }
         ensures same_kept { name_of_kept self.new ≡ name_of_kept self.old }
         ensures kept { is_whole self.new ≡ true → (is_whole self.old ≡ true) × (kept_by self.new ≡ kept_by self.old ++ bytes.now) }
+        ensures room { is_whole self.old ≡ true → length (kept_by self.old) + length bytes.now ≤ room_of self.old → is_whole self.new ≡ true }
     {
         if self.is_whole {
             self.is_whole = self.kept.extend_from_slice(bytes).is_ok();

@@ -1,7 +1,8 @@
 -- What is true of the present objects stays so where the one in a slot changes.
 use Rattle.std.proofs.Common.{◌≡◌, ◌≢◌, ◌<◌, ◌≤◌, ◌+◌, ◌⊎◌, ◌&&◌, ◌||◌, not, ℕ, Bool, true, false, Some, None, Option, inl, inr}
-use Rattle.std.proofs.Common.{option_and_then, if◌then◌else◌, refl, sym, ap, subst, ◌∙◌, arith, Result, Ok, Err, OnOk, is_err}
+use Rattle.std.proofs.Common.{option_and_then, if◌then◌else◌, refl, sym, ap, subst, ◌∙◌, arith, Result, Ok, Err, OnOk, OnErr, is_err}
 use Rattle.std.proofs.lemmas.{Bool.{cases_Bool, cases_lt, cond-true, cond-false, false≢true, Decides.eqb_tells, and_parts}, Option.{none-some, same_Some}}
+use Rattle.std.proofs.Math.Path.{fun_ext}
 use Rattle.cap_objects.specs.{declared.objects.Object.Object, Extents.{MeetsNone, Objects, Sets, is_compared}}
 use Rattle.cap_objects.specs.{Handed.{AreKept, freed_in, with_held}, Indexes.{Drops, Rekeys, base_key, number_key}}
 use Rattle.cap_objects.proofs.{IndexLemmas.{index-put, rekey-same}}
@@ -289,3 +290,21 @@ module _ (keeps : Bool) (count : ℕ) (objects : Objects) (numbers bases : ℕ �
       (subst (λ (was : Option ℕ). Rekeys bases slot was (base_key keeps o) bases_after) (sym (ap (option_and_then (base_key keeps)) free))
       (subst (λ (b : Bool). Rekeys bases slot None (if b then Some o.base else None) bases_after) (sym (compared_live keeps o.long o.freed live))
       bases_rekeyed))
+
+pub of_err : {A E P : Type 0} (r : Result A E) → is_err r ≡ true → OnErr r P → P
+of_err (Ok x) is p = absurd (false≢true is)
+of_err (Err e) is p = p
+
+-- an object that was put in a slot and taken out again
+pub taken-out : (slot : ℕ) (o : Option Object) (objects between after : Objects) → objects slot ≡ None → Sets objects slot o between
+    → Sets between slot None after → (s : ℕ) → after s ≡ objects s
+taken-out slot o objects between after free put out s = elim (eqb_tells s slot) [
+  | inl same ↦ ap after same.1 ∙ out.0 ∙ sym free ∙ ap objects (sym same.1)
+  | inr unlike ↦ out.1 s unlike.1 ∙ put.1 s unlike.1
+]
+
+pub kept-alike : (keeps : Bool) (count : ℕ) (objects after : Objects) (numbers numbers_after bases bases_after : ℕ → Option ℕ)
+    → AreKept keeps count objects numbers bases → ((s : ℕ) → after s ≡ objects s) → ((k : ℕ) → numbers_after k ≡ numbers k)
+    → ((k : ℕ) → bases_after k ≡ bases k) → AreKept keeps count after numbers_after bases_after
+kept-alike keeps count objects after numbers numbers_after bases bases_after known same same_numbers same_bases =
+    rw (fun_ext same, fun_ext same_numbers, fun_ext same_bases) known

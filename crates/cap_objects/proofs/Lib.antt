@@ -1,5 +1,6 @@
 pub mod BelowLemmas
 pub mod KeyLemmas
+mod FreeLemmas
 mod IndexLemmas
 mod KeptLemmas
 mod MeetLemmas

@@ -1,5 +1,6 @@
 pub mod Counts
 pub mod Extents
+pub mod FreeSlots
 pub mod Handed
 pub mod HandoutsIn
 pub mod Indexes

@@ -4,7 +4,7 @@ ghost use Rattle.std.specs.Prelude.{◌≡◌, ◌≢◌, ◌<◌, ◌≤◌, �
 ghost use Rattle.std.specs.Prelude.{OnErr, IfOk, IfErr, IfSome, IfNone, MatchOption};
 ghost use Rattle.std.specs.Ordering.{nat_cmp};
 ghost use Rattle.std.specs.BTreeMap as tree;
-ghost use Rattle.cap_objects.specs.Extents.{IsFirstMet, MeetsNone, Sets, is_compared};
+ghost use Rattle.cap_objects.specs.{Extents.{IsFirstMet, MeetsNone, Sets, is_compared}, FreeSlots.UsesSlots};
 ghost use Rattle.cap_objects.specs.Handed.{AddsObject, AreKept, ArePresent, HasNoLive, HasRoom, IsLive, IsNextNumber, RefusesExtent};
 ghost use Rattle.cap_objects.specs.Handed.{freed_in, hand_out_fault_text, handed_out, widened, with_held};
 ghost use Rattle.cap_objects.specs.{Counts.is_owner, Indexes.kept, Objects.top_of_extent, SlotsIn.present_in};
@@ -71,7 +71,7 @@ pub struct Handouts {
 }
 
 impl Handouts {
-    ghost use Rattle.cap_objects.specs.HandoutsIn.{objects_of};
+    ghost use Rattle.cap_objects.specs.HandoutsIn.{objects_of, slots_of};
 
     /// Nothing was handed out. `keeps` says whether new extents are compared with those of freed objects that are held.
     /// It takes no memory.
@@ -226,6 +226,7 @@ impl Handouts {
         ensures err { OnErr result ((slot : ℕ) → objects_of self.new slot ≡ objects_of self.old slot) }
         ensures err_count { OnErr result (self.new.count ≡ self.old.count) }
         ensures keeps { self.new.keeps ≡ self.old.keeps }
+        ensures slots { UsesSlots (objects_of self.old) (slots_of self.old) (slots_of self.new) }
     {
         if let Some(fault) = self.extent_fault(base, top, None) {
             return Err(fault);
@@ -257,6 +258,7 @@ impl Handouts {
         ensures rest { IfOk result (λ slot. (slot < 2 ^ 32) × (self.new.count ≡ self.old.count + 1)) }
         ensures err { OnErr result (((slot : ℕ) → objects_of self.new slot ≡ objects_of self.old slot) × (self.new.count ≡ self.old.count)) }
         ensures keeps { self.new.keeps ≡ self.old.keeps }
+        ensures slots { UsesSlots (objects_of self.old) (slots_of self.old) (slots_of self.new) }
     {
         let slot = match self.slots.insert(object) {
             Ok(slot) => slot,
@@ -285,6 +287,7 @@ impl Handouts {
             → RefusesExtent self.old.keeps (Some slot) (objects_of self.old) (min object.base base) (max (top_of_extent object) top) fault) }
         ensures err { OnErr result ((slot : ℕ) → objects_of self.new slot ≡ objects_of self.old slot) }
         ensures rest { (self.new.count ≡ self.old.count) × (self.new.keeps ≡ self.old.keeps) }
+        ensures slots { slots_of self.new ≡ slots_of self.old }
     {
         let object = self.slots.get(slot);
         let low = object.base.min(base);
@@ -314,6 +317,7 @@ impl Handouts {
         ensures set { (object : ObjectIn) → objects_of self.old slot ≡ Some object
             → Sets (objects_of self.old) slot (Some (with_held object (object.held + 1))) (objects_of self.new) }
         ensures rest { (self.new.count ≡ self.old.count) × (self.new.keeps ≡ self.old.keeps) }
+        ensures slots { slots_of self.new ≡ slots_of self.old }
     {
         let mut object = self.slots.get(slot);
         object.held += 1;
@@ -327,6 +331,7 @@ impl Handouts {
         ensures set { (object : ObjectIn) → objects_of self.old slot ≡ Some object
             → Sets (objects_of self.old) slot (kept (with_held object (object.held - 1))) (objects_of self.new) }
         ensures rest { (self.new.count ≡ self.old.count) × (self.new.keeps ≡ self.old.keeps) }
+        ensures slots { slots_of self.new ≡ slots_of self.old }
     {
         let mut object = self.slots.get(slot);
         object.held -= 1;
@@ -343,6 +348,7 @@ impl Handouts {
         ensures set { (object : ObjectIn) → objects_of self.old slot ≡ Some object
             → Sets (objects_of self.old) slot (kept (freed_in step object)) (objects_of self.new) }
         ensures rest { (self.new.count ≡ self.old.count) × (self.new.keeps ≡ self.old.keeps) }
+        ensures slots { slots_of self.new ≡ slots_of self.old }
     {
         let mut object = self.slots.get(slot);
         object.freed = true;
@@ -362,6 +368,7 @@ impl Handouts {
         requires { IsSome (objects_of self.old slot) }
         ensures set { Sets (objects_of self.old) slot None (objects_of self.new) }
         ensures rest { (self.new.count ≡ self.old.count) × (self.new.keeps ≡ self.old.keeps) }
+        ensures slots { slots_of self.new ≡ slots_of self.old }
     {
         let object = self.slots.get(slot);
         remove_keys(&mut self.numbers, &mut self.bases, object, self.keeps);
@@ -376,6 +383,7 @@ impl Handouts {
         ensures ok { OnOk result (Sets (objects_of self.old) slot (Some wider) (objects_of self.new)) }
         ensures err { OnErr result ((slot : ℕ) → objects_of self.new slot ≡ objects_of self.old slot) }
         ensures rest { (self.new.count ≡ self.old.count) × (self.new.keeps ≡ self.old.keeps) }
+        ensures slots { slots_of self.new ≡ slots_of self.old }
     {
         let Ok(narrow) = u32::try_from(slot) else {
             return Err(AllocError);

@@ -1,7 +1,7 @@
 //! Counting a place from one owner to another.
 
 ghost use Rattle.std.specs.Prelude.{◌≡◌, ◌<◌, ◌≤◌, ◌+◌, ◌^◌, ℕ, Option, Some};
-ghost use Rattle.cap_objects.specs.{Counts.{Moves, one_for}, Handed.{IsRecounted, held_of}, HandoutsIn.objects_of};
+ghost use Rattle.cap_objects.specs.{Counts.{Moves, one_for}, Handed.{IsRecounted, held_of}, HandoutsIn.{objects_of, slots_of}};
 
 use crate::handouts::Handouts;
 
@@ -15,6 +15,7 @@ pub fn recount(objects: &mut Handouts, from: Option<usize>, to: Option<usize>)
     ensures moves { Moves (λ slot. held_of (objects_of objects.old slot)) from to (λ slot. held_of (objects_of objects.new slot)) }
     ensures rest { IsRecounted (objects_of objects.old) (objects_of objects.new) }
     ensures same { (objects.new.count ≡ objects.old.count) × (objects.new.keeps ≡ objects.old.keeps) }
+    ensures slots { slots_of objects.new ≡ slots_of objects.old }
 {
     if from == to {
         return;
@@ -31,6 +32,7 @@ fn count_up_for(objects: &mut Handouts, to: Option<usize>)
     ensures moves { (slot : ℕ) → held_of (objects_of objects.new slot) ≡ held_of (objects_of objects.old slot) + one_for slot to }
     ensures rest { IsRecounted (objects_of objects.old) (objects_of objects.new) }
     ensures same { (objects.new.count ≡ objects.old.count) × (objects.new.keeps ≡ objects.old.keeps) }
+    ensures slots { slots_of objects.new ≡ slots_of objects.old }
 {
     if let Some(slot) = to {
         objects.count_up(slot);
@@ -44,6 +46,7 @@ fn count_down_for(objects: &mut Handouts, from: Option<usize>)
     ensures moves { (slot : ℕ) → held_of (objects_of objects.new slot) + one_for slot from ≡ held_of (objects_of objects.old slot) }
     ensures rest { IsRecounted (objects_of objects.old) (objects_of objects.new) }
     ensures same { (objects.new.count ≡ objects.old.count) × (objects.new.keeps ≡ objects.old.keeps) }
+    ensures slots { slots_of objects.new ≡ slots_of objects.old }
 {
     if let Some(slot) = from {
         objects.count_down(slot);
@@ -67,6 +70,7 @@ pub fn recount_both(
         ≡ held_of (objects_of objects.old slot) + one_for slot first_to + one_for slot second_to }
     ensures rest { IsRecounted (objects_of objects.old) (objects_of objects.new) }
     ensures same { (objects.new.count ≡ objects.old.count) × (objects.new.keeps ≡ objects.old.keeps) }
+    ensures slots { slots_of objects.new ≡ slots_of objects.old }
 {
     // Mostly no object is involved, and one test tells so.
     if first_from.is_none() & first_to.is_none() & second_from.is_none() & second_to.is_none() {

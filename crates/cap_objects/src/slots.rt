@@ -1,7 +1,7 @@
 //! Slots of present objects, which are used again once their objects are gone.
 
-ghost use Rattle.std.specs.Prelude.{◌≡◌, ℕ, Some, None, true, false, IsSome, OnErr, IfOk, is_some, slice_get};
-ghost use Rattle.cap_objects.specs.{declared.objects.Object.{Object as ObjectIn}, Extents.{Sets, is_present}, Handed.AddsObject};
+ghost use Rattle.std.specs.Prelude.{◌≡◌, ℕ, Some, None, true, false, IsSome, MatchOption, OnErr, IfOk, slice_get};
+ghost use Rattle.cap_objects.specs.{declared.objects.Object.{Object as ObjectIn}, Extents.{Sets, is_present}, FreeSlots.{AreFree, UsesSlots}, Handed.AddsObject};
 
 use crate::objects::Object;
 use std::alloc::{AllocError, Global};
@@ -13,10 +13,11 @@ pub(crate) struct Slots {
     objects: Vec<Object>,
     // The first free slot, if there is any.
     free: u32,
+    ghost linked: { AreFree objects.items free },
 }
 
 impl Slots {
-    ghost use Rattle.cap_objects.specs.SlotsIn.{present_in};
+    ghost use Rattle.cap_objects.specs.SlotsIn.{present_in, slots_in};
 
     /// No objects. It takes no memory.
     pub(crate) fn new(alloc: Global) -> Slots
@@ -42,7 +43,8 @@ impl Slots {
     pub(crate) fn set(&mut self, slot: usize, object: Object)
         requires there { IsSome (present_in self.old slot) }
         requires present { is_present object ≡ true }
-        ensures { Sets (present_in self.old) slot (Some object) (present_in self.new) }
+        ensures set { Sets (present_in self.old) slot (Some object) (present_in self.new) }
+        ensures slots { slots_in self.new ≡ slots_in self.old }
     {
         self.objects[slot] = object;
     }
@@ -50,7 +52,8 @@ impl Slots {
     /// Frees a slot.
     pub(crate) fn remove(&mut self, slot: usize)
         requires { IsSome (present_in self.old slot) }
-        ensures { Sets (present_in self.old) slot None (present_in self.new) }
+        ensures set { Sets (present_in self.old) slot None (present_in self.new) }
+        ensures slots { slots_in self.new ≡ slots_in self.old }
     {
         let mut object = self.objects[slot];
         object.number = self.free;
@@ -66,6 +69,7 @@ impl Slots {
         requires { is_present object ≡ true }
         ensures ok { IfOk result (λ slot. AddsObject (present_in self.old) slot object (present_in self.new)) }
         ensures err { OnErr result ((slot : ℕ) → present_in self.new slot ≡ present_in self.old slot) }
+        ensures slots { UsesSlots (present_in self.old) (slots_in self.old) (slots_in self.new) }
     {
         match self.next_free() {
             Some(next) => {
@@ -80,7 +84,10 @@ impl Slots {
 
     // The free slot after the first one, if there is a first.
     fn next_free(&self) -> Option<u32>
-        ensures { is_some result ≡ true → (old : ObjectIn) × (slice_get self.now.objects.items self.now.free ≡ Some old) × (is_present old ≡ false) }
+        ensures { MatchOption result
+            ((object : ObjectIn) → slice_get self.now.objects.items self.now.free ≡ Some object → is_present object ≡ true)
+            (λ next. (object : ObjectIn) × (slice_get self.now.objects.items self.now.free ≡ Some object) × (is_present object ≡ false)
+            × (object.number ≡ next)) }
     {
         match self.objects.get(self.free as usize) {
             Some(object) if !object.is_present() => Some(object.number),
@@ -88,11 +95,13 @@ impl Slots {
         }
     }
 
-    // Puts an object in a new slot.
+    // Puts an object in a new slot, where each one has an object.
     fn push(&mut self, object: Object) -> Result<u32, AllocError>
-        requires { is_present object ≡ true }
+        requires present { is_present object ≡ true }
+        requires full { (slot : ℕ) (object : ObjectIn) → slice_get self.old.objects.items slot ≡ Some object → is_present object ≡ true }
         ensures ok { IfOk result (λ slot. AddsObject (present_in self.old) slot object (present_in self.new)) }
         ensures err { OnErr result ((slot : ℕ) → present_in self.new slot ≡ present_in self.old slot) }
+        ensures slots { UsesSlots (present_in self.old) (slots_in self.old) (slots_in self.new) }
     {
         let slot = self.objects.len();
         if slot >= u32::MAX as usize {

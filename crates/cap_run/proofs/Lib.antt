@@ -1,7 +1,7 @@
 pub mod LineLemmas
 pub mod DescentLemmas
 pub mod OneRootLemmas
-mod ChoiceLemmas
+pub mod ChoiceLemmas
 mod MeetingLemmas
 pub mod OwnedLemmas
 mod FollowLemmas
@@ -12,7 +12,7 @@ mod ExtentLemmas
 pub mod ApartLemmas
 mod NotHeldLemmas
 mod StillHeldLemmas
-mod ErasureLemmas
+pub mod ErasureLemmas
 pub mod UsualRunLemmas
 mod PlaceLemmas
 mod OwnerLemmas

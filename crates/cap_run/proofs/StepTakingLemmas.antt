@@ -1,11 +1,12 @@
 -- Lines of steps of version 2 that are taken one after another.
-use Rattle.std.proofs.Common.{◌≡◌, ◌+◌, ◌<◌, ℕ, List, [], ◌∷◌, ◌++◌, length, length-append, arith, None, refl, sym, ap, subst, ◌∙◌, append-nil, append_assoc}
+use Rattle.std.proofs.Common.{◌≡◌, ◌+◌, ◌<◌, ℕ, List, [], ◌∷◌, ◌++◌, length, length-append, arith, Bool, Option, None, Result, Err, refl, sym, ap, subst, ◌∙◌, append-nil, append_assoc}
 use Rattle.std.proofs.lemmas.{Grind.flat_map-append}
 use Rattle.cap_log.specs.{declared.{kinds.Step.Step, lines.Line.Line}, Lines.{IsInRange, IsStepInRange, spelling}, Parts.Begins}
 use Rattle.cap_log.proofs.ElementLemmas.{AllByRecursion-append}
 use Rattle.cap_run_log.specs.declared.lines.{RunLine.RunLine}
 use Rattle.cap_run_log.specs.RunLines.{IsRunLineInRange, run_spelling}
-use Rattle.cap_run.specs.{declared.asks.Asks.Asks, Run.Run, RunChanges.usual_after, RunChecks.usual_end}
+use Rattle.cap_run.specs.declared.ends.{RunEnd.RunEnd, RunRefusal.RunRefusal}
+use Rattle.cap_run.specs.{declared.asks.Asks.Asks, Run.Run, RunChanges.usual_after, RunChecks.{Answers, usual_end}}
 use Rattle.cap_run.specs.StepLines.{LeadBy, MakesUsualSteps, text_of_steps}
 
 LeadBy-append : (asks : Asks) (from middle to : Run) (steps more : List Step) → LeadBy asks from steps middle → LeadBy asks middle more to
@@ -45,3 +46,9 @@ same_step step = refl
 pub step_begins : (bytes rest : List ℕ) (step : Step) → Begins IsInRange spelling 10 bytes (Line.Step step) rest
     → Begins IsRunLineInRange run_spelling 10 bytes (RunLine.Step step) rest
 step_begins bytes rest step begins = (begins.0, begins.1 ∙ ap (λ (t : List ℕ). t ++ 10 ∷ rest) (same_step step))
+
+-- an answer that is an error leaves the run as it was
+pub err_same : (end : Option RunRefusal) (after : Run) (wants : Bool) (old : Run) (why : RunEnd) (new : Run)
+    → Answers end after wants old (Err why) new → new ≡ old
+err_same end after wants old (RunEnd.Refused refusal) new answers = answers.1
+err_same end after wants old RunEnd.NoMemory new answers = answers.2

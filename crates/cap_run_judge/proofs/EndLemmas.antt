@@ -11,7 +11,6 @@ use Rattle.cap_run_judge.specs.declared.verdict.RunVerdict.{RunVerdict, TheVaria
 use Rattle.cap_run_judge.specs.Turns.{Due, Ended, Goes, Refused, Stage, unread}
 use Rattle.cap_run_judge.specs.{Judgings.IsVerdictOf, Verdicts.{IsBehind, IsFirstFault, Lacks, MayLackMemory, Refuses, RefusesCut}}
 use Rattle.cap_run_judge.specs.Readings.{VerdictAtEnd, VerdictWith, Faults, IsAtFault, RefusesNext, due_at_end, lines_by, lines_read, refused_at}
-use Rattle.cap_run_judge.proofs.GuardLemmas.{guarded_by, read_allowed}
 use Rattle.cap_run_judge.proofs.CountLemmas.{count_read, goes_clear}
 
 -- what is refused stays refused whatever follows
@@ -116,7 +115,6 @@ module _ (asks_are : Asks) (front rest : List ℕ) (stage : Stage) (goes : Goes 
           stage = stage;
           goes = all;
           ended = due;
-          guarded = guarded_by asks_are all.lines (read_allowed (unread asks_are) stage all.lines all.in_range all.reads);
           step_count_is = ends.1;
           root_count_is = ends.2;
           object_count_is = ends.3;

@@ -18,7 +18,8 @@ use Rattle.cap_run_judge.specs.declared.judges.Due.TheVariants as dues
 use Rattle.cap_run_judge.specs.Turns.{Body, Due, Goes, Reads, Refused, Stage, next_due, refusal_by, text_of, unread}
 use Rattle.cap_run_judge.specs.Readings.{VerdictAtEnd, VerdictWith, Faults, Follows, IsAtFault, IsUnmade, RefusesNext, StopsAt, Takes, due_at_end, due_of}
 use Rattle.cap_run_judge.specs.Verdicts.{IsRunVerdict, Lacks, Refuses}
-use Rattle.cap_run_judge.proofs.{CountLemmas.goes_clear, EndLemmas.{end_told, fault_told, refuses_next}, TurnLemmas.{body, body_answers, err_same, goes_on, line_is, one_goes}}
+use Rattle.cap_run_judge.proofs.{CountLemmas.goes_clear, EndLemmas.{end_told, fault_told, refuses_next}, TurnLemmas.{body, body_answers, goes_on, line_is, one_goes}}
+use Rattle.cap_run.proofs.StepTakingLemmas.{err_same}
 use Rattle.cap_run_judge.proofs.OneVerdict.{Stops, one_reading, refused_stops}
 
 -- no line follows a faulty one

@@ -1,6 +1,6 @@
 -- What is true along the lines of a run log that is read.
 use Rattle.std.specs.List.{AllByRecursion}
-use Rattle.std.proofs.Common.{◌≡◌, List, [], ◌∷◌, sym, subst, None, Some}
+use Rattle.std.proofs.Common.{◌≡◌, ℕ, List, [], ◌∷◌, sym, subst, None, Some}
 use Rattle.std.proofs.lemmas.Option.{none-some}
 use Rattle.cap_ops.specs.declared.refusal.Refusal.TheVariants.{BadHeader, BadMode, Misplaced}
 use Rattle.cap_run_log.specs.{declared.lines.RunLine.RunLine, RunLines.IsRunLineInRange}
@@ -8,8 +8,8 @@ use Rattle.cap_run.specs.{Allowed.{AreAllowed, IsLineAllowed}, declared.asks.Ask
 use Rattle.cap_run.specs.declared.ends.RunRefusal.TheVariants.{Usual}
 use Rattle.cap_run.specs.Run.{Run}
 use Rattle.cap_run.proofs.{ApartLemmas.safe_at_each, DescentLemmas.{allowed_by, lie_in_roots, stay_within_roots}, OneRootLemmas.descend_from_one, OwnedLemmas.accesses_own}
-use Rattle.cap_run_judge.specs.Turns.{Due, Reads, Stage, refusal_by, stage_after}
-use Rattle.cap_run_judge.specs.Verdicts.{IsRunGuarded}
+use Rattle.cap_run_judge.specs.Turns.{Due, Goes, Reads, Stage, refusal_by, stage_after, unread}
+use Rattle.cap_run_judge.specs.Verdicts.{AreGuarded, IsRunGuarded}
 
 -- a line that nothing refuses is allowed in the run
 line_allowed : (asks_are : Asks) (run_is : Run) (due : Due) (line : RunLine) → refusal_by asks_are run_is due (Some line) ≡ None
@@ -27,7 +27,7 @@ read_allowed from to [] range reads = tt
 read_allowed from to (line ∷ lines) range reads =
     (range.0, line_allowed from.asks from.run from.due line reads.0, read_allowed (stage_after from line) to lines range.1 reads.1)
 
-pub guarded_by : (asks : Asks) (lines : List RunLine) → AreAllowed asks no_run lines → IsRunGuarded asks lines
+guarded_by : (asks : Asks) (lines : List RunLine) → AreAllowed asks no_run lines → AreGuarded asks lines
 guarded_by asks lines allowed = record {
   roots = λ before after is. stay_within_roots asks before after (subst (AreAllowed asks no_run) is allowed);
   one_root = λ before after is. descend_from_one asks before after (subst (AreAllowed asks no_run) is allowed);
@@ -35,3 +35,6 @@ guarded_by asks lines allowed = record {
   objects = λ before after is. safe_at_each asks before after (subst (AreAllowed asks no_run) is allowed);
   owners = λ before after line is. accesses_own asks before after line (subst (AreAllowed asks no_run) is allowed);
 }
+
+pub run_guarded : (asks : Asks) (bytes : List ℕ) → IsRunGuarded asks bytes
+run_guarded asks bytes stage goes = guarded_by asks goes.lines (read_allowed (unread asks) stage goes.lines goes.in_range goes.reads)

@@ -1,8 +1,11 @@
-mod GuardLemmas
+pub mod GuardLemmas
 pub mod TurnLemmas
 pub mod CountLemmas
 pub mod EndLemmas
 pub mod FollowLemmas
+mod SomeVerdict
+mod ErasedLogs
+mod ChosenVerdicts
 mod SourceLemmas
 mod TextLemmas
 pub mod OneVerdict

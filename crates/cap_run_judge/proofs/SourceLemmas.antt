@@ -10,7 +10,7 @@ use Rattle.cap_run_judge.specs.Turns.{Goes, Stage, text_of, unread}
 use Rattle.cap_run_judge.specs.Verdicts.{IsRunVerdict, MayLackMemory, NoRunVerdictIn}
 use Rattle.cap_run_judge.specs.Judgings.{IsAnswerOf, IsVerdictOf, JudgedBy}
 use Rattle.cap_run_judge.specs.Readings.{AnswerAtEnd, VerdictAtEnd, VerdictWith, IsAnswered, lines_read}
-use Rattle.cap_run_judge.proofs.{CountLemmas.count_read, TurnLemmas.goes_on}
+use Rattle.cap_run_judge.proofs.{CountLemmas.count_read, GuardLemmas.run_guarded, TurnLemmas.goes_on}
 
 -- want of memory with more bytes after it
 lack-more : (asks_are : Asks) (bytes rest more : List ℕ) → MayLackMemory asks_are bytes rest → MayLackMemory asks_are (bytes ++ more) (rest ++ more)
@@ -79,7 +79,7 @@ module _ {S : Type 0} (asks_are : Asks) (gave : S → S → List ℕ → Type 0)
   verdict_judged answer verdict is ends gives =
       rw is
       (record {
-        judged = record { given = given; gives = gives; answer = record { verdict = ends.0; fault = tt } };
+        judged = record { given = given; gives = gives; answer = record { verdict = ends.0; guarded = run_guarded asks_are given; fault = tt } };
         stops = ends.1;
       })
 
@@ -87,7 +87,7 @@ module _ {S : Type 0} (asks_are : Asks) (gave : S → S → List ℕ → Type 0)
   pub lacking_judged : (more : List ℕ) → MayLackMemory asks_are given more → gave old new given
       → JudgedBy asks_are gave ended old new (Err JudgeFault.NoMemory) run_is text
   lacking_judged more lack gives = record {
-    judged = record { given = given; gives = gives; answer = record { verdict = tt; fault = (more, lack) } };
+    judged = record { given = given; gives = gives; answer = record { verdict = tt; guarded = run_guarded asks_are given; fault = (more, lack) } };
     stops = tt;
   }
 
@@ -100,6 +100,7 @@ module _ {S : Type 0} (asks_are : Asks) (gave : S → S → List ℕ → Type 0)
       gives = gives;
       answer = record {
         verdict = tt;
+        guarded = run_guarded asks_are given;
         fault = record { stage = stage; rest = rest; behind = record { front = taken; bytes_are = are; goes = goes }; cut = cut };
       };
     };

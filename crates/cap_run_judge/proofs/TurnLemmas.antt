@@ -148,12 +148,6 @@ body_answers asks_are old new line (Ok done) next answers = (answers.0, ap (body
 body_answers asks_are old new line (Err (RunEnd.Refused refusal)) next answers = (answers.0, ap (body asks_are) answers.1)
 body_answers asks_are old new line (Err RunEnd.NoMemory) next answers = ((answers.0, answers.1), ap (body asks_are) answers.2)
 
--- an answer that is an error leaves the run as it was
-pub err_same : (end : Option RunRefusal) (after : Run) (wants : Bool) (old : Run) (why : RunEnd) (new : Run)
-    → Answers end after wants old (Err why) new → new ≡ old
-err_same end after wants old (RunEnd.Refused refusal) new answers = answers.1
-err_same end after wants old RunEnd.NoMemory new answers = answers.2
-
 -- Fronts
 
 pub IsLine-run_spelling : (line : RunLine) → IsRunLineInRange line → (rest : List ℕ) → IsLine (run_spelling line ++ 10 ∷ rest) (run_spelling line) rest

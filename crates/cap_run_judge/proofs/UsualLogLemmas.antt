@@ -22,7 +22,7 @@ use Rattle.cap_run.proofs.UsualRunLemmas.{means_the_same}
 use Rattle.cap_run_judge.specs.declared.verdict.RunVerdict.{RunVerdict}
 use Rattle.cap_run_judge.specs.Turns.{Allows, Due, Goes, Stage, refusal_by, stage_after, text_of, unread}
 use Rattle.cap_run_judge.specs.{UsualLogs.{AreUsual, NamesNoLimit, as_run_verdict}, Verdicts.{IsRunVerdict, Refuses}}
-use Rattle.cap_run_judge.proofs.{GuardLemmas.{guarded_by, read_allowed}, OneVerdict.one_verdict, TurnLemmas.Reads-append}
+use Rattle.cap_run_judge.proofs.{OneVerdict.one_verdict, TurnLemmas.Reads-append}
 
 -- Bytes whose lines logs have, too
 
@@ -237,7 +237,6 @@ module _ (asks_are : Asks) (bytes run_bytes : List ℕ) where
             stage = stage_is;
             goes = all;
             ended = refl;
-            guarded = guarded_by asks_are all.lines (read_allowed (unread asks_are) stage_is all.lines all.in_range all.reads);
             step_count_is = omega (arith, counts.steps_are);
             root_count_is = omega (arith, counts.roots_are);
             object_count_is = refl;

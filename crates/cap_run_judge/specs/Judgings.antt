@@ -5,7 +5,7 @@ use Rattle.cap_streams.specs.Front.{IsCut}
 use Rattle.cap_judge.specs.Judgings.{IsLastFront}
 use Rattle.cap_run.specs.{declared.asks.Asks.Asks, Run.Run}
 use Rattle.cap_run_judge.specs.{declared.verdict.RunVerdict.{RunVerdict, TheVariants.{Yes, No}}, Turns.{Ended, Goes, Stage, unread}}
-use Rattle.cap_run_judge.specs.Verdicts.{IsBehind, IsFirstFault, IsRunVerdict, MayLackMemory}
+use Rattle.cap_run_judge.specs.Verdicts.{IsBehind, IsFirstFault, IsRunGuarded, IsRunVerdict, MayLackMemory}
 
 -- the verdict on these bytes, if their source has ended; otherwise a `no` that holds whatever bytes follow
 abbrev pub IsVerdictOf : Asks → List ℕ → Bool → RunVerdict → Type 0
@@ -50,6 +50,7 @@ NoVerdictOf asks bytes NoMemory = (more : List ℕ) × MayLackMemory asks bytes 
 -- what an answer says of the bytes given, and of whether their source has ended
 pub record IsAnswerOf (asks : Asks) (bytes : List ℕ) (ended : Bool) (result : Result RunVerdict JudgeFault) : Type 0 where
   pub verdict : IfOk result (IsVerdictOf asks bytes ended)
+  pub guarded : IsRunGuarded asks bytes
   pub fault : IfErr result (NoVerdictOf asks bytes)
 
 -- an answer is that of the bytes that the source gave in the call

@@ -7,3 +7,4 @@ pub mod OwnerLists
 pub mod Reports
 pub mod Readings
 pub mod Questions
+pub mod ChosenVerdicts

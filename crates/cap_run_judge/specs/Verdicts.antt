@@ -39,25 +39,28 @@ abbrev pub Refuses : Stage → List ℕ → RunRefusal → Type 0
 Refuses stage rest refusal =
     FrontIs rest (refusal ≡ long_refusal stage.due) (RefusesCut stage.due rest refusal) (λ text. RefusesWhole stage text refusal)
 
--- what is true along the lines of a run log
-pub record IsRunGuarded (asks : Asks) (lines : List RunLine) : Type 0 where
-  -- at every moment each tagged capability in a register, a special register or memory has bounds inside and permissions
+-- what is true along the lines of a run log, at every moment
+pub record AreGuarded (asks : Asks) (lines : List RunLine) : Type 0 where
+  -- each tagged capability in a register, a special register or memory has bounds inside and permissions
   -- among those of the one root that it descends from, and each access lies inside such a root
   pub roots : (before after : List RunLine) → lines ≡ before ++ after → StaysWithinRoots before
   pub one_root : (before after : List RunLine) → lines ≡ before ++ after → DescendsFromOne before
   pub accesses : (before after : List RunLine) (line : RunLine) → lines ≡ before ++ line ∷ after → LiesInRoot before line
-  -- at every moment what an object owns has bounds inside the object's extent, no address lies in the extents of two
-  -- objects, nor in what two capabilities of two objects reach, and an access through what an object owns touches no byte of
-  -- another
+  -- what an object owns has bounds inside the object's extent, no address lies in the extents of two objects, nor in what
+  -- two capabilities of two objects reach, and an access through what an object owns touches no byte of another: of two live
+  -- objects, if extents of freed objects aren't compared
   pub objects : (before after : List RunLine) → lines ≡ before ++ after → IsSafe asks.held (run_along before)
   pub owners : (before after : List RunLine) (line : RunLine) → lines ≡ before ++ line ∷ after → AccessesOwn asks (run_along before) line
+
+-- if the bytes are lines that begin a run log, they are guarded
+abbrev pub IsRunGuarded : Asks → List ℕ → Type 0
+IsRunGuarded asks bytes = (stage : Stage) (goes : Goes (unread asks) bytes stage) → AreGuarded asks goes.lines
 
 -- the bytes are a whole run log, with these counts of steps, roots and objects
 pub record IsRunYes (asks : Asks) (bytes : List ℕ) (step_count root_count object_count : ℕ) : Type 0 where
   pub stage : Stage
   pub goes : Goes (unread asks) bytes stage
   pub ended : stage.due ≡ Ended
-  pub guarded : IsRunGuarded asks goes.lines
   pub step_count_is : step_count ≡ stage.run.steps
   pub root_count_is : root_count ≡ stage.run.roots
   pub object_count_is : object_count ≡ stage.run.count

@@ -1,17 +1,44 @@
 //! Laws of run logs and their verdicts: functions that do nothing, and whose contracts are the laws.
 
-ghost use Rattle.std.specs.Prelude.{◌≡◌, ◌++◌, ℕ, Bool, List, [], codes, true};
+ghost use Rattle.std.specs.Prelude.{◌≡◌, ◌-◌, ◌++◌, ℕ, Bool, List, [], codes, true};
 ghost use Rattle.cap_streams.specs.Front.{IsCut};
 ghost use Rattle.cap_judge.specs.{Verdicts.IsVerdict, declared.verdict.Verdict.Verdict};
-ghost use Rattle.cap_run.specs.declared.asks.Asks.{Asks};
-ghost use Rattle.cap_run_judge.specs.{declared.verdict.RunVerdict.RunVerdict, Turns.{Goes, Stage, unread}};
+ghost use Rattle.cap_run.specs.{declared.asks.Asks.Asks, Descents.run_along, Erasure.{erased, object_lines}};
+ghost use Rattle.cap_run_judge.specs.{declared.verdict.RunVerdict.RunVerdict, Turns.{Goes, Stage, text_of, unread}};
 ghost use Rattle.cap_run_judge.specs.Readings.{VerdictAtEnd, VerdictWith, Faults};
-ghost use Rattle.cap_run_judge.specs.{UsualLogs.{AreUsual, NamesNoLimit, as_run_verdict}, Verdicts.{IsRunVerdict, Lacks, MayLackMemory}};
+ghost use Rattle.cap_run_judge.specs.{ChosenVerdicts.VerdictsByChoice, UsualLogs.{AreUsual, NamesNoLimit, as_run_verdict}, Verdicts.{IsRunGuarded, IsRunVerdict, IsRunYes, Lacks, MayLackMemory}};
+
+/// Whatever bytes are read, and whatever is asked: if they are lines that begin a run log, then along them, at every moment, each
+/// tagged capability has bounds inside and permissions among those of the one root that it descends from, and each access
+/// lies inside such a root. What an object owns stays inside its extent, and no address lies in the extents of two objects,
+/// or in what capabilities of two objects reach; without [`Asks::held`](cap_run::Asks::held), of two live objects.
+pub fn run_logs_are_guarded()
+    ensures law { (asks : Asks) (bytes : List ℕ) → IsRunGuarded asks bytes }
+{}
+
+/// All bytes have a verdict, whatever is asked: they are a run log, or there is a first faulty line.
+pub fn some_run_verdict()
+    ensures law { (asks : Asks) (bytes : List ℕ) → (verdict : RunVerdict) × IsRunVerdict asks bytes verdict }
+{}
 
 /// No bytes have two verdicts: a run log has one number of steps, one of roots and one of objects, and any other bytes
 /// have one faulty line, with one refusal.
 pub fn one_run_verdict()
     ensures law { (asks : Asks) (bytes : List ℕ) (a b : RunVerdict) → IsRunVerdict asks bytes a → IsRunVerdict asks bytes b → a ≡ b }
+{}
+
+/// A run log that is accepted is accepted without its `object` and `free` lines, its end line counting the steps that are
+/// left, whatever is asked. It leads to the same state of the machine.
+pub fn run_logs_are_accepted_without_objects()
+    ensures law { (asks other : Asks) (bytes : List ℕ) (steps roots objects : ℕ) (yes : IsRunYes asks bytes steps roots objects)
+        → IsRunYes other (text_of (erased yes.goes.lines)) (steps - object_lines yes.goes.lines) roots 0
+        × ((run_along (erased yes.goes.lines)).state ≡ yes.stage.run.state) }
+{}
+
+/// The verdict with a check that is asked for is that without it; or that check refuses a line, where without it no line is
+/// faulty, or a later one, or this one for a later check.
+pub fn verdicts_differ_by_choice()
+    ensures law { (asks : Asks) (bytes : List ℕ) → VerdictsByChoice asks bytes }
 {}
 
 /// A log of version 2 means the same as a run log: with the version line of runs in place of its own it has the same verdict, and

@@ -19,7 +19,10 @@ mod verdict_lines;
 
 pub use crate::faults::RefusedRunLine;
 pub use crate::judges::RunJudge;
-pub use crate::laws::{logs_are_run_logs, one_run_verdict, stages_are_of_run_logs};
+pub use crate::laws::{
+    logs_are_run_logs, one_run_verdict, run_logs_are_accepted_without_objects,
+    run_logs_are_guarded, some_run_verdict, stages_are_of_run_logs, verdicts_differ_by_choice,
+};
 pub use crate::output::{judge_run_to, push_run_report, push_run_verdict};
 pub use crate::owners::{object_text, owner_text, push_owners};
 pub use crate::streams::{

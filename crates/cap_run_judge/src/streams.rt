@@ -4,7 +4,7 @@ ghost use Rattle.std.specs.Prelude.{◌≡◌, ◌≤◌, ℕ, List, [], ◌++�
 ghost use Rattle.std.specs.FinMap as map;
 ghost use Rattle.cap_streams.specs.{declared.judging.judge_faults.JudgeFault.TheVariants.Pull, FaultLines.bytes_of};
 ghost use Rattle.cap_streams.specs.{ReadBuffers.items, Streams.CountsOnly};
-ghost use Rattle.cap_run_judge.specs.{Judgings.{Judged, JudgedBy}, Turns.unread, Verdicts.{IsRunVerdict, NoRunVerdictIn}};
+ghost use Rattle.cap_run_judge.specs.{Judgings.{Judged, JudgedBy}, Turns.unread, Verdicts.{IsRunGuarded, IsRunVerdict, NoRunVerdictIn}};
 ghost use Rattle.cap_run_judge.specs.Readings.{IsAnswered, StopsAt, lines_read, stage_of};
 ghost use Rattle.cap_run.specs.Machines.{run_in};
 
@@ -23,6 +23,9 @@ use tagmem::{PageStore, TaggedStore};
 /// [`Asks::held`], in what those of two live objects reach.
 pub fn judge_run_bytes(alloc: Global, asks: Asks, bytes: &[u8]) -> Result<RunVerdict, JudgeFault>
     ensures verdict { IfOk result (IsRunVerdict asks bytes.now) }
+
+    // Along lines that begin a run log, at every moment capabilities stay within their roots, and objects are safe.
+    ensures guarded { IsRunGuarded asks bytes.now }
 
     // There is no verdict only where a line that no check refuses names a granule for the first time, or an object.
     ensures fault { IfErr result (NoRunVerdictIn asks bytes.now) }

@@ -1,3 +1,4 @@
+pub mod DecidedRunLines
 mod ExchangeLemmas
 mod Operands
 mod PartLemmas

@@ -2,6 +2,8 @@
 use Rattle.std.proofs.Common.{inl, inr, ◌≡◌, ◌≢◌, ◌≤◌, ◌∙◌, ℕ, List, [], ◌++◌, ap, append_assoc, arith, drop}
 use Rattle.std.proofs.Common.{length, refl, subst, sym, take, take-append-drop, None, Option, Some}
 use Rattle.std.proofs.lemmas.Option.{none-some}
+use Rattle.cap_streams.specs.{FaultLines.bytes_of}
+use Rattle.cap_run_log.specs.RunLines.{run_spelling}
 use Rattle.cap_judge.specs.declared.judges.Stop.{Stop, TheVariants.{Cut, Fault, NoMemory}}
 use Rattle.cap_run.specs.declared.asks.Asks.{Asks}
 use Rattle.cap_run_judge.specs.{Questions.verdict_so_far, declared.verdict.RunVerdict.{RunVerdict, TheVariants.No}}
@@ -10,7 +12,7 @@ use Rattle.cap_run_judge.specs.Readings.{Follows, IsAtFault, StopsAt, VerdictAtE
 use Rattle.cap_run_judge.specs.Verdicts.{Lacks, MayLackMemory}
 use Rattle.cap_run_judge.proofs.FollowLemmas.{all_ends, clear_goes, fault_allows, fault_stays, faults_at, follows_on, never_faulty, no_stands, refused_in}
 use Rattle.cap_run_judge.proofs.FollowLemmas.{stop_follows}
-use Rattle.cap_run_judge.proofs.{CountLemmas.goes_clear, EndLemmas.lacks_memory, TurnLemmas.goes_on}
+use Rattle.cap_run_judge.proofs.{CountLemmas.goes_clear, EndLemmas.lacks_memory, TurnLemmas.{goes_on, line_is}}
 use Rattle.capcheck_judge.specs.declared.{answers.LinesTaken.LinesTaken, run_answers.RunAnswer.RunAnswer}
 use Rattle.capcheck_judge.specs.RunAnswers.{run_numbers_of}
 use Rattle.capcheck_judge.specs.RunHandles.{AnswersRunEnd, AnswersRunSoFar, StandingRun, StandsRun}
@@ -110,8 +112,12 @@ took_run_lines given held after old new answer is now takes =
       no_memory = λ three asks_are bytes holds.
           let stop = at NoMemory three in
           let same = append_assoc bytes front rest ∙ ap (λ (g : List ℕ). bytes ++ g) (take-append-drop answer.bytes given) in
-          let goes = lacking asks_are (bytes ++ front) rest (stage_of new) stop.1 (read asks_are bytes front holds (inl stop.0)) stop.2 in
-          (stop.1, subst (λ (b : List ℕ). MayLackMemory asks_are b stop.1) same goes);
+          let goes = lacking asks_are (bytes ++ front) rest (stage_of new) stop.1 (read asks_are bytes front holds (inl stop.0)) stop.2 in (
+            run_spelling stop.2.line,
+            stop.1,
+            line_is stop.2.line rest stop.1 stop.2.begins,
+            subst (λ (b : List ℕ). MayLackMemory asks_are b stop.1) same goes,
+          );
       no_judge = (λ four. absurd (omega (arith, state, few.0, four)), λ none. absurd (there held old is none));
       nothing = λ none. absurd (there held old is none);
       held = (λ none. absurd (there after new now none), λ none. absurd (there held old is none));

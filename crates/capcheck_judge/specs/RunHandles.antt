@@ -1,7 +1,7 @@
 -- What a handle of C holds that judges run logs, and what the calls on it answer (this profile's own, as are all below).
 use Rattle.std.specs.Prelude.{◌≡◌, ◌≢◌, ◌<◌, ◌≤◌, ◌↔◌, ℕ, length, drop, take, List, [], ◌∷◌, ◌++◌, Option, None, Some}
 use denote.RattleType.{RattleType}
-use Rattle.cap_streams.specs.Front.{IsCut}
+use Rattle.cap_streams.specs.Front.{IsCut, IsLine}
 use Rattle.tagmem.specs.contracts.page_store.{PageStore.the_row as store_row, PageStoreTaggedStore.TheImpl.ghosts}
 use Rattle.cap_run_log.specs.declared.lines.RunLine.{RunLine}
 use Rattle.cap_run_log.specs.RunLines.{IsRunLineInRange, run_spelling}
@@ -126,7 +126,7 @@ pub record HandsOverRunLines (given : List ℕ) (old new : HeldRunJudge) (answer
   pub faulty_before : answer.state ≡ 2 → (asks : Asks) (bytes : List ℕ) → HoldsRun old asks bytes → (BeginsRun asks bytes → ⊥)
       → answer.bytes ≡ 0
   pub no_memory : answer.state ≡ 3 → (asks : Asks) (bytes : List ℕ) → HoldsRun old asks bytes
-      → (more : List ℕ) × MayLackMemory asks (bytes ++ given) more
+      → (line : List ℕ) × (more : List ℕ) × IsLine (drop answer.bytes given) line more × MayLackMemory asks (bytes ++ given) more
   pub no_judge : (answer.state ≡ 4) ↔ (old ≡ None)
   pub nothing : old ≡ None → answer.bytes ≡ 0
   pub held : (new ≡ None) ↔ (old ≡ None)

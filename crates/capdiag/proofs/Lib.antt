@@ -1,4 +1,5 @@
 mod ComplaintLemmas
+mod FrontLemmas
 mod HeapLemmas
 mod RenderingLemmas
 mod RunLogLemmas

@@ -7,6 +7,7 @@ use Rattle.cap_run.specs.{declared.asks.Asks.Asks, Run.Run}
 use Rattle.cap_run_judge.specs.declared.verdict.RunVerdict.{RunVerdict, TheVariants.{Yes, No}}
 use Rattle.cap_judge.proofs.{TurnLaws.ended_front, TurnLemmas.front_more}
 use Rattle.cap_run_judge.specs.{Judgings.{IsAnswerOf, StopsBefore}, Reports.IsRunPushed, Turns.unread, VerdictLines.run_verdict_status, Verdicts.IsFirstFault}
+use Rattle.cap_run_judge.proofs.GuardLemmas.{run_guarded}
 use Rattle.cap_program.specs.{Doings.IsDone, Judging.{StopsJudging, judged}}
 use Rattle.capdiag.specs.Judgings.{ShowsRun, TellsAsked}
 
@@ -67,6 +68,7 @@ run_few (No line refusal) = omega arith
 pub nothing_answered : (asks : Asks) → IsAnswerOf asks [] true (Err JudgeFault.Pull)
 nothing_answered asks = record {
   verdict = tt;
+  guarded = run_guarded asks [];
   fault = record {
     stage = unread asks;
     rest = [];

@@ -1,6 +1,7 @@
 //! The first bytes of an input, which tell the kinds of logs apart.
 
-ghost use Rattle.std.specs.Prelude.{◌≡◌, ◌≤◌, IfOk};
+ghost use Rattle.std.specs.Prelude.{◌≡◌, ◌≤◌, ◌<◌, IfOk, length, take};
+ghost use Rattle.std.specs.Io.KnownBytes.{Consumes, IsAtEnd};
 ghost use Rattle.capdiag.specs.Hints.{order_on, other_kind};
 
 use crate::orders::{Judging, Order};
@@ -60,17 +61,19 @@ pub fn other_kind(order: Order<'_>, front: &[u8]) -> Option<LogKind>
     }
 }
 
-/// Reads the first bytes of an input into the buffer: how many there are, if the input ends before the buffer is full.
+/// Reads the first bytes of an input into the buffer, and answers how many there are: six, unless the input ends before.
 pub fn read_front<R: Read>(input: &mut R, front: &mut [u8; 6]) -> io::Result<usize>
     ensures fits { IfOk result (λ n. n ≤ 6) }
+    ensures read { IfOk result (λ n. Consumes (R.remaining input.old) (R.remaining input.new) (take n front.new)) }
+    ensures whole { IfOk result (λ n. n < 6 → IsAtEnd (R.remaining input.new)) }
 {
     let mut length = 0usize;
     for _ in 0..u64::MAX {
         if length >= 6 {
-            break;
+            return Ok(length);
         }
         match input.read(&mut front[length..]) {
-            Ok(0) => break,
+            Ok(0) => return Ok(length),
             Ok(count) => length += count,
             Err(error) => {
                 if error.kind() != ErrorKind::Interrupted {
@@ -79,5 +82,5 @@ pub fn read_front<R: Read>(input: &mut R, front: &mut [u8; 6]) -> io::Result<usi
             }
         }
     }
-    Ok(length)
+    Err(io::Error::from(ErrorKind::Interrupted))
 }

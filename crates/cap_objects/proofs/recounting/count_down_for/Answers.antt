@@ -6,7 +6,7 @@ pub returns-in-Some : goal.returns-in-Some
 returns-in-Some c =
     let told = counted-down c.args.objects.now.slots.objects.items c.in-Some.slot (objects_of c.count_down.new.self)
     (c.requires.from c.in-Some.slot c.in-Some.is) c.count_down.ensures.set in
-    record { moves = rw c.in-Some.is told.0; rest = told.1; same = c.count_down.ensures.rest }
+    record { moves = rw c.in-Some.is told.0; rest = told.1; same = c.count_down.ensures.rest; slots = c.count_down.ensures.slots }
 
 pub returns-in_default-clause-rest : goal.returns-in_default-clause-rest
 returns-in_default-clause-rest c = recounted-none c.args.objects.now.slots.objects.items

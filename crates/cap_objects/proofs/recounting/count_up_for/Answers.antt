@@ -6,7 +6,7 @@ pub returns-in-Some : goal.returns-in-Some
 returns-in-Some c =
     let told = counted-up c.args.objects.now.slots.objects.items c.in-Some.slot (objects_of c.count_up.new.self)
     (c.requires.to c.in-Some.slot c.in-Some.is) c.count_up.ensures.set in
-    record { moves = rw c.in-Some.is told.0; rest = told.1; same = c.count_up.ensures.rest }
+    record { moves = rw c.in-Some.is told.0; rest = told.1; same = c.count_up.ensures.rest; slots = c.count_up.ensures.slots }
 
 pub returns-in_default-clause-rest : goal.returns-in_default-clause-rest
 returns-in_default-clause-rest c = recounted-none c.args.objects.now.slots.objects.items

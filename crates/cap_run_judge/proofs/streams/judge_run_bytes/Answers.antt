@@ -1,6 +1,6 @@
 use Rattle.std.proofs.Common.{IfErr, IfOk, arith, rules}
 use Rattle.cap_run_judge.specs.Verdicts.{IsRunVerdict, NoRunVerdictIn}
-use Rattle.cap_run_judge.proofs.SourceLemmas.{of_all}
+use Rattle.cap_run_judge.proofs.{GuardLemmas.run_guarded, SourceLemmas.of_all}
 use Rattle.cap_run_judge.proofs.streams.judge_run_bytes.Goals as goal
 
 -- a slice counts no fault
@@ -13,4 +13,4 @@ both c =
     (λ e. let grew = c.judge_run.ensures.counted.1 e in omega (arith, grew))
 
 pub returns : goal.returns
-returns c = record { verdict = (both c).0; fault = (both c).1 }
+returns c = record { verdict = (both c).0; guarded = run_guarded c.args.asks c.args.bytes.now; fault = (both c).1 }

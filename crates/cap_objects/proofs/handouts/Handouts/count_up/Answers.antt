@@ -9,5 +9,5 @@ invariant_of-self c =
     let s = c.args.self.now in
     record {
       kept = kept-counted s.keeps s.count (objects_of s) (tree.get nat_cmp s.numbers) (tree.get nat_cmp s.bases) s.kept c.args.slot c.get-object.result
-          c.get-object.ensures (present_in c.set.new.self) (c.get-object.result.held + 1) c.set.ensures;
+          c.get-object.ensures (present_in c.set.new.self) (c.get-object.result.held + 1) c.set.ensures.set;
     }

@@ -10,5 +10,5 @@ invariant_of-self c =
     record {
       kept = kept-marked s.keeps s.count (objects_of s) (tree.get nat_cmp s.numbers) (tree.get nat_cmp s.bases) s.kept c.args.slot c.get-object.result
           c.get-object.ensures (present_in c.set.new.self) c.args.step (tree.get nat_cmp c.remove_freed.new.bases)
-          (rw c.get-object.ensures at c.requires) c.set.ensures c.remove_freed.ensures;
+          (rw c.get-object.ensures at c.requires) c.set.ensures.set c.remove_freed.ensures;
     }

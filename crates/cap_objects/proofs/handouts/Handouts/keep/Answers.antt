@@ -1,7 +1,7 @@
 use Rattle.std.specs.BTreeMap as tree
-use Rattle.std.proofs.Common.{nat_cmp, arith, rules}
+use Rattle.std.proofs.Common.{Some, nat_cmp, arith, rules}
 use Rattle.cap_objects.specs.{HandoutsIn.objects_of, SlotsIn.present_in}
-use Rattle.cap_objects.proofs.KeptLemmas.{kept-added, of_ok, unnumbered}
+use Rattle.cap_objects.proofs.KeptLemmas.{kept-added, kept-alike, of_err, of_ok, taken-out, unnumbered}
 use Rattle.cap_objects.proofs.handouts.Handouts.keep.Goals as goal
 
 pub insert_keys-requires : goal.insert_keys-requires
@@ -21,4 +21,16 @@ invariant_of-self-2 c =
           (present_in c.insert.new.self) c.args.object (tree.get nat_cmp c.insert_keys.new.numbers) (tree.get nat_cmp c.insert_keys.new.bases)
           c.in-Ok.ensures.ok.0 c.in-Ok.ensures.ok.1 c.requires.next.0 c.requires.next.1 c.requires.long c.requires.room
           (of_ok c.insert_keys.result (search rules) e.ok) (of_ok c.insert_keys.result (search rules) e.ok_base);
+    }
+
+pub invariant_of-self-then-is_err : goal.invariant_of-self-then-is_err
+invariant_of-self-then-is_err c =
+    let s = c.args.self.now in
+    let e = c.insert_keys.ensures in
+    record {
+      kept = kept-alike s.keeps s.count (objects_of s) (present_in c.remove.new.self) (tree.get nat_cmp s.numbers) (tree.get nat_cmp c.insert_keys.new.numbers)
+          (tree.get nat_cmp s.bases) (tree.get nat_cmp c.insert_keys.new.bases) s.kept
+          (taken-out c.in-Ok.slot (Some c.args.object) (objects_of s) (present_in c.insert.new.self) (present_in c.remove.new.self)
+          c.in-Ok.ensures.ok.0 c.in-Ok.ensures.ok.1 c.remove.ensures.set)
+          (of_err c.insert_keys.result (search rules) e.err) (of_err c.insert_keys.result (search rules) e.err_base);
     }

@@ -11,5 +11,5 @@ invariant_of-self c =
     record {
       kept = kept-gone s.keeps s.count (objects_of s) (tree.get nat_cmp s.numbers) (tree.get nat_cmp s.bases) s.kept c.args.slot c.get-object.result
           c.get-object.ensures (present_in c.remove.new.self) (tree.get nat_cmp c.remove_keys.new.numbers) (tree.get nat_cmp c.remove_keys.new.bases)
-          c.remove.ensures c.remove_keys.ensures.number c.remove_keys.ensures.base;
+          c.remove.ensures.set c.remove_keys.ensures.number c.remove_keys.ensures.base;
     }

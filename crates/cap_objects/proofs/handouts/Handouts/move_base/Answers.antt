@@ -22,7 +22,7 @@ invariant_of-self-2 c =
     record {
       kept = kept-moved s.keeps s.count (objects_of s) (tree.get nat_cmp s.numbers) (tree.get nat_cmp s.bases) s.kept c.args.slot o
           c.requires.was.0 (present_in c.set.new.self) c.args.wider bases c.requires.was.1 c.requires.wider.0
-          c.requires.wider.1 c.requires.room c.set.ensures
+          c.requires.wider.1 c.requires.room c.set.ensures.set
           (subst (λ (n : ℕ). Rekeys (tree.get nat_cmp s.bases) n (if o.long then Some o.base else None) (Some c.args.wider.base) bases) narrow
           (of_ok c.replace_key.result (search rules) c.replace_key.ensures.ok));
     }

@@ -4,7 +4,8 @@ use Rattle.cap_log.specs.declared.kinds.Step.{Step}
 use Rattle.cap_run.specs.{declared.{asks.Asks.Asks, ends.RunEnd.RunEnd}, Run.Run, RunChanges.usual_after, RunChecks.{Answers, usual_end, usual_wants}, StepLines.TakesAlone}
 use Rattle.cap_run_log.specs.{declared.lines.RunLine.RunLine, RunLines.run_spelling}
 use Rattle.cap_run_judge.specs.{Readings.{AnswersLine, EndsLine, Follows, due_of, stage_of}, Turns.{Body, Due, Stage}, Verdicts.Lacks}
-use Rattle.cap_run_judge.proofs.{FollowLemmas.{line_whole, ok_no_err, whole_taken}, TurnLemmas.{body, body_answers, err_same, line_is}}
+use Rattle.cap_run_judge.proofs.{FollowLemmas.{line_whole, ok_no_err, whole_taken}, TurnLemmas.{body, body_answers, line_is}}
+use Rattle.cap_run.proofs.StepTakingLemmas.{err_same}
 use Rattle.cap_run_judge.proofs.judges.RunJudge.take_line.Goals as goal
 use Rattle.cap_run.specs.Machines.{run_in}
 

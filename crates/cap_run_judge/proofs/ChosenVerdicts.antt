@@ -1,0 +1,190 @@
+-- The verdict with a check more is that without it, or the check refuses a line from which on one would be faulty.
+use Rattle.std.specs.List.{AllByRecursion}
+use Rattle.std.proofs.Common.{◌≡◌, ℕ, ◌+◌, ◌<◌, inl, inr, ◌⊎◌, true, false, List, [], ◌∷◌, ◌++◌, length, Option, Some, None, refl, sym, ap, subst, ◌∙◌, append_assoc, append-nil, arith, length-append}
+use Rattle.std.proofs.lemmas.Grind.{flat_map-append}
+use Rattle.cap_log.proofs.ElementLemmas.{AllByRecursion-append}
+use Rattle.cap_run_log.specs.{declared.lines.RunLine.RunLine, RunLines.{IsRunLineInRange, run_spelling}}
+use Rattle.cap_run.specs.declared.{asks.Asks.Asks, ends.RunRefusal.RunRefusal}
+use Rattle.cap_run.specs.{Choices.{EndsEarlier, IsAfterHeld, IsAfterOwned, IsAfterUsed}, Run.Run, RunChanges.line_after, RunChecks.line_end}
+use Rattle.cap_run.proofs.ChoiceLemmas.{by_choice}
+use Rattle.cap_run_judge.specs.declared.verdict.RunVerdict.{RunVerdict, TheVariants.{Yes, No}}
+use Rattle.cap_run_judge.specs.Turns.{Body, Due, First, Goes, Reads, Second, Stage, refusal_by, stage_after, text_of, unread}
+use Rattle.cap_run_judge.specs.Verdicts.{IsBehind, IsFirstFault, IsRunVerdict, Refuses}
+use Rattle.cap_run_judge.specs.ChosenVerdicts.{IsFaultyEarlier, VerdictsByChoice}
+use Rattle.cap_run_judge.proofs.{OneVerdict.one_verdict, TurnLemmas.IsLine-run_spelling}
+
+module _ (less more : Asks) (why : RunRefusal) (IsAfter : Option RunRefusal → Type 0)
+    (ends : (run : Run) (line : RunLine) → EndsEarlier why IsAfter (line_end less run line) (line_end more run line)) where
+  -- a line, or bytes that no line spells, by both choices
+  by_both : (run_is : Run) (due : Due) (line : Option RunLine)
+      → EndsEarlier why IsAfter (refusal_by less run_is due line) (refusal_by more run_is due line)
+  by_both run_is First (Some RunLine.Version) = inl refl
+  by_both run_is First line = inl refl
+  by_both run_is Second (Some (RunLine.Mode mode)) = inl refl
+  by_both run_is Second line = inl refl
+  by_both run_is Body (Some line) = ends run_is line
+  by_both run_is Body None = inl refl
+  by_both run_is due line = inl refl
+
+  abbrev asked_more : Stage → Stage
+  asked_more stage = record stage { asks = more }
+
+  -- of lines that are allowed, one is refused by the check
+  record Refused (from : Stage) (read : List RunLine) : Type 0 where
+    front : List RunLine
+    line : RunLine
+    back : List RunLine
+    lines_are : read ≡ front ++ line ∷ back
+    stage : Stage
+    reads : Reads (asked_more from) front stage
+    in_range : AllByRecursion IsRunLineInRange front
+    line_in_range : IsRunLineInRange line
+    refused : refusal_by stage.asks stage.run stage.due (Some line) ≡ Some why
+
+  later : (from : Stage) (line : RunLine) (rest : List RunLine) → IsRunLineInRange line
+      → refusal_by more from.run from.due (Some line) ≡ None → Refused (stage_after from line) rest → Refused from (line ∷ rest)
+  later from line rest range allowed it = record {
+    front = line ∷ it.front;
+    line = it.line;
+    back = it.back;
+    lines_are = ap (λ (ls : List RunLine). line ∷ ls) it.lines_are;
+    stage = it.stage;
+    reads = (allowed, it.reads);
+    in_range = (range, it.in_range);
+    line_in_range = it.line_in_range;
+    refused = it.refused;
+  }
+
+  abbrev Walk : Stage → Stage → List RunLine → Type 0
+  Walk from to read = Reads (asked_more from) read (asked_more to) ⊎ Refused from read
+
+  one_more : (from to : Stage) (line : RunLine) (rest : List RunLine) → IsRunLineInRange line
+      → refusal_by more from.run from.due (Some line) ≡ None → Walk (stage_after from line) to rest → Walk from to (line ∷ rest)
+  one_more from to line rest range allowed (inl reads) = inl (allowed, reads)
+  one_more from to line rest range allowed (inr it) = inr (later from line rest range allowed it)
+
+  first_line : (from to : Stage) (line : RunLine) (rest : List RunLine) → IsRunLineInRange line
+      → refusal_by less from.run from.due (Some line) ≡ None → Walk (stage_after from line) to rest
+      → EndsEarlier why IsAfter (refusal_by less from.run from.due (Some line)) (refusal_by more from.run from.due (Some line))
+      → Walk from to (line ∷ rest)
+  first_line from to line rest range free on (inl same) = one_more from to line rest range (same ∙ free) on
+  first_line from to line rest range free on (inr refused) = inr (record {
+    front = [];
+    line = line;
+    back = rest;
+    lines_are = refl;
+    stage = asked_more from;
+    reads = refl;
+    in_range = tt;
+    line_in_range = range;
+    refused = refused.0;
+  })
+
+  walk : (from to : Stage) (read : List RunLine) → from.asks ≡ less → AllByRecursion IsRunLineInRange read → Reads from read to → Walk from to read
+  walk from to [] asks_are range reads = inl (ap asked_more reads)
+  walk from to (line ∷ rest) asks_are range reads =
+      first_line from to line rest range.0
+      (subst (λ (a : Asks). refusal_by a from.run from.due (Some line) ≡ None) asks_are reads.0)
+      (walk (stage_after from line) to rest asks_are range.1 reads.1) (by_both from.run from.due (Some line))
+
+  module _ (bytes : List ℕ) where
+    abbrev Answer : RunVerdict → Type 0
+    Answer one = (two : RunVerdict) × IsRunVerdict more bytes two × IsFaultyEarlier why IsAfter one two
+
+    -- the check refuses a line of those that are allowed without it
+    fault_at : (read : List RunLine) (rest : List ℕ) → bytes ≡ text_of read ++ rest → (it : Refused (unread less) read)
+        → IsFirstFault more bytes (length it.front + 1) why
+    fault_at read rest are it =
+        let behind = text_of it.back ++ rest in
+        let text = run_spelling it.line in
+        let split : text_of read ≡ text_of it.front ++ ((text ++ 10 ∷ []) ++ text_of it.back) =
+        ap text_of it.lines_are ∙ flat_map-append (λ (l : RunLine). run_spelling l ++ 10 ∷ []) it.front (it.line ∷ it.back) in
+        record {
+          stage = it.stage;
+          rest = text ++ 10 ∷ behind;
+          behind = record {
+            front = text_of it.front;
+            bytes_are = are ∙ ap (λ (t : List ℕ). t ++ rest) split ∙ simp (append_assoc);
+            goes = record { lines = it.front; in_range = it.in_range; bytes_are = refl; reads = it.reads };
+          };
+          number_is = refl;
+          refused = inr (inr (text, behind, IsLine-run_spelling it.line it.line_in_range behind, (Some it.line, (it.line_in_range, refl), it.refused)));
+        }
+
+    -- what is refused without the check is refused with it
+    refused_too : (stage : Stage) (rest : List ℕ) (refusal : RunRefusal) → stage.asks ≡ less → Refuses stage rest refusal
+        → Refuses (asked_more stage) rest refusal ⊎ (Refuses (asked_more stage) rest why × IsAfter (Some refusal))
+    refused_too stage rest refusal asks_are (inl long) = inl (inl long)
+    refused_too stage rest refusal asks_are (inr (inl cut)) = inl (inr (inl cut))
+    refused_too stage rest refusal asks_are (inr (inr (text, behind, one, (line, reads, is)))) =
+        let was = subst (λ (a : Asks). refusal_by a stage.run stage.due line ≡ Some refusal) asks_are is in
+        elim (by_both stage.run stage.due line) [
+          | inl same ↦ inl (inr (inr (text, behind, one, (line, reads, same ∙ was))))
+          | inr it ↦ inr (inr (inr (text, behind, one, (line, reads, it.0))), subst IsAfter was it.1)
+        ]
+
+    asks_of : (from to : Stage) (read : List RunLine) → Reads from read to → to.asks ≡ from.asks
+    asks_of from to [] reads = ap (λ (s : Stage). s.asks) (sym reads)
+    asks_of from to (line ∷ rest) reads = asks_of (stage_after from line) to rest reads.1
+
+    answer : (one : RunVerdict) → IsRunVerdict less bytes one → Answer one
+    answer (Yes steps roots objects) is = elim (walk (unread less) is.stage is.goes.lines refl is.goes.in_range is.goes.reads) [
+      | inl reads ↦ (
+        Yes steps roots objects,
+        record {
+          stage = asked_more is.stage;
+          goes = record { lines = is.goes.lines; in_range = is.goes.in_range; bytes_are = is.goes.bytes_are; reads = reads };
+          ended = is.ended;
+          step_count_is = is.step_count_is;
+          root_count_is = is.root_count_is;
+          object_count_is = is.object_count_is;
+        },
+        inl refl,
+      )
+      | inr it ↦ (
+        No (length it.front + 1) why,
+        fault_at is.goes.lines [] (is.goes.bytes_are ∙ simp (append-nil)) it,
+        inr (length it.front + 1, refl, tt),
+      )
+    ]
+    answer (No line refusal) is =
+        let goes = is.behind.goes in
+        let are = is.behind.bytes_are ∙ ap (λ (t : List ℕ). t ++ is.rest) goes.bytes_are in
+        elim (walk (unread less) is.stage goes.lines refl goes.in_range goes.reads) [
+          | inl reads ↦
+              let behind : IsBehind more bytes (asked_more is.stage) is.rest =
+              record {
+                front = is.behind.front;
+                bytes_are = is.behind.bytes_are;
+                goes = record { lines = goes.lines; in_range = goes.in_range; bytes_are = goes.bytes_are; reads = reads };
+              } in
+              elim (refused_too is.stage is.rest refusal (asks_of (unread less) is.stage goes.lines goes.reads) is.refused) [
+                | inl same ↦ (
+                  No line refusal,
+                  record { stage = asked_more is.stage; rest = is.rest; behind = behind; number_is = is.number_is; refused = same },
+                  inl refl,
+                )
+                | inr it ↦ (
+                  No line why,
+                  record { stage = asked_more is.stage; rest = is.rest; behind = behind; number_is = is.number_is; refused = it.0 },
+                  inr (line, refl, inr (refl, it.1)),
+                )
+              ]
+          | inr it ↦ (
+            No (length it.front + 1) why,
+            fault_at goes.lines is.rest are it,
+            inr (length it.front + 1, refl, inl (omega (arith, is.number_is, ap length it.lines_are, length-append it.front (it.line ∷ it.back)))),
+          )
+        ]
+
+    differs : (one two : RunVerdict) → IsRunVerdict less bytes one → IsRunVerdict more bytes two → IsFaultyEarlier why IsAfter one two
+    differs one two is_one is_two =
+        let found = answer one is_one in
+        subst (IsFaultyEarlier why IsAfter one) (one_verdict more bytes found.0 two found.1 is_two) found.2
+
+pub verdicts_by_choice : (asks_are : Asks) (bytes : List ℕ) → VerdictsByChoice asks_are bytes
+verdicts_by_choice asks_are bytes = record {
+  held = differs _ _ _ IsAfterHeld (λ run_is line. (by_choice asks_are run_is line).held) bytes;
+  used = differs _ _ _ (IsAfterUsed asks_are) (λ run_is line. (by_choice asks_are run_is line).used) bytes;
+  owned = differs _ _ _ IsAfterOwned (λ run_is line. (by_choice asks_are run_is line).owned) bytes;
+}
