@@ -312,9 +312,7 @@ impl<M: TaggedStore> RunJudge<M> {
         ensures { result ≡ long_refusal (stage_of self.now).due }
     {
         match self.due {
-            Due::First | Due::Second | Due::Body => usual(
-                Refusal::LineTooLong,
-            ),
+            Due::First | Due::Second | Due::Body => usual(Refusal::LineTooLong),
             Due::Ended | Due::Refused(_) => usual(Refusal::Misplaced),
         }
     }
@@ -353,9 +351,7 @@ impl<M: TaggedStore> RunJudge<M> {
                 _ => Err(RunEnd::Refused(usual(Refusal::BadMode))),
             },
             Due::Body => self.follow_body(line),
-            Due::Ended | Due::Refused(_) => {
-                Err(RunEnd::Refused(usual(Refusal::Misplaced)))
-            }
+            Due::Ended | Due::Refused(_) => { Err(RunEnd::Refused(usual(Refusal::Misplaced))) }
         }
     }
 
