@@ -17,6 +17,7 @@ from xml.sax.saxutils import escape, quoteattr
 
 from . import heaps, judges, runs
 
+_NUMBERS = ("size", "changed", "line")  # The fields of a result that are.
 _WAITING = 64  # So many logs for each job are begun at most.
 _AN_ANNOTATION_ENDS = str.maketrans({"%": "%25", "\r": "%0D", "\n": "%0A"})
 
@@ -101,7 +102,7 @@ def read_results(file: str) -> list[Result]:
     else:
         rows = (json.loads(line) for line in whole)
     try:
-        return [Result(**{name: int(row[name]) if kind == "int" else row[name] for name, kind in Result.__annotations__.items()}) for row in rows]
+        return [Result(**{name: int(row[name]) if name in _NUMBERS else row[name] for name in Result._fields}) for row in rows]
     except (ValueError, KeyError, TypeError):
         raise ValueError(f"{file} isn't a file of results") from None
 
