@@ -1,5 +1,5 @@
 -- Lines of steps of version 2 that are taken one after another.
-use Rattle.std.proofs.Common.{◌≡◌, ◌+◌, ◌<◌, ℕ, List, [], ◌∷◌, ◌++◌, length, length-append, arith, Bool, Option, None, Result, Err, refl, sym, ap, subst, ◌∙◌, append-nil, append_assoc}
+use Rattle.std.proofs.Common.{◌≡◌, ◌<◌, ℕ, List, [], ◌∷◌, ◌++◌, length, length-append, arith, Bool, Option, None, Err, refl, sym, ap, subst, ◌∙◌, append-nil, append_assoc}
 use Rattle.std.proofs.lemmas.{Grind.flat_map-append}
 use Rattle.cap_log.specs.{declared.{kinds.Step.Step, lines.Line.Line}, Lines.{IsInRange, IsStepInRange, spelling}, Parts.Begins}
 use Rattle.cap_log.proofs.ElementLemmas.{AllByRecursion-append}

@@ -1,14 +1,13 @@
 -- The verdict with a check more is that without it, or the check refuses a line from which on one would be faulty.
 use Rattle.std.specs.List.{AllByRecursion}
-use Rattle.std.proofs.Common.{◌≡◌, ℕ, ◌+◌, ◌<◌, inl, inr, ◌⊎◌, true, false, List, [], ◌∷◌, ◌++◌, length, Option, Some, None, refl, sym, ap, subst, ◌∙◌, append_assoc, append-nil, arith, length-append}
+use Rattle.std.proofs.Common.{◌≡◌, ℕ, ◌+◌, inl, inr, ◌⊎◌, List, [], ◌∷◌, ◌++◌, length, Option, Some, None, refl, sym, ap, subst, ◌∙◌, append_assoc, append-nil, arith, length-append}
 use Rattle.std.proofs.lemmas.Grind.{flat_map-append}
-use Rattle.cap_log.proofs.ElementLemmas.{AllByRecursion-append}
 use Rattle.cap_run_log.specs.{declared.lines.RunLine.RunLine, RunLines.{IsRunLineInRange, run_spelling}}
 use Rattle.cap_run.specs.declared.{asks.Asks.Asks, ends.RunRefusal.RunRefusal}
-use Rattle.cap_run.specs.{Choices.{EndsEarlier, IsAfterHeld, IsAfterOwned, IsAfterUsed}, Run.Run, RunChanges.line_after, RunChecks.line_end}
+use Rattle.cap_run.specs.{Choices.{EndsEarlier, IsAfterHeld, IsAfterOwned, IsAfterUsed}, Run.Run, RunChecks.line_end}
 use Rattle.cap_run.proofs.ChoiceLemmas.{by_choice}
 use Rattle.cap_run_judge.specs.declared.verdict.RunVerdict.{RunVerdict, TheVariants.{Yes, No}}
-use Rattle.cap_run_judge.specs.Turns.{Body, Due, First, Goes, Reads, Second, Stage, refusal_by, stage_after, text_of, unread}
+use Rattle.cap_run_judge.specs.Turns.{Body, Due, First, Reads, Second, Stage, refusal_by, stage_after, text_of, unread}
 use Rattle.cap_run_judge.specs.Verdicts.{IsBehind, IsFirstFault, IsRunVerdict, Refuses}
 use Rattle.cap_run_judge.specs.ChosenVerdicts.{IsFaultyEarlier, VerdictsByChoice}
 use Rattle.cap_run_judge.proofs.{OneVerdict.one_verdict, TurnLemmas.IsLine-run_spelling}

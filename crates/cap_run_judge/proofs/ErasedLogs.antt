@@ -1,13 +1,13 @@
 -- A run log is accepted without its lines of objects, whatever is asked.
 use Rattle.std.specs.List.{AllByRecursion}
-use Rattle.std.proofs.Common.{◌≡◌, ℕ, ◌+◌, ◌-◌, Bool, true, false, if◌then◌else◌, List, [], ◌∷◌, Option, Some, None, refl, sym, ap, subst, ◌∙◌, arith}
+use Rattle.std.proofs.Common.{◌≡◌, ℕ, ◌+◌, ◌-◌, Bool, true, false, if◌then◌else◌, List, [], ◌∷◌, Some, None, refl, sym, ap, subst, ◌∙◌}
 use Rattle.std.proofs.lemmas.Option.{none-some}
 use Rattle.cap_ops.specs.declared.refusal.Refusal.TheVariants.{BadHeader, BadMode, Misplaced}
 use Rattle.cap_run_log.specs.declared.lines.RunLine.{RunLine}
 use Rattle.cap_run_log.specs.declared.lines.RunLine.TheVariants as lines
 use Rattle.cap_run_log.specs.declared.lines.RunStep.{RunStep}
 use Rattle.cap_run_log.specs.RunLines.{IsRunLineInRange}
-use Rattle.cap_run.specs.declared.{asks.Asks.Asks, ends.RunRefusal.{RunRefusal, TheVariants.Usual}}
+use Rattle.cap_run.specs.declared.{asks.Asks.Asks, ends.RunRefusal.{TheVariants.Usual}}
 use Rattle.cap_run.specs.{Allowed.{AreAllowed, IsLineAllowed}, Descents.run_along, Erasure.{erased, erased_after, is_of_objects, object_lines}}
 use Rattle.cap_run.specs.{Run.Run, RunChanges.{line_after, no_run, run_after}, RunChecks.line_end}
 use Rattle.cap_run.proofs.{DescentLemmas.{along, along-fold}, ErasureLemmas.erased_allowed}

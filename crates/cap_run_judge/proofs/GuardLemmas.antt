@@ -8,7 +8,7 @@ use Rattle.cap_run.specs.{Allowed.{AreAllowed, IsLineAllowed}, declared.asks.Ask
 use Rattle.cap_run.specs.declared.ends.RunRefusal.TheVariants.{Usual}
 use Rattle.cap_run.specs.Run.{Run}
 use Rattle.cap_run.proofs.{ApartLemmas.safe_at_each, DescentLemmas.{allowed_by, lie_in_roots, stay_within_roots}, OneRootLemmas.descend_from_one, OwnedLemmas.accesses_own}
-use Rattle.cap_run_judge.specs.Turns.{Due, Goes, Reads, Stage, refusal_by, stage_after, unread}
+use Rattle.cap_run_judge.specs.Turns.{Due, Reads, Stage, refusal_by, stage_after, unread}
 use Rattle.cap_run_judge.specs.Verdicts.{AreGuarded, IsRunGuarded}
 
 -- a line that nothing refuses is allowed in the run

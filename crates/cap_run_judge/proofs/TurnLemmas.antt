@@ -1,6 +1,6 @@
 -- What lines lead to, and where a judge of run logs stops.
 use Rattle.std.proofs.Common.{◌≡◌, ◌≢◌, ◌<◌, ◌≤◌, ℕ, ◌+◌, ◌-◌, arith, inl, inr, false, List, [], ◌∷◌, ◌++◌, length, take, drop}
-use Rattle.std.proofs.Common.{refl, sym, ap, subst, ◌∙◌, map, append-nil, append_assoc, length-append, Bool, Option, None, Some, Result, Ok, Err}
+use Rattle.std.proofs.Common.{refl, sym, ap, subst, ◌∙◌, map, append-nil, append_assoc, length-append, None, Some, Result, Ok, Err}
 use Rattle.std.proofs.lemmas.{Grind.flat_map-append}
 use Rattle.std.specs.List.{AllByRecursion}
 use Rattle.cap_log.specs.{declared.kinds.Step.Step, Lines.IsStepInRange, Parts.Begins}

@@ -8,8 +8,7 @@ use Rattle.cap_judge.specs.declared.judges.Stop.TheVariants as stops
 use Rattle.cap_run_log.specs.declared.lines.RunLine.{RunLine}
 use Rattle.cap_run.specs.declared.{asks.Asks.Asks, ends.{RunEnd.RunEnd, RunRefusal.{RunRefusal, TheVariants.Usual}}}
 use Rattle.cap_run.specs.declared.ends.RunEnd.TheVariants as ends
-use Rattle.cap_run.specs.{Numbers.numbered_run, Run.Run, RunChecks.line_wants}
-use Rattle.cap_run.specs.declared.run_machine.RunMachine.{RunMachine}
+use Rattle.cap_run.specs.{Run.Run, RunChecks.line_wants}
 use Rattle.cap_run_judge.specs.declared.faults.RefusedRunLine as faults
 use Rattle.cap_run_judge.specs.declared.judges.{RunJudge.RunJudge}
 use Rattle.cap_run_judge.specs.declared.judges.Due as code

@@ -1,5 +1,5 @@
 -- Whether bytes spell a line of a run log is decided.
-use Rattle.std.proofs.Common.{◌≡◌, ℕ, zero, suc, ◌+◌, ◌<◌, ◌≤◌, ◌^◌, ◌⊎◌, inl, inr, arith, bytes_eq, List}
+use Rattle.std.proofs.Common.{◌≡◌, ℕ, zero, suc, ◌^◌, ◌⊎◌, inl, inr, arith, bytes_eq, List}
 use Rattle.std.proofs.lemmas.{Slice.Eq.bytes_eq-Decides}
 use Rattle.cap_word.specs.declared.word.{Cap.Cap, Word.Word}
 use Rattle.cap_log.specs.{declared.lines.Line.Line, Lines.{IsRegister, IsTarget, IsWord, Spells}, Ranges.IsRegisterFrom}
