@@ -16,8 +16,8 @@ pub run_done : (asks : Asks) (owners why : Bool) (given : List ℕ) (ended : Boo
     → IsRunPushed asks (TellsAsked asks owners why given ended) given ended took answer
     → IsDone (ShowsRun asks owners why given ended) (StopsJudging (IsAnswerOf asks given true)) took (judged run_verdict_status answer)
 run_done asks owners why given ended took (Ok verdict) p = (p.1, (verdict, p.0, p.2, refl), p.3)
-run_done asks owners why given ended took (Err Pull) p = (record { verdict = tt; fault = p.0.fault }, p.1)
-run_done asks owners why given ended took (Err NoMemory) p = (record { verdict = tt; fault = p.0.fault }, p.1)
+run_done asks owners why given ended took (Err Pull) p = (record { verdict = tt; guarded = run_guarded asks given; fault = p.0.fault }, p.1)
+run_done asks owners why given ended took (Err NoMemory) p = (record { verdict = tt; guarded = run_guarded asks given; fault = p.0.fault }, p.1)
 run_done asks owners why given ended took (Err Push) p = (p.2, run_verdict_status p.0, (p.0, p.1, p.3, refl), p.4, p.5)
 
 -- where a judge stopped in the bytes given, whatever follows them, it stopped in all bytes
@@ -42,11 +42,11 @@ no_known : (asks : Asks) (owners why : Bool) (known given rest : List ℕ) (verd
     → IsAnswerOf asks known true (Ok verdict) × TellsAsked asks owners why known true verdict text
 no_known asks owners why known given rest (Yes steps roots objects) text are answer tells = absurd answer.verdict
 no_known asks owners true known given rest (No line refusal) text are answer tells = (
-  record { verdict = subst (λ (bytes : List ℕ). IsFirstFault asks bytes line refusal) (sym are) (answer.verdict rest); fault = tt },
+  record { verdict = subst (λ (bytes : List ℕ). IsFirstFault asks bytes line refusal) (sym are) (answer.verdict rest); guarded = run_guarded asks known; fault = tt },
   (tells.0, tells.1, stops_known asks known given rest tells.0 line tells.1 are tells.2, tells.3, tells.4, tells.5),
 )
 no_known asks owners false known given rest (No line refusal) text are answer tells = (
-  record { verdict = subst (λ (bytes : List ℕ). IsFirstFault asks bytes line refusal) (sym are) (answer.verdict rest); fault = tt },
+  record { verdict = subst (λ (bytes : List ℕ). IsFirstFault asks bytes line refusal) (sym are) (answer.verdict rest); guarded = run_guarded asks known; fault = tt },
   (tells.0, tt, tells.2),
 )
 
