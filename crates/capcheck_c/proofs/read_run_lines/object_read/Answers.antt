@@ -3,7 +3,7 @@ use Rattle.capcheck_c.proofs.read_run_lines.object_read.Goals as goal
 
 pub returns-clause-read : goal.returns-clause-read
 returns-clause-read c =
-    let read = c.numbered.ensures.read in
+    let read = c.number_line.ensures.read in
     let of = read.0 in (
       record {
         kind_is = of.kind_is;
