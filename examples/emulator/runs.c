@@ -480,7 +480,8 @@ static void asked(void) {
 /* One allocation fails and all later ones, each in turn, while lines are handed over at once: they are taken up to a line
  * that wants memory, and no fault is told. With memory again the others get the verdict. A closed judge holds no memory. */
 static void refused_in_turn(void) {
-    static const char rest[] = "sc c2 c1 16\nstore c1 1024 1 12\nload c1 1024 1 = 12\nload c1 1024 1 = 13\n";
+    static const char rest[] = "sc c2 c1 16\nsetaddr c3 c1 0000000010000000 = 1 ffff1ffffc0180040000000010000000\n"
+                               "store c3 0 1 12\nload c3 0 1 = 12\nload c3 0 1 = 13\n";
     char lines[600];
     long turn = 0;
     bool is_refused = true, stops[3] = {false, false, false};
@@ -504,10 +505,10 @@ static void refused_in_turn(void) {
             stops[1] = stops[1] || stop == stored;
             stops[2] = stops[2] || stop == named;
             taken = capcheck_run_judge_lines(&judge, stop, strlen(stop));
-            EXPECT(stop + taken.bytes == strstr(lines, "load c1 1024 1 = 13"));
+            EXPECT(stop + taken.bytes == strstr(lines, "load c3 0 1 = 13"));
         }
         answer = capcheck_run_judge_answer(&judge);
-        EXPECT(taken.state == CAPCHECK_NO && answer.line == 10 && answer.refusal == CAPCHECK_WRONG_RESULT);
+        EXPECT(taken.state == CAPCHECK_NO && answer.line == 11 && answer.refusal == CAPCHECK_WRONG_RESULT);
         capcheck_run_judge_close(&judge);
         EXPECT(blocks == 0 && bytes == 0);
     }
