@@ -65,7 +65,7 @@ static void give(void *block) {
 
 /* ---- The log ---- */
 
-enum { OBJECTS = 40, MOST = 1 << 16, AREA = 0x100000, PAGES = 0x200000 };
+enum { OBJECTS = 16, MOST = 1 << 16, AREA = 0x100000, PAGES = 0x200000 };
 
 static char log_text[MOST];
 static size_t log_length;
@@ -234,9 +234,8 @@ static long line_after_line(way pass, capcheck_run_judge *judge, capcheck_run_ju
         EXPECT(state == CAPCHECK_GOES_ON);
         follow(other, line, length);
         at += length;
-        if (memcmp(line, "object", 6) == 0)
-            EXPECT(alike(judge, other));
     }
+    EXPECT(alike(judge, other));
     return count;
 }
 
