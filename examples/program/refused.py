@@ -118,7 +118,7 @@ def each_run(room):
     for words in (["run", "--owners", "other", "log"], ["run", "--why", "log", "other"], ["why", "--context", "2", "other", "log"]):
         wanted, told = room.run(words, program="capdiag")[0], room.run(words[:-1], program="capdiag")[0][1]
         name = f"file {words[-2]}\n".encode()
-        first = next(text for text in (told, told.replace(b"\n", b"\n" + name, 1)) if wanted[1].startswith(text))
+        first = next(text for text in (told.replace(b"\n", b"\n" + name, 1), told) if wanted[1].startswith(text))
         room.each(words, wanted, "capdiag", spare=True, before=(b"", first))
 
 

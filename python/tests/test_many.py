@@ -14,7 +14,7 @@ from capcheck import many
 EXAMPLES = Path(__file__).parents[2] / "examples"
 RUN = "run 1\nmode clear\nroot c1 ffff1ffffc0180040000000000000000\n"
 LOGS = {"a.log": (EXAMPLES / "moves.log").read_text(), "b.log": (EXAMPLES / "escaped_bound.log").read_text(), "in/c.log": f"{RUN}free c1\nend 1\n",
-        "in/d.log": f"{RUN}end 0\n", "in/e.log": "heap 1\nroot 0000000000010000 00000000000020000\n", "notes.txt": "no log"}
+        "in/d.log": f"{RUN}end 0\n", "in/e.log": "heap 1\nroot 0000000000010000 00000000000020000\nend 0\n", "notes.txt": "no log"}
 SAID = """b.log: no 5 11 BoundsEscape
 in/c.log: no 4 37 NoOwner
 3 accepted
