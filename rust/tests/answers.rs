@@ -213,6 +213,6 @@ fn what_is_out_of_range_is_an_error() {
 #[test]
 fn names_are_those_of_verdicts() {
     let all: Vec<Refusal> = (0..=255).filter_map(Refusal::of).collect();
-    assert_eq!(all.len(), 39);
+    assert_eq!(all.len(), 42);
     assert!(all.iter().all(|it| it.name() == format!("{it:?}") && it.sentence().is_empty() == (*it == Refusal::BadArgument)));
 }
