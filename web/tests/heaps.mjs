@@ -65,7 +65,7 @@ const drawn = async (line) => {
     for (let k = 0; k < 500 && log.objects?.line !== (line || log.line); k++) await new Promise((done) => setTimeout(done, 10));
     return {
         says: seen("objects-say"), rows: [...document.querySelectorAll("#object-rows tr")].map((it) => it.innerText.replace(/\s+/g, " ").trim()),
-        bars: [".bounds", ".asked"].map((kind) => document.querySelectorAll(`#extents ${kind}`).length), why: seen("why").replace(/\s+/g, " "),
+        bars: [".bounds", ".refused-extent"].map((kind) => document.querySelectorAll(`#extents ${kind}`).length), why: seen("why").replace(/\s+/g, " "),
     };
 };
 

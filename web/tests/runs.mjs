@@ -123,7 +123,7 @@ const drawn = async (line) => {
     for (let k = 0; k < 500 && log.objects?.line !== (line || log.line); k++) await new Promise((done) => setTimeout(done, 10));
     return {
         says: seen("objects-say"), rows: [...document.querySelectorAll("#object-rows tr")].map((it) => it.innerText.replace(/\s+/g, " ").trim()),
-        bars: [".bounds", ".outside", ".asked"].map((kind) => document.querySelectorAll(`#extents ${kind}`).length),
+        bars: [".bounds", ".outside", ".refused-extent"].map((kind) => document.querySelectorAll(`#extents ${kind}`).length),
         hatches: document.querySelectorAll("#extents .hatch").length, label: byId("extents").getAttribute("aria-label"),
         held: [...document.querySelectorAll("#held tr")].map((it) => it.innerText.replace(/\s+/g, " ").trim()),
     };
