@@ -12,7 +12,6 @@ mod judges;
 mod laws;
 mod origins;
 mod output;
-mod recorded;
 mod steps;
 mod streams;
 mod verdict;

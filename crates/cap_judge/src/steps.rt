@@ -7,10 +7,8 @@ ghost use Rattle.cap_machine.specs.Helds.{AnswersStep};
 ghost use Rattle.cap_judge.specs.declared.judges.Due.TheVariants.{Body};
 ghost use Rattle.cap_judge.specs.Readings.{EndsBytes, IsFullAt, MakesSteps, TakesAll, TakesOne, at};
 
-use crate::recorded::{Derived, glance};
-use cap_log::kinds::{AndPerm, ClearTag, LoadCap, Move, SetAddr};
 use cap_log::{Head, Part};
-use cap_machine::{ByKind, Instruction, Machine, StepEnd, by_head};
+use cap_machine::{ByKind, Derived, Instruction, Machine, Making, StepEnd, by_head, glance};
 use cap_streams::LINE_LIMIT;
 use tagmem::TaggedStore;
 
@@ -96,6 +94,23 @@ impl<'a, M: TaggedStore, const RARE: bool> ByKind<'a, Machine<M>> for AtFront<RA
     }
 
     #[inline(always)]
+    fn with_derived<D: Derived>(
+        machine: &mut Machine<M>,
+        operands: &'a [u8],
+    ) -> Result<Option<&'a [u8]>, StepEnd> {
+        if RARE || operands.len() < MOST_BYTES - MOST_HEAD_BYTES {
+            return Ok(None);
+        }
+        let Some((glanced, rest)) = glance::<M, D>(machine, operands) else {
+            return Ok(None);
+        };
+        match glanced.make(machine) {
+            Ok(()) => Ok(Some(rest)),
+            Err(end) => Err(end),
+        }
+    }
+
+    #[inline(always)]
     fn with_none(_machine: &mut Machine<M>) -> Result<Option<&'a [u8]>, StepEnd> {
         Ok(None)
     }
@@ -120,39 +135,12 @@ fn take_step<'a, M: TaggedStore, const RARE: bool>(
         let Some((head, operands)) = Head::take_usual(bytes, b' ') else {
             return Ok(None);
         };
-        match head {
-            Head::Move => return take_derived::<M, Move>(machine, operands),
-            Head::ClearTag => return take_derived::<M, ClearTag>(machine, operands),
-            Head::SetAddr => return take_derived::<M, SetAddr>(machine, operands),
-            Head::AndPerm => return take_derived::<M, AndPerm>(machine, operands),
-            Head::LoadCap => return take_derived::<M, LoadCap>(machine, operands),
-            _ => return by_head::<Machine<M>, AtFront<RARE>>(machine, head, operands),
-        }
+        return by_head::<Machine<M>, AtFront<RARE>>(machine, head, operands);
     }
     let Some((head, operands)) = Head::take(bytes, b' ') else {
         return Ok(None);
     };
     by_head::<Machine<M>, AtFront<RARE>>(machine, head, operands)
-}
-
-// Takes a step from after its head, where its line records the word that the machine derives, as `AtFront` does.
-#[inline(always)]
-fn take_derived<'a, M: TaggedStore, D: Derived>(
-    machine: &mut Machine<M>,
-    operands: &'a [u8],
-) -> Result<Option<&'a [u8]>, StepEnd>
-    ensures { TakesOne machine.old (head_spelling D.Operands.HEAD ++ 32 ∷ operands.now) result machine.new }
-{
-    if operands.len() < MOST_BYTES - MOST_HEAD_BYTES {
-        return Ok(None);
-    }
-    let Some((step, (given, code), rest)) = glance::<M, D>(machine, operands) else {
-        return Ok(None);
-    };
-    match step.conclude(given, code, machine) {
-        Ok(()) => Ok(Some(rest)),
-        Err(end) => Err(end),
-    }
 }
 
 // A step whose line is all that stands there. By the answer of `AtFront`, which has bytes, most lines take 9
@@ -174,6 +162,14 @@ impl<'a, M: TaggedStore> ByKind<'a, Machine<M>> for Alone {
             return None;
         }
         Some(perform_by(machine, instruction))
+    }
+
+    #[inline(always)]
+    fn with_derived<D: Derived>(
+        machine: &mut Machine<M>,
+        operands: &'a [u8],
+    ) -> Option<Result<(), StepEnd>> {
+        Self::with_kind::<D>(machine, operands)
     }
 
     #[inline(always)]

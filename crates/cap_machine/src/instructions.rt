@@ -6,7 +6,7 @@ ghost use Rattle.cap_ops.specs.{Checks.Ends, Operations.clear_result};
 ghost use Rattle.cap_log.specs.{declared.kinds.Step.Step, Heads.head_spelling, Lines.{IsPlace, IsStepInRange}};
 ghost use Rattle.cap_log.specs.declared.lines.Place.TheVariants as PlaceIn;
 ghost use Rattle.cap_machine.specs.{Changes.{Derives, Gives, IsCodeOf, IsOperation, code_for, result_in}};
-ghost use Rattle.cap_machine.specs.{Helds.{AnswersStep, EndsBy, EndsStep, state_of}, Places.IsCoded};
+ghost use Rattle.cap_machine.specs.{Helds.{AnswersStep, EndsBy, EndsStep, Held, state_of}, Places.IsCoded};
 ghost use Rattle.cap_machine.specs.{Shown.{IsShown, needs_to_store, shown_of}, States.State};
 ghost use Rattle.cap_machine.specs.Steps.{granule_through, request_of, row_of, written_by};
 
@@ -63,8 +63,57 @@ pub trait Instruction: Operands {
         ensures in_range { IfSome result IsPlace };
 }
 
+/// A step to make.
+pub trait Making: Copy {
+    // The step.
+    ghost step: { Self → Step };
+
+    // What has to hold of the machine that makes it.
+    ghost ready: { Held → Self → Type 0 };
+
+    /// The step.
+    fn to_step(&self) -> Step
+        ensures step { result ≡ step self.now }
+        ensures range { IsStepInRange (step self.now) };
+
+    /// The place that it writes, as [`Machine::written`] tells it.
+    fn target<M: TaggedStore>(&self, machine: &Machine<M>) -> Option<Place>
+        ensures place { result ≡ written_by (state_of machine.now) (step self.now) }
+        ensures in_range { IfSome result IsPlace };
+
+    /// Makes it and counts it, or refuses it, as [`Machine::step`] does.
+    fn make<M: TaggedStore>(self, machine: &mut Machine<M>) -> Result<(), StepEnd>
+        requires ready { ready machine.old self }
+        ensures outcome { AnswersStep machine.old (step self) result machine.new };
+}
+
+/// A step of a kind.
+#[derive(Clone, Copy)]
+pub struct OfKind<I: Instruction>(pub I);
+
+impl<I: Instruction> Making for OfKind<I> {
+    ghost step = { λ making. I.Operands.step making.0 };
+
+    ghost ready = { λ held making. Unit {0} };
+
+    #[inline(always)]
+    fn to_step(&self) -> Step {
+        self.0.into_step()
+    }
+
+    #[inline(always)]
+    fn target<M: TaggedStore>(&self, machine: &Machine<M>) -> Option<Place> {
+        self.0.written(machine)
+    }
+
+    #[inline(always)]
+    fn make<M: TaggedStore>(self, machine: &mut Machine<M>) -> Result<(), StepEnd> {
+        self.0.perform(machine)
+    }
+}
+
 /// A kind of step that gives a register a capability, which its line records.
-pub trait Derivation: Operands {
+pub trait Derivation: Instruction {
     /// What it gives, whatever its line records, and the code of this if it comes from memory: that of its granule's
     /// origin, or 0 if it has no tag. Or how the step ends if a check of its operation or access fails. What the machine
     /// holds stays as it was.
@@ -534,45 +583,6 @@ fn needs_to_store(stored: Cap) -> u32
     }
 }
 
-/// What is done with the operands of a step, whatever its kind, to something.
-pub trait ByKind<'a, T> {
-    /// What it answers.
-    type Answer;
-
-    // What it does, by the bytes of the line: its head, a space and the operands.
-    ghost does: { T → List ℕ → Self.Answer → T → Type 0 };
-
-    /// Does it with the operands of a step of one kind.
-    fn with_kind<I: Instruction>(on: &mut T, operands: &'a [u8]) -> Self::Answer
-        ensures done { does on.old (head_spelling I.HEAD ++ 32 ∷ operands.now) result on.new };
-
-    /// Does it with a line that is no step's.
-    fn with_none(on: &mut T) -> Self::Answer
-        ensures done { (bytes : List ℕ) → does on.old bytes result on.new };
-}
-
-/// Does it by a line's head: the operands are taken from the bytes after it.
-#[inline(always)]
-pub fn by_head<'a, T, K: ByKind<'a, T>>(on: &mut T, head: Head, operands: &'a [u8]) -> K::Answer
-    ensures done { K.does on.old (head_spelling head ++ 32 ∷ operands.now) result on.new }
-{
-    match head {
-        Head::Move => K::with_kind::<Move>(on, operands),
-        Head::ClearTag => K::with_kind::<ClearTag>(on, operands),
-        Head::SetBounds => K::with_kind::<SetBounds>(on, operands),
-        Head::SetBoundsExact => K::with_kind::<SetBoundsExact>(on, operands),
-        Head::SetAddr => K::with_kind::<SetAddr>(on, operands),
-        Head::AndPerm => K::with_kind::<AndPerm>(on, operands),
-        Head::Seal => K::with_kind::<Seal>(on, operands),
-        Head::Unseal => K::with_kind::<Unseal>(on, operands),
-        Head::LoadCap => K::with_kind::<LoadCap>(on, operands),
-        Head::StoreCap => K::with_kind::<StoreCap>(on, operands),
-        Head::Load => K::with_kind::<Load>(on, operands),
-        Head::Store => K::with_kind::<Store>(on, operands),
-        Head::Version | Head::Mode | Head::Root | Head::End => K::with_none(on),
-    }
-}
-
 // What is done with a step, whatever its kind.
 macro_rules! by_kind {
     ($any:expr, $step:ident => $done:expr) => {
@@ -591,6 +601,35 @@ macro_rules! by_kind {
             Step::Store($step) => $done,
         }
     };
+}
+
+/// What is done with a step, whatever its kind, to something.
+pub trait WithStep<T> {
+    /// What it answers.
+    type Answer;
+
+    // What it does.
+    ghost does: { T → Step → Self.Answer → T → Type 0 };
+
+    /// Does it with a step of one kind.
+    fn with_kind<I: Instruction>(on: &mut T, kind: I) -> Self::Answer
+        ensures done { does on.old (I.step kind) result on.new };
+}
+
+/// Does it by the kind of a step.
+#[inline(always)]
+pub fn by_step<T, K: WithStep<T>>(on: &mut T, step: &Step) -> K::Answer
+    ensures done { K.does on.old step.now result on.new }
+{
+    by_kind!(*step, kind => with_any::<T, K, _>(on, kind))
+}
+
+// Does it with a step that is of this kind.
+#[inline(always)]
+fn with_any<T, K: WithStep<T>, I: Instruction>(on: &mut T, kind: I) -> K::Answer
+    ensures done { (step : Step) → step ≡ I.step kind → K.does on.old step result on.new }
+{
+    K::with_kind(on, kind)
 }
 
 /// Makes a step, as [`Instruction::perform`] does.

@@ -10,17 +10,20 @@
 //! runs.
 #![tactic(auto)]
 
+mod by_kind;
 mod ends;
 mod instructions;
 mod laws;
 mod limits;
 mod machine;
+mod recorded;
 mod rules;
 mod shown;
 
+pub use crate::by_kind::{ByKind, by_head};
 pub use crate::ends::StepEnd;
 pub use crate::instructions::{
-    ByKind, Derivation, Instruction, Operation, OperationParts, by_head,
+    Derivation, Instruction, Making, OfKind, Operation, OperationParts, WithStep, by_step,
 };
 pub use crate::laws::{
     accesses_lie_inside, authority_never_grows, bounds_are_cleared_exactly, origins_are_roots,
@@ -28,6 +31,7 @@ pub use crate::laws::{
 };
 pub use crate::limits::Limits;
 pub use crate::machine::{MOST_STEPS, Machine};
+pub use crate::recorded::{Derived, Glanced, glance};
 pub use crate::rules::{MOST_ROOTS, Rules};
 pub use crate::shown::{Given, Reached, Request, Shown};
 pub use cap_ops::Refusal;

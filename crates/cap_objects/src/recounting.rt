@@ -17,9 +17,6 @@ pub fn recount(objects: &mut Handouts, from: Option<usize>, to: Option<usize>)
     ensures same { (objects.new.count ≡ objects.old.count) × (objects.new.keeps ≡ objects.old.keeps) }
     ensures slots { slots_of objects.new ≡ slots_of objects.old }
 {
-    if from == to {
-        return;
-    }
     count_up_for(objects, to);
     count_down_for(objects, from);
 }

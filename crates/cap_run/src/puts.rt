@@ -1,9 +1,9 @@
 //! Writing registers of a run, with their labels.
 
-ghost use Rattle.std.specs.Prelude.{◌≡◌, ◌≢◌, ◌<◌, ◌-◌, ◌+◌, ◌^◌, ℕ, IsTrue, true};
+ghost use Rattle.std.specs.Prelude.{◌≡◌, ◌≢◌, ◌<◌, ◌≤◌, ◌-◌, ◌+◌, ◌^◌, ℕ, IsTrue, Some, true};
 ghost use Rattle.cap_ops.specs.Authority.{StaysWithin};
 ghost use Rattle.cap_machine.specs.{Helds.code_in, Parents.IsSoundCap, Places.{IsCoded, place_at}, States.put};
-ghost use Rattle.cap_objects.specs.Counts.{at_key};
+ghost use Rattle.cap_objects.specs.{Counts.{Moves, at_key}, Handed.{IsRecounted, held_of}, HandoutsIn.objects_of};
 ghost use Rattle.cap_run.specs.{Owned.{is_empty, object_by, owner_for}, Run.{IsSource, IsTargetOf, register_key}};
 ghost use Rattle.cap_run.specs.{RunOf.{run_owners, run_state}, RunSteps.{IsUnstepped, Writes, WritesBoth}};
 ghost use Rattle.cap_run.specs.Machines.{slots_in};
@@ -12,7 +12,7 @@ use crate::run_machine::{RunMachine, slot_by};
 use crate::specials::Specials;
 use cap_bounds::bounds;
 use cap_machine::Machine;
-use cap_objects::{recount, recount_both};
+use cap_objects::{Handouts, recount, recount_both};
 use cap_run_log::RunRegister;
 use cap_word::{Cap, Word};
 use tagmem::TaggedStore;
@@ -37,6 +37,22 @@ pub(crate) fn put_at<M: TaggedStore>(
     match target {
         RunRegister::General(number) => machine.put_labelled(number, cap, label),
         RunRegister::Special(number) => specials.put(number, cap, label),
+    }
+}
+
+// A place goes from one label to another.
+#[inline(always)]
+pub(crate) fn recount_labels(objects: &mut Handouts, from: u64, to: u64)
+    requires from { (slot : ℕ) → object_by (place_at from) ≡ Some slot → 0 < held_of (objects_of objects.old slot) }
+    requires to { (slot : ℕ) → object_by (place_at to) ≡ Some slot → 0 < held_of (objects_of objects.old slot) }
+    requires few { (slot : ℕ) → held_of (objects_of objects.old slot) ≤ 2 ^ 60 + 64 }
+    ensures moves { Moves (λ slot. held_of (objects_of objects.old slot)) (object_by (place_at from)) (object_by (place_at to))
+        (λ slot. held_of (objects_of objects.new slot)) }
+    ensures rest { IsRecounted (objects_of objects.old) (objects_of objects.new) }
+    ensures same { (objects.new.count ≡ objects.old.count) × (objects.new.keeps ≡ objects.old.keeps) }
+{
+    if from != to {
+        recount(objects, slot_by(from), slot_by(to));
     }
 }
 
@@ -82,8 +98,8 @@ impl<M: TaggedStore> RunMachine<M> {
         ensures asks { self.new.asks ≡ self.old.asks }
     {
         let label = label_for(cap, self.label(source));
-        let from = self.owner(target);
-        recount(&mut self.objects, from, slot_by(label));
+        let from = self.label(target);
+        recount_labels(&mut self.objects, from, label);
         put_at(&mut self.machine, &mut self.specials, target, cap, label);
         self.machine.count_step();
     }

@@ -8,7 +8,7 @@ ghost use Rattle.cap_run.specs.Machines.{run_in};
 use crate::ends::RunEnd;
 use crate::run_machine::RunMachine;
 use cap_log::{Head, Part};
-use cap_machine::{ByKind, Instruction, by_head};
+use cap_machine::{ByKind, Derived, Instruction, OfKind, by_head, glance};
 use cap_streams::LINE_LIMIT;
 use tagmem::TaggedStore;
 
@@ -89,8 +89,24 @@ impl<M: TaggedStore> RunMachine<M> {
         let Some(taken) = I::take(operands) else {
             return None;
         };
-        match self.make_kind(taken.0) {
+        match self.make_among(OfKind(taken.0)) {
             Ok(()) => Some(taken.1),
+            Err(_) => None,
+        }
+    }
+
+    // Takes a step from after its head, where its line records the word that the machine derives.
+    #[inline(always)]
+    fn take_derived<'a, D: Derived>(&mut self, operands: &'a [u8]) -> Option<&'a [u8]>
+        ensures { TakesStep self.old.asks (run_in self.old)
+            (head_spelling D.Operands.HEAD ++ 32 ∷ operands.now) result
+            self.new.asks (run_in self.new) }
+    {
+        let Some((glanced, rest)) = glance::<M, D>(&mut self.machine, operands) else {
+            return None;
+        };
+        match self.make_among(glanced) {
+            Ok(()) => Some(rest),
             Err(_) => None,
         }
     }
@@ -108,6 +124,11 @@ impl<'a, M: TaggedStore> ByKind<'a, RunMachine<M>> for Owned {
     #[inline(always)]
     fn with_kind<I: Instruction>(run: &mut RunMachine<M>, operands: &'a [u8]) -> Option<&'a [u8]> {
         run.take_kind::<I>(operands)
+    }
+
+    #[inline(always)]
+    fn with_derived<D: Derived>(run: &mut RunMachine<M>, operands: &'a [u8]) -> Option<&'a [u8]> {
+        run.take_derived::<D>(operands)
     }
 
     #[inline(always)]
@@ -136,6 +157,14 @@ impl<'a, M: TaggedStore> ByKind<'a, RunMachine<M>> for Alone {
             return None;
         }
         Some(run.make_usual(&step.into_step()))
+    }
+
+    #[inline(always)]
+    fn with_derived<D: Derived>(
+        run: &mut RunMachine<M>,
+        operands: &'a [u8],
+    ) -> Option<Result<(), RunEnd>> {
+        Self::with_kind::<D>(run, operands)
     }
 
     #[inline(always)]

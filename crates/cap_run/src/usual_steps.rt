@@ -3,29 +3,28 @@
 ghost use Rattle.std.specs.Prelude.{◌≡◌, ℕ, Some, false, IfNone, IfSome, MatchResult, OnErr};
 ghost use Rattle.cap_run.specs.{RunChanges.usual_after, RunChecks.{Answers, usual_end, usual_wants}};
 ghost use Rattle.cap_log.specs.Lines.{IsPlace, IsStepInRange};
-ghost use Rattle.cap_machine.specs.{Helds.{EndsStep, state_of}, Steps.written_by};
+ghost use Rattle.cap_machine.specs.{Helds.{EndsStep, state_of}, Places.place_at, Steps.written_by};
 ghost use Rattle.cap_objects.specs.HandoutsIn.{objects_of};
-ghost use Rattle.cap_run.specs.{RunSteps.IsUnstepped, UsualSteps.{MakesUsual, disowned, main_owners, owner_at}};
+ghost use Rattle.cap_run.specs.{Owned.object_by, RunSteps.IsUnstepped, UsualSteps.{MakesUsual, disowned, main_owners, owner_at}};
 ghost use Rattle.cap_run.specs.Machines.{run_in};
 
 use crate::ends::{RunEnd, RunRefusal};
 use crate::lines::usual_ended;
-use crate::puts::is_empty;
-use crate::run_machine::{RunMachine, slot_by};
+use crate::puts::{is_empty, recount_labels};
+use crate::run_machine::RunMachine;
 use cap_log::{Place, Step};
-use cap_machine::{Instruction, Machine, StepEnd};
-use cap_objects::recount;
+use cap_machine::{Instruction, Machine, Making, OfKind, StepEnd, WithStep, by_step};
 use tagmem::TaggedStore;
 
-// The owner of a place, if there is one.
+// The label of a place: 0 for none.
 #[inline(always)]
-fn owner_at<M: TaggedStore>(machine: &Machine<M>, place: Option<Place>) -> Option<usize>
+fn label_at<M: TaggedStore>(machine: &Machine<M>, place: Option<Place>) -> u64
     requires { IfSome place IsPlace }
-    ensures { result ≡ owner_at (main_owners machine.now) place }
+    ensures { object_by (place_at result) ≡ owner_at (main_owners machine.now) place }
 {
     match place {
-        Some(place) => slot_by(machine.label(place)),
-        None => None,
+        Some(place) => machine.label(place),
+        None => 0,
     }
 }
 
@@ -59,25 +58,7 @@ impl<M: TaggedStore> RunMachine<M> {
             (run_in self.new) }
         ensures asks { self.new.asks ≡ self.old.asks }
     {
-        if let Some(refusal) = self.asked_if(step) {
-            return Err(RunEnd::Refused(refusal));
-        }
-        self.usual(step)
-    }
-
-    /// Makes a step of one kind, as [`RunMachine::make_usual`] does.
-    #[inline(always)]
-    pub(crate) fn make_kind<I: Instruction>(&mut self, kind: I) -> Result<(), RunEnd>
-        ensures outcome { let old = run_in self.old in
-            Answers (usual_end self.old.asks old (I.step kind)) (usual_after old (I.step kind)) (usual_wants old (I.step kind)) old result
-            (run_in self.new) }
-        ensures asks { self.new.asks ≡ self.old.asks }
-    {
-        kind.in_range();
-        match self.asked_if(&kind.into_step()) {
-            Some(refusal) => Err(RunEnd::Refused(refusal)),
-            None => self.usual_kind(kind),
-        }
+        by_step::<RunMachine<M>, Made>(self, step)
     }
 
     /// Makes a step of one kind, as [`RunMachine::make_usual`] does. Where no object was handed out, it takes no longer than in
@@ -94,22 +75,10 @@ impl<M: TaggedStore> RunMachine<M> {
         if self.objects.count() == 0 {
             return self.make_alone(kind);
         }
-        self.make_among(kind)
+        self.make_among(OfKind(kind))
     }
 
-    // Makes it where objects were handed out. The call gets a value of its own: so a step needn't stand in memory where
-    // none was.
-    #[inline(always)]
-    fn make_among<I: Instruction>(&mut self, kind: I) -> Result<(), RunEnd>
-        ensures outcome { let old = run_in self.old in
-            Answers (usual_end self.old.asks old (I.step kind)) (usual_after old (I.step kind)) (usual_wants old (I.step kind)) old result
-            (run_in self.new) }
-        ensures asks { self.new.asks ≡ self.old.asks }
-    {
-        self.make_kind(kind)
-    }
-
-    // Makes it where no object was handed out: what is asked then refuses no step.
+    // Makes a step where no object was handed out: what is asked then refuses none.
     #[inline(always)]
     fn make_alone<I: Instruction>(&mut self, kind: I) -> Result<(), RunEnd>
         requires none { self.old.objects.count ≡ 0 }
@@ -126,20 +95,19 @@ impl<M: TaggedStore> RunMachine<M> {
         }
     }
 
-    // Makes it where nothing is asked of its access.
+    // Makes a step where objects were handed out.
     #[inline(always)]
-    fn usual_kind<I: Instruction>(&mut self, kind: I) -> Result<(), RunEnd>
-        requires { IsStepInRange (I.step kind) }
+    pub(crate) fn make_among<P: Making>(&mut self, making: P) -> Result<(), RunEnd>
+        requires ready { P.ready self.old.machine making }
         ensures outcome { let old = run_in self.old in
-            Answers (usual_end (record self.old.asks { used = false; owned = false }) old (I.step kind)) (usual_after old (I.step kind))
-            (usual_wants old (I.step kind)) old result (run_in self.new) }
+            Answers (usual_end self.old.asks old (P.step making)) (usual_after old (P.step making)) (usual_wants old (P.step making)) old result
+            (run_in self.new) }
         ensures asks { self.new.asks ≡ self.old.asks }
     {
-        self.machine.kept();
-        let written = kind.written(&self.machine);
-        match self.step_of_kind(kind, written) {
-            Ok(()) => Ok(()),
-            Err(end) => Err(usual_ended(end)),
+        let step = making.to_step();
+        match self.asked_if(&step) {
+            Some(refusal) => Err(RunEnd::Refused(refusal)),
+            None => self.make_unasked(making),
         }
     }
 
@@ -158,16 +126,18 @@ impl<M: TaggedStore> RunMachine<M> {
         self.asked_refusal(step)
     }
 
-    // Makes a step of version 2, where nothing is asked of its access.
-    fn usual(&mut self, step: &Step) -> Result<(), RunEnd>
-        requires { IsStepInRange step.now }
+    // Makes a step where nothing is asked of its access.
+    #[inline(always)]
+    fn make_unasked<P: Making>(&mut self, making: P) -> Result<(), RunEnd>
+        requires ready { P.ready self.old.machine making }
+        requires range { IsStepInRange (P.step making) }
         ensures outcome { let old = run_in self.old in
-            Answers (usual_end (record self.old.asks { used = false; owned = false }) old step.now) (usual_after old step.now)
-            (usual_wants old step.now) old result (run_in self.new) }
+            Answers (usual_end (record self.old.asks { used = false; owned = false }) old (P.step making)) (usual_after old (P.step making))
+            (usual_wants old (P.step making)) old result (run_in self.new) }
         ensures asks { self.new.asks ≡ self.old.asks }
     {
         self.machine.kept();
-        match self.step_with_owners(step) {
+        match self.make_with_owners(making) {
             Ok(()) => Ok(()),
             Err(end) => Err(usual_ended(end)),
         }
@@ -175,90 +145,41 @@ impl<M: TaggedStore> RunMachine<M> {
 
     // Makes a step as the machine without objects does, with the owners that places then have.
     #[inline(always)]
-    fn step_with_owners(&mut self, step: &Step) -> Result<(), StepEnd>
-        requires { IsStepInRange step.now }
+    fn make_with_owners<P: Making>(&mut self, making: P) -> Result<(), StepEnd>
+        requires ready { P.ready self.old.machine making }
+        requires range { IsStepInRange (P.step making) }
         ensures outcome { MatchResult result
-            (λ _. MakesUsual self.old.machine (objects_of self.old.objects) step.now self.new.machine (objects_of self.new.objects))
-            (λ end. EndsStep self.old.machine step.now end self.new.machine) }
-        ensures specials { self.new.specials ≡ self.old.specials }
-        ensures err { OnErr result (self.new.objects ≡ self.old.objects) }
-        ensures count { self.new.objects.count ≡ self.old.objects.count }
-        ensures asks { self.new.asks ≡ self.old.asks }
-    {
-        if self.objects.count() == 0 {
-            return self.step_alone(step);
-        }
-        let written = self.machine.written(step);
-        self.step(step, written)
-    }
-
-    // The same where no object was handed out, so that no place has an owner.
-    #[inline(always)]
-    fn step_alone(&mut self, step: &Step) -> Result<(), StepEnd>
-        requires none { self.old.objects.count ≡ 0 }
-        requires range { IsStepInRange step.now }
-        ensures outcome { MatchResult result
-            (λ _. MakesUsual self.old.machine (objects_of self.old.objects) step.now self.new.machine (objects_of self.new.objects))
-            (λ end. EndsStep self.old.machine step.now end self.new.machine) }
-        ensures rest { (self.new.specials ≡ self.old.specials) × (self.new.objects ≡ self.old.objects) }
-        ensures asks { self.new.asks ≡ self.old.asks }
-    {
-        self.machine.kept();
-        self.machine.step(step)
-    }
-
-    /// Makes a step of version 2, which writes this place, if any, as the machine without objects does.
-    pub(crate) fn step(&mut self, step: &Step, written: Option<Place>) -> Result<(), StepEnd>
-        requires written { written ≡ written_by (state_of self.old.machine) step.now }
-        requires in_range { IfSome written IsPlace }
-        requires range { IsStepInRange step.now }
-        ensures outcome { MatchResult result
-            (λ _. MakesUsual self.old.machine (objects_of self.old.objects) step.now self.new.machine (objects_of self.new.objects))
-            (λ end. EndsStep self.old.machine step.now end self.new.machine) }
+            (λ _. MakesUsual self.old.machine (objects_of self.old.objects) (P.step making) self.new.machine (objects_of self.new.objects))
+            (λ end. EndsStep self.old.machine (P.step making) end self.new.machine) }
         ensures specials { self.new.specials ≡ self.old.specials }
         ensures err { OnErr result (self.new.objects ≡ self.old.objects) }
         ensures count { self.new.objects.count ≡ self.old.objects.count }
         ensures asks { self.new.asks ≡ self.old.asks }
     {
         self.machine.kept();
-        let from = owner_at(&self.machine, written);
-        if let Err(end) = self.machine.step(step) {
+        let written = making.target(&self.machine);
+        let from = label_at(&self.machine, written);
+        if let Err(end) = making.make(&mut self.machine) {
             return Err(end);
         }
         self.machine.kept();
         disown(&mut self.machine, written);
-        let to = owner_at(&self.machine, written);
-        recount(&mut self.objects, from, to);
+        let to = label_at(&self.machine, written);
+        recount_labels(&mut self.objects, from, to);
         Ok(())
     }
+}
 
-    // Makes a step of one kind, which writes this place, if any, as the machine without objects does.
-    #[inline(always)]
-    fn step_of_kind<I: Instruction>(
-        &mut self,
-        kind: I,
-        written: Option<Place>,
-    ) -> Result<(), StepEnd>
-        requires written { written ≡ written_by (state_of self.old.machine) (I.step kind) }
-        requires in_range { IfSome written IsPlace }
-        requires range { IsStepInRange (I.step kind) }
-        ensures outcome { MatchResult result
-            (λ _. MakesUsual self.old.machine (objects_of self.old.objects) (I.step kind) self.new.machine (objects_of self.new.objects))
-            (λ end. EndsStep self.old.machine (I.step kind) end self.new.machine) }
-        ensures specials { self.new.specials ≡ self.old.specials }
-        ensures err { OnErr result (self.new.objects ≡ self.old.objects) }
-        ensures count { self.new.objects.count ≡ self.old.objects.count }
-        ensures asks { self.new.asks ≡ self.old.asks }
-    {
-        self.machine.kept();
-        let from = owner_at(&self.machine, written);
-        if let Err(end) = kind.perform(&mut self.machine) {
-            return Err(end);
-        }
-        self.machine.kept();
-        disown(&mut self.machine, written);
-        let to = owner_at(&self.machine, written);
-        recount(&mut self.objects, from, to);
-        Ok(())
+// A step is made.
+pub(crate) struct Made;
+
+impl<M: TaggedStore> WithStep<RunMachine<M>> for Made {
+    type Answer = Result<(), RunEnd>;
+
+    ghost does = { λ old step result new. let run = run_in old in
+        Answers (usual_end old.asks run step) (usual_after run step) (usual_wants run step) run result (run_in new) × (new.asks ≡ old.asks) };
+
+    fn with_kind<I: Instruction>(run: &mut RunMachine<M>, kind: I) -> Result<(), RunEnd> {
+        run.make_instruction(kind)
     }
 }

@@ -8,14 +8,16 @@ ghost use Rattle.cap_log.specs.declared.kinds.Step.TheVariants as steps;
 ghost use Rattle.cap_log.specs.declared.lines.Line.TheVariants as lines;
 ghost use Rattle.cap_machine.specs.{Changes.Gives, States.{State, untagged_null}, Steps.{Recorded.Written, Row, row_of}};
 
+use crate::ends::StepEnd;
+use crate::instructions::{Derivation, Making};
+use crate::machine::Machine;
 use cap_log::kinds::{LoadCap, Numbered, Plain};
-use cap_log::{Offset, Part, Register, Target, strip_result};
-use cap_machine::{Derivation, Machine};
+use cap_log::{Offset, Part, Place, Register, Step, Target, strip_result};
 use cap_word::{Cap, Word};
 use tagmem::TaggedStore;
 
 /// A kind of step whose line ends with a result that is quickly derived.
-pub(crate) trait Derived: Derivation {
+pub trait Derived: Derivation {
     /// What stands before the result.
     type Before: Part + Copy;
 
@@ -72,16 +74,48 @@ impl Derived for LoadCap {
     }
 }
 
+/// A step that records what it gives, with that at hand.
+#[derive(Clone, Copy)]
+pub struct Glanced<D: Derived> {
+    /// The step.
+    pub step: D,
+    /// What [`Derivation::derive`] gives for it.
+    pub given: Cap,
+    /// The code of this if it comes from memory.
+    pub code: u64,
+}
+
+impl<D: Derived> Making for Glanced<D> {
+    ghost step = { λ glanced. D.Operands.step glanced.step };
+
+    ghost ready = { λ held glanced. Gives held (D.Operands.step glanced.step) glanced.given glanced.code };
+
+    #[inline(always)]
+    fn to_step(&self) -> Step {
+        self.step.into_step()
+    }
+
+    #[inline(always)]
+    fn target<M: TaggedStore>(&self, machine: &Machine<M>) -> Option<Place> {
+        self.step.written(machine)
+    }
+
+    #[inline(always)]
+    fn make<M: TaggedStore>(self, machine: &mut Machine<M>) -> Result<(), StepEnd> {
+        self.step.conclude(self.given, self.code, machine)
+    }
+}
+
 /// Takes the operands after a head and its space with the line feed, as `take` does, where they record what the step
-/// gives: the step, what [`Derivation::derive`] gives for it, and what follows. `None` says nothing.
+/// gives: the step with it, and what follows. `None` says nothing.
 #[inline(always)]
-pub(crate) fn glance<'a, M: TaggedStore, D: Derived>(
+pub fn glance<'a, M: TaggedStore, D: Derived>(
     machine: &mut Machine<M>,
     operands: &'a [u8],
-) -> Option<(D, (Cap, u64), &'a [u8])>
+) -> Option<(Glanced<D>, &'a [u8])>
     ensures some { IfSome result (λ p. Begins IsInRange spelling 10 (head_spelling D.Operands.HEAD ++ 32 ∷ operands.now)
-        (lines.Step (D.Operands.step p.0)) p.2.now) }
-    ensures gives { IfSome result (λ p. Gives machine.old (D.Operands.step p.0) p.1.0 p.1.1) }
+        (lines.Step (D.Operands.step p.0.step)) p.1.now) }
+    ensures gives { IfSome result (λ p. Gives machine.old (D.Operands.step p.0.step) p.0.given p.0.code) }
     ensures same { machine.new ≡ machine.old }
 {
     let (before, others) = D::Before::take(operands, b' ')?;
@@ -95,5 +129,5 @@ pub(crate) fn glance<'a, M: TaggedStore, D: Derived>(
     let rest = strip_result(others, given)?;
     let step = D::recording(before, given);
     step.in_range();
-    Some((step, (given, code), rest))
+    Some((Glanced { step, given, code }, rest))
 }
