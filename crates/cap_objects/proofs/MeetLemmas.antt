@@ -51,7 +51,7 @@ module _ (keeps : Bool) (count : ℕ) (objects : Objects) (numbers bases : ℕ �
 
   module _ (base other slot : ℕ) (x : Object) (last : IsLastAtOrBelow bases base (Some (other, slot))) (there : objects slot ≡ Some x) where
     last_one : (s : ℕ) (o : Object) → objects s ≡ Some o → is_compared keeps o ≡ true → o.base ≤ base
-        → (o ≡ x) ⊎ (o.last < base)
+        → (o ≡ x) ⊎ (o.last < other)
     last_one s o is compared low =
         let at = base_at keeps count objects numbers bases known s o is compared in
         let below = last.2 o.base s low at in
@@ -61,7 +61,7 @@ module _ (keeps : Bool) (count : ℕ) (objects : Objects) (numbers bases : ℕ �
         let x_compared : is_compared keeps x ≡ true = sym (ap (is_compared keeps) b_is) ∙ b.2 in
         elim (eqb_tells s slot) [
           | inl same ↦ inl (same_Some o x (sym is ∙ ap objects same.1 ∙ there))
-          | inr unlike ↦ let l = known.apart s slot o x is there unlike.1 compared x_compared (omega (arith, below, x_base)) in inr (omega (arith, l, x_base, last.0))
+          | inr unlike ↦ let l = known.apart s slot o x is there unlike.1 compared x_compared (omega (arith, below, x_base)) in inr (omega (arith, l, x_base))
         ]
 
     pub reached-here : base ≤ x.last → (s : ℕ) (o : Object) → objects s ≡ Some o → is_compared keeps o ≡ true → other ≤ o.base → base ≤ o.last
@@ -84,7 +84,7 @@ module _ (keeps : Bool) (count : ℕ) (objects : Objects) (numbers bases : ℕ �
             let b_is : b.0 ≡ o = same_Some b.0 x (sym b.1 ∙ there) ∙ sym same in
             let e = ap (λ (p : Object). p.base) b_is in
             omega (arith, e, b.3)
-        | inr under ↦ absurd (omega arith)
+        | inr under ↦ absurd (omega (arith, last.0))
       ]
     ]
 
@@ -92,10 +92,25 @@ module _ (keeps : Bool) (count : ℕ) (objects : Objects) (numbers bases : ℕ �
     all-above short s o is compared meets = elim (cases_lt o.base base) [
       | inl low ↦ elim (last_one s o is compared (omega arith)) [
         | inl same ↦ let e = ap (λ (p : Object). p.last) same in absurd (omega (arith, e))
-        | inr under ↦ absurd (omega arith)
+        | inr under ↦ absurd (omega (arith, last.0))
       ]
       | inr above ↦ above
     ]
+
+    -- the last extent that begins at or below an address ends before some others
+    pub none-below : (from : ℕ) → x.last < from → (left_out : Option ℕ) (live : Bool) → MeetsNone keeps left_out live objects from base
+    none-below from short left_out live s o is asked meets = elim (last_one s o is asked.compared meets.0) [
+      | inl same ↦ let e = ap (λ (p : Object). p.last) same in omega (arith, e, meets.1)
+      | inr under ↦
+          let b = at_base keeps count objects numbers bases known other slot last.1 in
+          let l = known.long slot b.0 b.1 (compared_long keeps b.0 b.2) in
+          let e = ap (λ (p : Object). p.last) (same_Some b.0 x (sym b.1 ∙ there)) in
+          omega (arith, under, l, e, b.3, meets.1)
+    ]
+
+  pub none-at-all : (base from : ℕ) → IsLastAtOrBelow bases base None → (left_out : Option ℕ) (live : Bool) → MeetsNone keeps left_out live objects from base
+  none-at-all base from none left_out live s o is asked meets =
+      none-some s (sym (none o.base meets.0) ∙ base_at keeps count objects numbers bases known s o is asked.compared)
 
   pub all-first : (base : ℕ) → IsLastAtOrBelow bases base None → (s : ℕ) (o : Object) → objects s ≡ Some o → is_compared keeps o ≡ true
       → base ≤ o.last → base ≤ o.base

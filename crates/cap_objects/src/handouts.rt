@@ -1,6 +1,6 @@
 //! The objects that are present, by their slots, their numbers and their extents.
 
-ghost use Rattle.std.specs.Prelude.{◌≡◌, ◌≢◌, ◌<◌, ◌≤◌, ◌+◌, ◌-◌, ◌^◌, ◌&&◌, not, ℕ, Some, None, true, false, min, max, IsSome, IsSomeAnd, OnOk};
+ghost use Rattle.std.specs.Prelude.{◌≡◌, ◌≢◌, ◌<◌, ◌≤◌, ◌+◌, ◌-◌, ◌^◌, ◌&&◌, not, ℕ, Bool, Option, Some, None, true, false, min, max, IsSome, IsSomeAnd, OnOk};
 ghost use Rattle.std.specs.Prelude.{OnErr, IfOk, IfErr, IfSome, IfNone, MatchOption};
 ghost use Rattle.std.specs.Ordering.{nat_cmp};
 ghost use Rattle.std.specs.BTreeMap as tree;
@@ -164,6 +164,17 @@ impl Handouts {
         }
     }
 
+    // Whether the last extent that begins at or below an address ends before some others, so that none shares one of the
+    // addresses from these to that one.
+    fn is_clear(&self, base: u64, last: u64) -> bool
+        ensures { result ≡ true → (left_out : Option ℕ) (live : Bool) → MeetsNone self.now.keeps left_out live (objects_of self.now) base last }
+    {
+        match last_at_or_below(&self.bases, last) {
+            Some((_, slot)) if base <= self.slots.get(slot as usize).last => false,
+            _ => true,
+        }
+    }
+
     // The first base from which on to look for extents that share an address with a base or one above it.
     fn first_reaching(&self, base: u64) -> u64
         ensures low { result ≤ base }
@@ -202,6 +213,9 @@ impl Handouts {
             return None;
         }
         let last = (top - 1) as u64;
+        if self.is_clear(base, last) {
+            return None;
+        }
         match self.first_met(base, last, left_out, false) {
             None => None,
             Some(freed) => match self.first_met(base, last, left_out, true) {
