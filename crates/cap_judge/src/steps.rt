@@ -36,7 +36,7 @@ pub fn take_steps<'a, M: TaggedStore>(
         if let Some(end) = end {
             return (rest, Some(end));
         }
-        match take_step::<M, true>(machine, rest) {
+        match take_rare(machine, rest) {
             Ok(Some(behind)) => rest = behind,
             Ok(None) => return (rest, None),
             Err(end) => return (rest, Some(end)),
@@ -57,7 +57,7 @@ fn take_usual<'a, M: TaggedStore>(
 {
     let mut rest = bytes;
     'steps: loop {
-        match take_step::<M, false>(machine, rest) {
+        match take_step(machine, rest) {
             Ok(Some(behind)) => rest = behind,
             Ok(None) => return (rest, None),
             Err(end) => return (rest, Some(end)),
@@ -65,32 +65,20 @@ fn take_usual<'a, M: TaggedStore>(
     }
 }
 
-// A step at the front of some bytes: one of the rare kinds, or of the others.
-struct AtFront<const RARE: bool>;
+// A step at the front of some bytes, of a kind that isn't rare.
+struct Usual;
 
-impl<'a, M: TaggedStore, const RARE: bool> ByKind<'a, Machine<M>> for AtFront<RARE> {
+impl<'a, M: TaggedStore> ByKind<'a, Machine<M>> for Usual {
     type Answer = Result<Option<&'a [u8]>, StepEnd>;
 
     ghost does = { λ old bytes result new. TakesOne old bytes result new };
 
-    // Takes a step from after its head. Where a line of any length had room, so many bytes are left that the test of
-    // them never holds; the compiler sees by it that no later one does. It is inlined: by a call a move takes 27
-    // instructions more.
     #[inline(always)]
     fn with_kind<I: Instruction>(
         machine: &mut Machine<M>,
         operands: &'a [u8],
     ) -> Result<Option<&'a [u8]>, StepEnd> {
-        if I::IS_RARE != RARE || operands.len() < MOST_BYTES - MOST_HEAD_BYTES {
-            return Ok(None);
-        }
-        let Some((step, rest)) = I::take(operands) else {
-            return Ok(None);
-        };
-        match perform_by(machine, step) {
-            Ok(()) => Ok(Some(rest)),
-            Err(end) => Err(end),
-        }
+        take_kind::<M, I, false>(machine, operands)
     }
 
     #[inline(always)]
@@ -98,10 +86,10 @@ impl<'a, M: TaggedStore, const RARE: bool> ByKind<'a, Machine<M>> for AtFront<RA
         machine: &mut Machine<M>,
         operands: &'a [u8],
     ) -> Result<Option<&'a [u8]>, StepEnd> {
-        if RARE || operands.len() < MOST_BYTES - MOST_HEAD_BYTES {
+        if operands.len() < MOST_BYTES - MOST_HEAD_BYTES {
             return Ok(None);
         }
-        let Some((glanced, rest)) = glance::<M, D>(machine, operands) else {
+        let Some((glanced, rest)) = glance::<M, D, 0>(machine, operands) else {
             return Ok(None);
         };
         match glanced.make(machine) {
@@ -111,8 +99,108 @@ impl<'a, M: TaggedStore, const RARE: bool> ByKind<'a, Machine<M>> for AtFront<RA
     }
 
     #[inline(always)]
+    fn with_checked<D: Derived>(
+        machine: &mut Machine<M>,
+        operands: &'a [u8],
+    ) -> Result<Option<&'a [u8]>, StepEnd> {
+        Self::with_derived::<D>(machine, operands)
+    }
+
+    #[inline(always)]
+    fn with_large<I: Instruction>(
+        machine: &mut Machine<M>,
+        operands: &'a [u8],
+    ) -> Result<Option<&'a [u8]>, StepEnd> {
+        take_kind::<M, I, true>(machine, operands)
+    }
+
+    #[inline(always)]
+    fn with_rare<I: Instruction>(
+        _machine: &mut Machine<M>,
+        _operands: &'a [u8],
+    ) -> Result<Option<&'a [u8]>, StepEnd> {
+        Ok(None)
+    }
+
+    #[inline(always)]
     fn with_none(_machine: &mut Machine<M>) -> Result<Option<&'a [u8]>, StepEnd> {
         Ok(None)
+    }
+}
+
+// A step at the front of some bytes, of a rare kind.
+struct Rare;
+
+impl<'a, M: TaggedStore> ByKind<'a, Machine<M>> for Rare {
+    type Answer = Result<Option<&'a [u8]>, StepEnd>;
+
+    ghost does = { λ old bytes result new. TakesOne old bytes result new };
+
+    #[inline(always)]
+    fn with_kind<I: Instruction>(
+        _machine: &mut Machine<M>,
+        _operands: &'a [u8],
+    ) -> Result<Option<&'a [u8]>, StepEnd> {
+        Ok(None)
+    }
+
+    #[inline(always)]
+    fn with_derived<D: Derived>(
+        _machine: &mut Machine<M>,
+        _operands: &'a [u8],
+    ) -> Result<Option<&'a [u8]>, StepEnd> {
+        Ok(None)
+    }
+
+    #[inline(always)]
+    fn with_checked<D: Derived>(
+        _machine: &mut Machine<M>,
+        _operands: &'a [u8],
+    ) -> Result<Option<&'a [u8]>, StepEnd> {
+        Ok(None)
+    }
+
+    #[inline(always)]
+    fn with_large<I: Instruction>(
+        _machine: &mut Machine<M>,
+        _operands: &'a [u8],
+    ) -> Result<Option<&'a [u8]>, StepEnd> {
+        Ok(None)
+    }
+
+    #[inline(always)]
+    fn with_rare<I: Instruction>(
+        machine: &mut Machine<M>,
+        operands: &'a [u8],
+    ) -> Result<Option<&'a [u8]>, StepEnd> {
+        take_kind::<M, I, true>(machine, operands)
+    }
+
+    #[inline(always)]
+    fn with_none(_machine: &mut Machine<M>) -> Result<Option<&'a [u8]>, StepEnd> {
+        Ok(None)
+    }
+}
+
+// Takes a step from after its head. Where a line of any length had room, so many bytes are left that the test of
+// them never holds; the compiler sees by it that no later one does. It is inlined: by a call a move takes 27
+// instructions more.
+#[inline(always)]
+fn take_kind<'a, M: TaggedStore, I: Instruction, const APART: bool>(
+    machine: &mut Machine<M>,
+    operands: &'a [u8],
+) -> Result<Option<&'a [u8]>, StepEnd>
+    ensures { TakesOne machine.old (head_spelling I.HEAD ++ 32 ∷ operands.now) result machine.new }
+{
+    if operands.len() < MOST_BYTES - MOST_HEAD_BYTES {
+        return Ok(None);
+    }
+    let Some((step, rest)) = I::take(operands) else {
+        return Ok(None);
+    };
+    match perform_by::<M, I, APART>(machine, step) {
+        Ok(()) => Ok(Some(rest)),
+        Err(end) => Err(end),
     }
 }
 
@@ -122,7 +210,7 @@ impl<'a, M: TaggedStore, const RARE: bool> ByKind<'a, Machine<M>> for AtFront<RA
 // others, and large ones are made in a function of their own: so that loop is small enough for the compiler to make
 // one function of it.
 #[inline(always)]
-fn take_step<'a, M: TaggedStore, const RARE: bool>(
+fn take_step<'a, M: TaggedStore>(
     machine: &mut Machine<M>,
     bytes: &'a [u8],
 ) -> Result<Option<&'a [u8]>, StepEnd>
@@ -131,19 +219,30 @@ fn take_step<'a, M: TaggedStore, const RARE: bool>(
     if bytes.len() < MOST_BYTES {
         return Ok(None);
     }
-    if !RARE {
-        let Some((head, operands)) = Head::take_usual(bytes, b' ') else {
-            return Ok(None);
-        };
-        return by_head::<Machine<M>, AtFront<RARE>>(machine, head, operands);
+    let Some((head, operands)) = Head::take_usual(bytes, b' ') else {
+        return Ok(None);
+    };
+    by_head::<Machine<M>, Usual>(machine, head, operands)
+}
+
+// Takes a step of a rare kind, as `take_step` does one of the others.
+#[inline(always)]
+fn take_rare<'a, M: TaggedStore>(
+    machine: &mut Machine<M>,
+    bytes: &'a [u8],
+) -> Result<Option<&'a [u8]>, StepEnd>
+    ensures { TakesOne machine.old bytes.now result machine.new }
+{
+    if bytes.len() < MOST_BYTES {
+        return Ok(None);
     }
     let Some((head, operands)) = Head::take(bytes, b' ') else {
         return Ok(None);
     };
-    by_head::<Machine<M>, AtFront<RARE>>(machine, head, operands)
+    by_head::<Machine<M>, Rare>(machine, head, operands)
 }
 
-// A step whose line is all that stands there. By the answer of `AtFront`, which has bytes, most lines take 9
+// A step whose line is all that stands there. By the answer of `Usual`, which has bytes, most lines take 9
 // instructions more.
 struct Alone;
 
@@ -157,11 +256,7 @@ impl<'a, M: TaggedStore> ByKind<'a, Machine<M>> for Alone {
         machine: &mut Machine<M>,
         operands: &'a [u8],
     ) -> Option<Result<(), StepEnd>> {
-        let (instruction, rest) = I::take(operands)?;
-        if !rest.is_empty() {
-            return None;
-        }
-        Some(perform_by(machine, instruction))
+        take_alone::<M, I, false>(machine, operands)
     }
 
     #[inline(always)]
@@ -169,13 +264,52 @@ impl<'a, M: TaggedStore> ByKind<'a, Machine<M>> for Alone {
         machine: &mut Machine<M>,
         operands: &'a [u8],
     ) -> Option<Result<(), StepEnd>> {
-        Self::with_kind::<D>(machine, operands)
+        take_alone::<M, D, false>(machine, operands)
+    }
+
+    #[inline(always)]
+    fn with_checked<D: Derived>(
+        machine: &mut Machine<M>,
+        operands: &'a [u8],
+    ) -> Option<Result<(), StepEnd>> {
+        take_alone::<M, D, false>(machine, operands)
+    }
+
+    #[inline(always)]
+    fn with_large<I: Instruction>(
+        machine: &mut Machine<M>,
+        operands: &'a [u8],
+    ) -> Option<Result<(), StepEnd>> {
+        take_alone::<M, I, true>(machine, operands)
+    }
+
+    #[inline(always)]
+    fn with_rare<I: Instruction>(
+        machine: &mut Machine<M>,
+        operands: &'a [u8],
+    ) -> Option<Result<(), StepEnd>> {
+        take_alone::<M, I, true>(machine, operands)
     }
 
     #[inline(always)]
     fn with_none(_machine: &mut Machine<M>) -> Option<Result<(), StepEnd>> {
         None
     }
+}
+
+// Takes a step from after its head, where its line is all that stands there.
+#[inline(always)]
+fn take_alone<'a, M: TaggedStore, I: Instruction, const APART: bool>(
+    machine: &mut Machine<M>,
+    operands: &'a [u8],
+) -> Option<Result<(), StepEnd>>
+    ensures { TakesAll machine.old (head_spelling I.HEAD ++ 32 ∷ operands.now) result machine.new }
+{
+    let (instruction, rest) = I::take(operands)?;
+    if !rest.is_empty() {
+        return None;
+    }
+    Some(perform_by::<M, I, APART>(machine, instruction))
 }
 
 /// Takes bytes that are the line of a step, with its line feed, and no more; `None`, and nothing has changed,
@@ -191,15 +325,15 @@ pub(crate) fn take_lone_step<M: TaggedStore>(
     by_head::<Machine<M>, Alone>(machine, head, operands)
 }
 
-// Makes a step there, or apart.
+// Makes a step there, or apart: large ones in a function of their own.
 #[inline(always)]
-fn perform_by<M: TaggedStore, I: Instruction>(
+fn perform_by<M: TaggedStore, I: Instruction, const APART: bool>(
     machine: &mut Machine<M>,
     step: I,
 ) -> Result<(), StepEnd>
     ensures { AnswersStep machine.old (I.step step) result machine.new }
 {
-    if I::IS_RARE || I::IS_LARGE {
+    if APART {
         perform_apart(machine, step)
     } else {
         step.perform(machine)

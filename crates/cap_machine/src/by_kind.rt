@@ -27,6 +27,18 @@ pub trait ByKind<'a, T> {
     fn with_derived<D: Derived>(on: &mut T, operands: &'a [u8]) -> Self::Answer
         ensures done { does on.old (head_spelling D.HEAD ++ 32 ∷ operands.now) result on.new };
 
+    /// Does it with those of a step of such a kind whose check takes much code.
+    fn with_checked<D: Derived>(on: &mut T, operands: &'a [u8]) -> Self::Answer
+        ensures done { does on.old (head_spelling D.HEAD ++ 32 ∷ operands.now) result on.new };
+
+    /// Does it with those of a step of a kind that takes much code to make.
+    fn with_large<I: Instruction>(on: &mut T, operands: &'a [u8]) -> Self::Answer
+        ensures done { does on.old (head_spelling I.HEAD ++ 32 ∷ operands.now) result on.new };
+
+    /// Does it with those of a step of a kind that few lines of a log are of.
+    fn with_rare<I: Instruction>(on: &mut T, operands: &'a [u8]) -> Self::Answer
+        ensures done { does on.old (head_spelling I.HEAD ++ 32 ∷ operands.now) result on.new };
+
     /// Does it with a line that is no step's.
     fn with_none(on: &mut T) -> Self::Answer
         ensures done { (bytes : List ℕ) → does on.old bytes result on.new };
@@ -40,12 +52,12 @@ pub fn by_head<'a, T, K: ByKind<'a, T>>(on: &mut T, head: Head, operands: &'a [u
     match head {
         Head::Move => K::with_derived::<Move>(on, operands),
         Head::ClearTag => K::with_derived::<ClearTag>(on, operands),
-        Head::SetBounds => K::with_kind::<SetBounds>(on, operands),
-        Head::SetBoundsExact => K::with_kind::<SetBoundsExact>(on, operands),
-        Head::SetAddr => K::with_derived::<SetAddr>(on, operands),
+        Head::SetBounds => K::with_large::<SetBounds>(on, operands),
+        Head::SetBoundsExact => K::with_rare::<SetBoundsExact>(on, operands),
+        Head::SetAddr => K::with_checked::<SetAddr>(on, operands),
         Head::AndPerm => K::with_derived::<AndPerm>(on, operands),
-        Head::Seal => K::with_kind::<Seal>(on, operands),
-        Head::Unseal => K::with_kind::<Unseal>(on, operands),
+        Head::Seal => K::with_rare::<Seal>(on, operands),
+        Head::Unseal => K::with_rare::<Unseal>(on, operands),
         Head::LoadCap => K::with_derived::<LoadCap>(on, operands),
         Head::StoreCap => K::with_kind::<StoreCap>(on, operands),
         Head::Load => K::with_kind::<Load>(on, operands),

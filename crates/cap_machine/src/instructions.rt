@@ -41,12 +41,6 @@ const STORE_LOCAL_CAPABILITY: u32 = 1 << PERMIT_STORE_LOCAL_CAPABILITY;
 
 /// A kind of step that a machine makes.
 pub trait Instruction: Operands {
-    /// Whether few lines of a log are of this kind.
-    const IS_RARE: bool = false;
-
-    /// Whether making such a step takes much code, though it isn't rare.
-    const IS_LARGE: bool = false;
-
     /// Makes the step and counts it, or refuses it, as [`Machine::step`] does.
     fn perform<M: TaggedStore>(self, machine: &mut Machine<M>) -> Result<(), StepEnd>
         ensures outcome { AnswersStep machine.old (Self.step self) result machine.new }
@@ -136,12 +130,6 @@ pub trait Derivation: Instruction {
 
 /// A kind of step that is an operation from a register to a register.
 pub trait Operation: Operands {
-    /// Whether few lines of a log are of this kind.
-    const IS_RARE: bool = false;
-
-    /// Whether making such a step takes much code, though it isn't rare.
-    const IS_LARGE: bool = false;
-
     /// Its registers, its request and its recorded result.
     fn parts(self) -> OperationParts
         ensures request { result.request ≡ request_of (Self.step self) }
@@ -237,10 +225,6 @@ impl<O: Operation> Derivation for O {
 }
 
 impl<O: Operation> Instruction for O {
-    const IS_RARE: bool = <O as Operation>::IS_RARE;
-
-    const IS_LARGE: bool = <O as Operation>::IS_LARGE;
-
     #[inline(always)]
     fn perform<M: TaggedStore>(self, machine: &mut Machine<M>) -> Result<(), StepEnd> {
         self.in_range();
@@ -303,10 +287,6 @@ impl<const IS_CLEARING: bool> Operation for Plain<IS_CLEARING> {
 }
 
 impl<const WHAT: u8> Operation for Numbered<WHAT> {
-    const IS_RARE: bool = WHAT == EXACT_LENGTH;
-
-    const IS_LARGE: bool = WHAT == LENGTH;
-
     #[inline(always)]
     fn parts(self) -> OperationParts {
         let request = match WHAT {
@@ -341,8 +321,6 @@ impl<const WHAT: u8> Operation for Numbered<WHAT> {
 }
 
 impl<const IS_UNSEALING: bool> Operation for Authorized<IS_UNSEALING> {
-    const IS_RARE: bool = true;
-
     #[inline(always)]
     fn parts(self) -> OperationParts {
         let permission = if IS_UNSEALING {

@@ -109,7 +109,7 @@ impl<D: Derived> Making for Glanced<D> {
 /// Takes the operands after a head and its space with the line feed, as `take` does, where they record what the step
 /// gives: the step with it, and what follows. `None` says nothing.
 #[inline(always)]
-pub fn glance<'a, M: TaggedStore, D: Derived>(
+pub fn glance<'a, M: TaggedStore, D: Derived, const LOOP: u8>(
     machine: &mut Machine<M>,
     operands: &'a [u8],
 ) -> Option<(Glanced<D>, &'a [u8])>

@@ -7,7 +7,7 @@ use crate::handouts::Handouts;
 
 /// A place goes from one owner to another. It is counted up before it is counted down, so that no object is gone
 /// between.
-#[inline(always)]
+#[inline(never)]
 pub fn recount(objects: &mut Handouts, from: Option<usize>, to: Option<usize>)
     requires from { (slot : ℕ) → from ≡ Some slot → 0 < held_of (objects_of objects.old slot) }
     requires to { (slot : ℕ) → to ≡ Some slot → 0 < held_of (objects_of objects.old slot) }

@@ -83,9 +83,6 @@ impl<M: TaggedStore> RunMachine<M> {
             (head_spelling I.HEAD ++ 32 ∷ operands.now) result
             self.new.asks (run_in self.new) }
     {
-        if I::IS_RARE {
-            return None;
-        }
         let Some(taken) = I::take(operands) else {
             return None;
         };
@@ -95,6 +92,16 @@ impl<M: TaggedStore> RunMachine<M> {
         }
     }
 
+    // The same in a function of its own.
+    #[inline(never)]
+    fn take_apart<'a, I: Instruction>(&mut self, operands: &'a [u8]) -> Option<&'a [u8]>
+        ensures { TakesStep self.old.asks (run_in self.old)
+            (head_spelling I.HEAD ++ 32 ∷ operands.now) result
+            self.new.asks (run_in self.new) }
+    {
+        self.take_kind::<I>(operands)
+    }
+
     // Takes a step from after its head, where its line records the word that the machine derives.
     #[inline(always)]
     fn take_derived<'a, D: Derived>(&mut self, operands: &'a [u8]) -> Option<&'a [u8]>
@@ -102,13 +109,23 @@ impl<M: TaggedStore> RunMachine<M> {
             (head_spelling D.Operands.HEAD ++ 32 ∷ operands.now) result
             self.new.asks (run_in self.new) }
     {
-        let Some((glanced, rest)) = glance::<M, D>(&mut self.machine, operands) else {
+        let Some((glanced, rest)) = glance::<M, D, 1>(&mut self.machine, operands) else {
             return None;
         };
         match self.make_among(glanced) {
             Ok(()) => Some(rest),
             Err(_) => None,
         }
+    }
+
+    // The same in a function of its own.
+    #[inline(never)]
+    fn take_derived_apart<'a, D: Derived>(&mut self, operands: &'a [u8]) -> Option<&'a [u8]>
+        ensures { TakesStep self.old.asks (run_in self.old)
+            (head_spelling D.Operands.HEAD ++ 32 ∷ operands.now) result
+            self.new.asks (run_in self.new) }
+    {
+        self.take_derived::<D>(operands)
     }
 }
 
@@ -129,6 +146,21 @@ impl<'a, M: TaggedStore> ByKind<'a, RunMachine<M>> for Owned {
     #[inline(always)]
     fn with_derived<D: Derived>(run: &mut RunMachine<M>, operands: &'a [u8]) -> Option<&'a [u8]> {
         run.take_derived::<D>(operands)
+    }
+
+    #[inline(always)]
+    fn with_checked<D: Derived>(run: &mut RunMachine<M>, operands: &'a [u8]) -> Option<&'a [u8]> {
+        run.take_derived_apart::<D>(operands)
+    }
+
+    #[inline(always)]
+    fn with_large<I: Instruction>(run: &mut RunMachine<M>, operands: &'a [u8]) -> Option<&'a [u8]> {
+        run.take_apart::<I>(operands)
+    }
+
+    #[inline(always)]
+    fn with_rare<I: Instruction>(run: &mut RunMachine<M>, operands: &'a [u8]) -> Option<&'a [u8]> {
+        run.take_apart::<I>(operands)
     }
 
     #[inline(always)]
@@ -165,6 +197,30 @@ impl<'a, M: TaggedStore> ByKind<'a, RunMachine<M>> for Alone {
         operands: &'a [u8],
     ) -> Option<Result<(), RunEnd>> {
         Self::with_kind::<D>(run, operands)
+    }
+
+    #[inline(always)]
+    fn with_checked<D: Derived>(
+        run: &mut RunMachine<M>,
+        operands: &'a [u8],
+    ) -> Option<Result<(), RunEnd>> {
+        Self::with_kind::<D>(run, operands)
+    }
+
+    #[inline(always)]
+    fn with_large<I: Instruction>(
+        run: &mut RunMachine<M>,
+        operands: &'a [u8],
+    ) -> Option<Result<(), RunEnd>> {
+        Self::with_kind::<I>(run, operands)
+    }
+
+    #[inline(always)]
+    fn with_rare<I: Instruction>(
+        run: &mut RunMachine<M>,
+        operands: &'a [u8],
+    ) -> Option<Result<(), RunEnd>> {
+        Self::with_kind::<I>(run, operands)
     }
 
     #[inline(always)]

@@ -3,7 +3,7 @@ use Rattle.cap_log.specs.{declared.lines.Line.TheVariants.Step, Heads.head_spell
 use Rattle.cap_log.specs.Parts.{Begins}
 use Rattle.cap_machine.specs.Helds.{AnswersStep}
 use Rattle.cap_judge.proofs.TurnLemmas.{step_answered}
-use Rattle.cap_judge.proofs.steps.AloneByKindMachine.with_kind.Goals as goal
+use Rattle.cap_judge.proofs.steps.take_alone.Goals as goal
 
 pub returns : goal.returns
 returns g c =
@@ -15,4 +15,4 @@ returns g c =
     let none = nil_from_length read.rest.now (search rules) in
     let begins = subst (λ (r : List ℕ). Begins IsInRange spelling 10 bytes (Step step) r) none read.ensures.some in
     let answers : AnswersStep old step c.perform_by.result new = search rules in
-    record { done = step_answered old new bytes step c.perform_by.result begins answers }
+    step_answered old new bytes step c.perform_by.result begins answers

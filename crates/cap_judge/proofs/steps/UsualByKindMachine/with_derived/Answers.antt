@@ -1,6 +1,6 @@
 use Rattle.std.proofs.Common.{rules}
 use Rattle.cap_judge.proofs.TurnLemmas.{takes_ended}
-use Rattle.cap_judge.proofs.steps.AtFrontByKindMachine.with_derived.Goals as goal
+use Rattle.cap_judge.proofs.steps.UsualByKindMachine.with_derived.Goals as goal
 
 pub returns-in-Err : goal.returns-in-Err
 returns-in-Err g c = record {
