@@ -1,9 +1,10 @@
 -- The closed forms of a word's bounds are the one answer of the relation.
 use Rattle.std.proofs.Common.{◌≡◌, ℕ, ◌+◌, ◌-◌, ◌*◌, ◌/◌, ◌%◌, ◌^◌, ◌<◌, ◌≤◌, sym, ap, ◌∙◌, refl, inl, inr, arith}
-use Rattle.std.proofs.{Common.{subst, pow_pos}, Math.Nat.min-le_right, lemmas.Bool.{cases_lt, Decides.nat_tests}}
+use Rattle.std.proofs.{Common.{le-leb, mul-le-mul_left, nat_eq, nat_le, pow_pos, subst}, Math.Nat.{min-le_right, zero-mul}}
+use Rattle.std.proofs.lemmas.Bool.{cases_lt, lt-leb, Decides.{eqb_tells, nat_tests}}
 use Rattle.std.proofs.lemmas.Nat.{shl_whole, shl_below}
 use Rattle.cap_word.specs.Fields.{ie_of, e_of, b_of, t_of, address_of}
-use Rattle.cap_bounds.specs.Bounds.{window_start_at, IsResidue, IsMantissa, IsWindow, AreBounds, span_at, span_of}
+use Rattle.cap_bounds.specs.Bounds.{window_start_at, IsResidue, IsMantissa, IsWindow, AreBounds, IsSound, span_at, span_of}
 use Rattle.cap_bounds.specs.Bounds.{mantissa_of, cut_exponent_of, unit_of, window_size, raw_base_at, top_at, length_of}
 use Rattle.cap_bounds.specs.{Bounds.{base_of, top_of}, Range.window_start}
 use Rattle.cap_bounds.proofs.Mantissas.{span_at-lt, mantissa_is, span_of-mantissa_of, IsMantissa-mantissa_of}
@@ -78,6 +79,19 @@ top_at-uncorrected e raw length h = grind (arith, nat_tests)
 pub length_is : (w : ℕ) → length_of w ≡ span_at (b_of w) (t_of w) (ie_of w) * unit_of w
 unfolding length_of
 length_is w = refl
+
+-- a sound word's bounds hold no address where its span is 0
+pub empty_is : (w span : ℕ) → span ≡ span_at (b_of w) (t_of w) (ie_of w) → IsSound w → nat_eq span 0 ≡ nat_le (top_of w) (base_of w)
+empty_is w span is sound =
+    let long = length_is w ∙ ap (λ (x : ℕ). x * unit_of w) (sym is) in
+    elim (eqb_tells span 0) [
+      | inl none ↦
+          let nothing = long ∙ ap (λ (x : ℕ). x * unit_of w) none.1 ∙ zero-mul (unit_of w) in
+          none.0 ∙ sym (le-leb (top_of w) (base_of w) (omega (arith, sound.0, nothing)))
+      | inr some ↦
+          let more = mul-le-mul_left span (pow_pos (cut_exponent_of w)) in
+          some.0 ∙ sym (lt-leb (top_of w) (base_of w) (omega (arith, sound.0, long, more, some.1)))
+    ]
 
 -- and that is how far its mantissas lie apart
 pub length_of-mantissa : (w mantissa : ℕ) → IsMantissa (b_of w) (t_of w) (ie_of w) mantissa

@@ -1,6 +1,6 @@
 //! The bounds that a word has.
 
-ghost use Rattle.std.specs.Prelude.{◌≡◌, ◌<◌, ◌≤◌, ◌+◌, ◌*◌, ◌%◌, ◌^◌, ◌↔◌, ℕ, IsTrue, IfSome, None};
+ghost use Rattle.std.specs.Prelude.{◌≡◌, ◌<◌, ◌≤◌, ◌+◌, ◌*◌, ◌%◌, ◌^◌, ◌↔◌, ℕ, IsTrue, IfSome, None, nat_le};
 ghost use Rattle.cap_word.specs.Fields.{b_of, ie_of, t_of};
 ghost use Rattle.cap_bounds.specs.Bounds.{AreBounds, IsInside, IsMantissa, IsSound, base_of, cut_exponent_of};
 ghost use Rattle.cap_bounds.specs.Bounds.{length_of, mantissa_of, raw_base_at, span_at, span_of, top_of, unit_of};
@@ -273,6 +273,14 @@ pub fn length_of(word: Word) -> u128
     ensures value { result ≡ length_of word.0 }
 {
     decode(word).length
+}
+
+/// Whether the bounds of a sound word hold no address: exactly where its mantissa T doesn't lie above B.
+#[inline(always)]
+pub fn is_empty(word: Word) -> bool
+    ensures value { IsSound word.0 → result ≡ nat_le (top_of word.0) (base_of word.0) }
+{
+    scale_of(word).span == 0
 }
 
 /// A word has exactly one base and top, and its length is how far its mantissa T lies above B, in units. This

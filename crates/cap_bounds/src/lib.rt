@@ -8,7 +8,7 @@ mod range;
 mod rounding;
 
 pub use crate::decoding::{
-    Extent, Interval, bounds, bounds_are_unique, extent_of, length_of, mantissa, sound,
+    Extent, Interval, bounds, bounds_are_unique, extent_of, is_empty, length_of, mantissa, sound,
     sound_word_holds_more,
 };
 pub use crate::lengths::{align_mask, least_law, round_length};

@@ -8,15 +8,11 @@ ghost use Rattle.cap_judge.specs.declared.judges.Due.TheVariants.{Body};
 ghost use Rattle.cap_judge.specs.Readings.{EndsBytes, IsFullAt, MakesSteps, TakesAll, TakesOne, at};
 
 use cap_log::{Head, Part};
-use cap_machine::{ByKind, Derived, Instruction, Machine, Making, StepEnd, by_head, glance};
-use cap_streams::LINE_LIMIT;
+use cap_machine::{
+    ByKind, Derived, Instruction, MOST_BYTES, Machine, Making, ROOM_BEHIND_HEAD, StepEnd, by_head,
+    glance,
+};
 use tagmem::TaggedStore;
-
-// The most bytes that a line has, with its line feed.
-const MOST_BYTES: usize = LINE_LIMIT + 1;
-
-// The most bytes that a head has, with the space after it.
-const MOST_HEAD_BYTES: usize = 15;
 
 /// Takes the steps at the front of some bytes, as long as a line of any length has room: what follows them,
 /// and how the step ends there that was not made. By that one nothing has changed.
@@ -86,7 +82,7 @@ impl<'a, M: TaggedStore> ByKind<'a, Machine<M>> for Usual {
         machine: &mut Machine<M>,
         operands: &'a [u8],
     ) -> Result<Option<&'a [u8]>, StepEnd> {
-        if operands.len() < MOST_BYTES - MOST_HEAD_BYTES {
+        if operands.len() < ROOM_BEHIND_HEAD {
             return Ok(None);
         }
         let Some((glanced, rest)) = glance::<M, D, 0>(machine, operands) else {
@@ -192,7 +188,7 @@ fn take_kind<'a, M: TaggedStore, I: Instruction, const APART: bool>(
 ) -> Result<Option<&'a [u8]>, StepEnd>
     ensures { TakesOne machine.old (head_spelling I.HEAD ++ 32 ∷ operands.now) result machine.new }
 {
-    if operands.len() < MOST_BYTES - MOST_HEAD_BYTES {
+    if operands.len() < ROOM_BEHIND_HEAD {
         return Ok(None);
     }
     let Some((step, rest)) = I::take(operands) else {

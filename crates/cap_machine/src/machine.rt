@@ -383,7 +383,10 @@ impl<M: TaggedStore> Machine<M> {
         ensures coded { let cap = state_of self.now (key_of place) in IsCoded cap.tag result }
     {
         self.kept();
-        self.code(place)
+        match place {
+            Place::Register(number) => self.codes[number as usize],
+            Place::Granule(_) => self.code(place),
+        }
     }
 
     /// Puts a capability with a label into a register, 1 to 31, and counts nothing.

@@ -107,9 +107,10 @@ impl<D: Derived> Making for Glanced<D> {
 }
 
 /// Takes the operands after a head and its space with the line feed, as `take` does, where they record what the step
-/// gives: the step with it, and what follows. `None` says nothing.
+/// gives: the step with it, and what follows. `None` says nothing. Each loop over lines has a copy of its own, by a number: so it
+/// stands in each.
 #[inline(always)]
-pub fn glance<'a, M: TaggedStore, D: Derived, const LOOP: u8>(
+pub fn glance<'a, M: TaggedStore, D: Derived, const COPY: u8>(
     machine: &mut Machine<M>,
     operands: &'a [u8],
 ) -> Option<(Glanced<D>, &'a [u8])>

@@ -4,17 +4,17 @@ ghost use Rattle.std.specs.Prelude.{◌≡◌, ◌≢◌, ◌<◌, ◌≤◌, �
 ghost use Rattle.cap_ops.specs.Authority.{StaysWithin};
 ghost use Rattle.cap_machine.specs.{Helds.code_in, Parents.IsSoundCap, Places.{IsCoded, place_at}, States.put};
 ghost use Rattle.cap_objects.specs.{Counts.{Moves, at_key}, Handed.{IsRecounted, held_of}, HandoutsIn.objects_of};
-ghost use Rattle.cap_run.specs.{Owned.{is_empty, object_by, owner_for}, Run.{IsSource, IsTargetOf, register_key}};
+ghost use Rattle.cap_run.specs.{Owned.{object_by, owner_for}, Run.{IsSource, IsTargetOf, register_key}};
 ghost use Rattle.cap_run.specs.{RunOf.{run_owners, run_state}, RunSteps.{IsUnstepped, Writes, WritesBoth}};
 ghost use Rattle.cap_run.specs.Machines.{slots_in};
 
 use crate::run_machine::{RunMachine, slot_by};
 use crate::specials::Specials;
-use cap_bounds::bounds;
+use cap_bounds::is_empty;
 use cap_machine::Machine;
 use cap_objects::{Handouts, recount, recount_both};
 use cap_run_log::RunRegister;
-use cap_word::{Cap, Word};
+use cap_word::Cap;
 use tagmem::TaggedStore;
 
 // Puts a capability with a label into a register.
@@ -56,20 +56,12 @@ pub(crate) fn recount_labels(objects: &mut Handouts, from: u64, to: u64)
     }
 }
 
-// Whether the bounds of a word hold no address.
-#[inline(always)]
-pub(crate) fn is_empty(word: Word) -> bool
-    ensures { result ≡ is_empty word.0 }
-{
-    let bounds = bounds(word);
-    u128::from(bounds.base) >= bounds.top
-}
-
 // The label of what is written, where its parent place has this one: what has no tag has none, and empty bounds have
 // no owner.
 #[inline(always)]
 pub(crate) fn label_for(cap: Cap, label: u64) -> u64
-    requires { IsTrue cap.tag → IsCoded true label }
+    requires sound { IsSoundCap cap }
+    requires coded { IsTrue cap.tag → IsCoded true label }
     ensures coded { IsCoded cap.tag result }
     ensures owner { object_by (place_at result) ≡ owner_for cap (object_by (place_at label)) }
 {

@@ -8,12 +8,10 @@ ghost use Rattle.cap_run.specs.Machines.{run_in};
 use crate::ends::RunEnd;
 use crate::run_machine::RunMachine;
 use cap_log::{Head, Part};
-use cap_machine::{ByKind, Derived, Instruction, OfKind, by_head, glance};
-use cap_streams::LINE_LIMIT;
+use cap_machine::{
+    ByKind, Derived, Instruction, MOST_BYTES, OfKind, ROOM_BEHIND_HEAD, by_head, glance,
+};
 use tagmem::TaggedStore;
-
-// The most bytes that a line has, with its line feed.
-const MOST_BYTES: usize = LINE_LIMIT + 1;
 
 impl<M: TaggedStore> RunMachine<M> {
     /// Takes the lines of steps of version 2 at the front of some bytes, as long as a line of any length has room: what
@@ -92,13 +90,17 @@ impl<M: TaggedStore> RunMachine<M> {
         }
     }
 
-    // The same in a function of its own.
+    // The same in a function of its own. Where a line of any length had room, the test of the bytes left never holds; the
+    // compiler sees by it that no later one does.
     #[inline(never)]
     fn take_apart<'a, I: Instruction>(&mut self, operands: &'a [u8]) -> Option<&'a [u8]>
         ensures { TakesStep self.old.asks (run_in self.old)
             (head_spelling I.HEAD ++ 32 ∷ operands.now) result
             self.new.asks (run_in self.new) }
     {
+        if operands.len() < ROOM_BEHIND_HEAD {
+            return None;
+        }
         self.take_kind::<I>(operands)
     }
 
@@ -125,6 +127,9 @@ impl<M: TaggedStore> RunMachine<M> {
             (head_spelling D.Operands.HEAD ++ 32 ∷ operands.now) result
             self.new.asks (run_in self.new) }
     {
+        if operands.len() < ROOM_BEHIND_HEAD {
+            return None;
+        }
         self.take_derived::<D>(operands)
     }
 }

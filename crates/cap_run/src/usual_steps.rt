@@ -2,7 +2,7 @@
 
 ghost use Rattle.std.specs.Prelude.{◌≡◌, ℕ, Some, false, IfNone, IfSome, MatchResult, OnErr};
 ghost use Rattle.cap_run.specs.{RunChanges.usual_after, RunChecks.{Answers, usual_end, usual_wants}};
-ghost use Rattle.cap_log.specs.{declared.lines.Place.TheVariants.{Register as RegisterIn}, Lines.{IsPlace, IsStepInRange, IsTarget}};
+ghost use Rattle.cap_log.specs.Lines.{IsPlace, IsStepInRange};
 ghost use Rattle.cap_machine.specs.{Helds.{EndsStep, state_of}, Places.place_at, Steps.written_by};
 ghost use Rattle.cap_objects.specs.HandoutsIn.{objects_of};
 ghost use Rattle.cap_run.specs.{Owned.object_by, RunSteps.IsUnstepped, UsualSteps.{MakesUsual, disowned, main_owners, owner_at}};
@@ -10,8 +10,9 @@ ghost use Rattle.cap_run.specs.Machines.{run_in};
 
 use crate::ends::{RunEnd, RunRefusal};
 use crate::lines::usual_ended;
-use crate::puts::{is_empty, recount_labels};
+use crate::puts::recount_labels;
 use crate::run_machine::RunMachine;
+use cap_bounds::is_empty;
 use cap_log::{Place, Step};
 use cap_machine::{Instruction, Machine, Making, OfKind, StepEnd, WithStep, by_step};
 use tagmem::TaggedStore;
@@ -37,24 +38,10 @@ fn disown<M: TaggedStore>(machine: &mut Machine<M>, written: Option<Place>)
     ensures rest { IsUnstepped machine.old machine.new }
 {
     if let Some(Place::Register(number)) = written {
-        if machine.label(Place::Register(number)) >= 32 {
-            disown_empty(machine, number);
+        let cap = machine.register(number);
+        if machine.label(Place::Register(number)) >= 32 && is_empty(cap.word) {
+            machine.put_labelled(number, cap, 1);
         }
-    }
-}
-
-// A register has no owner if its bounds are empty. It is called, and doesn't stand where each kind of step is made.
-#[inline(never)]
-fn disown_empty<M: TaggedStore>(machine: &mut Machine<M>, number: u8)
-    requires { IsTarget number }
-    ensures state { state_of machine.new ≡ state_of machine.old }
-    ensures owners { (key : ℕ) → main_owners machine.new key
-        ≡ disowned (Some (RegisterIn number)) (state_of machine.old) (main_owners machine.old) key }
-    ensures rest { IsUnstepped machine.old machine.new }
-{
-    let cap = machine.register(number);
-    if machine.label(Place::Register(number)) >= 32 && is_empty(cap.word) {
-        machine.put_labelled(number, cap, 1);
     }
 }
 

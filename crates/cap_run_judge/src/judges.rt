@@ -18,16 +18,13 @@ use crate::faults::RefusedRunLine;
 use crate::verdict::RunVerdict;
 use cap_judge::{Stop, Taken};
 use cap_log::{Line, Mode, read_line};
-use cap_machine::{Refusal, Rules};
+use cap_machine::{MOST_BYTES, Refusal, Rules};
 use cap_run::{Asks, RunEnd, RunMachine, RunRefusal};
 use cap_run_log::{RunLine, take_derive, take_exchange, take_run_line};
 use cap_streams::judging::FaultLine;
-use cap_streams::{Front, LINE_LIMIT, front};
+use cap_streams::{Front, front};
 use std::alloc::Global;
 use tagmem::TaggedStore;
-
-// The most bytes that a line has, with its line feed.
-const MOST_BYTES: usize = LINE_LIMIT + 1;
 
 /// What the next line of a run log has to be.
 #[derive(Drop)]
