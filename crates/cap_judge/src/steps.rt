@@ -95,14 +95,6 @@ impl<'a, M: TaggedStore> ByKind<'a, Machine<M>> for Usual {
     }
 
     #[inline(always)]
-    fn with_checked<D: Derived>(
-        machine: &mut Machine<M>,
-        operands: &'a [u8],
-    ) -> Result<Option<&'a [u8]>, StepEnd> {
-        Self::with_derived::<D>(machine, operands)
-    }
-
-    #[inline(always)]
     fn with_large<I: Instruction>(
         machine: &mut Machine<M>,
         operands: &'a [u8],
@@ -142,14 +134,6 @@ impl<'a, M: TaggedStore> ByKind<'a, Machine<M>> for Rare {
 
     #[inline(always)]
     fn with_derived<D: Derived>(
-        _machine: &mut Machine<M>,
-        _operands: &'a [u8],
-    ) -> Result<Option<&'a [u8]>, StepEnd> {
-        Ok(None)
-    }
-
-    #[inline(always)]
-    fn with_checked<D: Derived>(
         _machine: &mut Machine<M>,
         _operands: &'a [u8],
     ) -> Result<Option<&'a [u8]>, StepEnd> {
@@ -257,14 +241,6 @@ impl<'a, M: TaggedStore> ByKind<'a, Machine<M>> for Alone {
 
     #[inline(always)]
     fn with_derived<D: Derived>(
-        machine: &mut Machine<M>,
-        operands: &'a [u8],
-    ) -> Option<Result<(), StepEnd>> {
-        take_alone::<M, D, false>(machine, operands)
-    }
-
-    #[inline(always)]
-    fn with_checked<D: Derived>(
         machine: &mut Machine<M>,
         operands: &'a [u8],
     ) -> Option<Result<(), StepEnd>> {

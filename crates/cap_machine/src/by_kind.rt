@@ -34,10 +34,6 @@ pub trait ByKind<'a, T> {
     fn with_derived<D: Derived>(on: &mut T, operands: &'a [u8]) -> Self::Answer
         ensures done { does on.old (head_spelling D.HEAD ++ 32 ∷ operands.now) result on.new };
 
-    /// Does it with those of a step of such a kind whose check takes much code.
-    fn with_checked<D: Derived>(on: &mut T, operands: &'a [u8]) -> Self::Answer
-        ensures done { does on.old (head_spelling D.HEAD ++ 32 ∷ operands.now) result on.new };
-
     /// Does it with those of a step of a kind that takes much code to make.
     fn with_large<I: Instruction>(on: &mut T, operands: &'a [u8]) -> Self::Answer
         ensures done { does on.old (head_spelling I.HEAD ++ 32 ∷ operands.now) result on.new };
@@ -61,7 +57,7 @@ pub fn by_head<'a, T, K: ByKind<'a, T>>(on: &mut T, head: Head, operands: &'a [u
         Head::ClearTag => K::with_derived::<ClearTag>(on, operands),
         Head::SetBounds => K::with_large::<SetBounds>(on, operands),
         Head::SetBoundsExact => K::with_rare::<SetBoundsExact>(on, operands),
-        Head::SetAddr => K::with_checked::<SetAddr>(on, operands),
+        Head::SetAddr => K::with_derived::<SetAddr>(on, operands),
         Head::AndPerm => K::with_derived::<AndPerm>(on, operands),
         Head::Seal => K::with_rare::<Seal>(on, operands),
         Head::Unseal => K::with_rare::<Unseal>(on, operands),

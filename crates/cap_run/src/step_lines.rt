@@ -119,19 +119,6 @@ impl<M: TaggedStore> RunMachine<M> {
             Err(_) => None,
         }
     }
-
-    // The same in a function of its own.
-    #[inline(never)]
-    fn take_derived_apart<'a, D: Derived>(&mut self, operands: &'a [u8]) -> Option<&'a [u8]>
-        ensures { TakesStep self.old.asks (run_in self.old)
-            (head_spelling D.Operands.HEAD ++ 32 ∷ operands.now) result
-            self.new.asks (run_in self.new) }
-    {
-        if operands.len() < ROOM_BEHIND_HEAD {
-            return None;
-        }
-        self.take_derived::<D>(operands)
-    }
 }
 
 // A step at the front of some bytes, where objects were handed out.
@@ -151,11 +138,6 @@ impl<'a, M: TaggedStore> ByKind<'a, RunMachine<M>> for Owned {
     #[inline(always)]
     fn with_derived<D: Derived>(run: &mut RunMachine<M>, operands: &'a [u8]) -> Option<&'a [u8]> {
         run.take_derived::<D>(operands)
-    }
-
-    #[inline(always)]
-    fn with_checked<D: Derived>(run: &mut RunMachine<M>, operands: &'a [u8]) -> Option<&'a [u8]> {
-        run.take_derived_apart::<D>(operands)
     }
 
     #[inline(always)]
@@ -198,14 +180,6 @@ impl<'a, M: TaggedStore> ByKind<'a, RunMachine<M>> for Alone {
 
     #[inline(always)]
     fn with_derived<D: Derived>(
-        run: &mut RunMachine<M>,
-        operands: &'a [u8],
-    ) -> Option<Result<(), RunEnd>> {
-        Self::with_kind::<D>(run, operands)
-    }
-
-    #[inline(always)]
-    fn with_checked<D: Derived>(
         run: &mut RunMachine<M>,
         operands: &'a [u8],
     ) -> Option<Result<(), RunEnd>> {

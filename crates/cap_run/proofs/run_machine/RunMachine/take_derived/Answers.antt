@@ -33,6 +33,8 @@ returns-in-Err g c =
     let n = c.make_among.new.self in
     let step = g.D.Operands.step c.in-Some.glanced.step in
     subst (λ (held : Held). TakesStep s.asks (numbered_run held s.specials s.objects) (head_spelling g.D.Operands.HEAD ++ 32 ∷ c.args.operands.now)
-    None n.asks (run_in n)) c.glance.ensures.same
-    (let old = numbered_run c.glance.new.machine s.specials s.objects in
-    err_same (usual_end s.asks old step) (usual_after old step) (usual_wants old step) old c.in-Err.field-0 _ c.in-Err.ensures.outcome, c.in-Err.ensures.asks)
+    None n.asks (run_in n)) c.glance.ensures.same (
+      let old = numbered_run c.glance.new.machine s.specials s.objects in
+          err_same (usual_end s.asks old step) (usual_after old step) (usual_wants old step) old c.in-Err.field-0 _ c.in-Err.ensures.outcome,
+      c.in-Err.ensures.asks,
+    )
