@@ -223,16 +223,39 @@ def verdicts(room):
 
 
 def several(room):
-    """Several files get a verdict each, and the status is the greatest, whichever file it is of."""
+    """Several files get a verdict each, and the status is the greatest, whichever file it is of. Then standard error counts them,
+    unless a fault came before. Standard input is one of them, and a file that can't be read is named."""
     if room.program != "capdiag":
         return
-    shown = {"good": SAID_YES, "bad": room.said_no, "gone": b""}
-    room.put("good", YES)
-    room.put("bad", NO)
-    for names, status in ((["bad", "good"], 1), (["good", "bad"], 1), (["bad", "gone", "good"], 3), (["gone", "good"], 3), (["good", "good"], 0)):
-        out = b"".join(shown[it].replace(b"\n", f"\nfile {it}\n".encode(), 1) for it in names)
+    shown = {"good": SAID_YES, "bad": room.said_no, "-": SAID_YES}
+    for name, text in (("good", YES), ("bad", NO), ("cut", YES[:-1])):
+        room.put(name, text)
+    shown["cut"] = room.run(["why", "cut"])[1]
+    room.wants("why cut", shown["cut"].partition(b"\n")[0], b"no 2 5 Truncated")
+    unreadable = "/proc/self/mem"
+    for names, status, counts in (
+        (["bad", "good"], 1, "1 accepted, 1 rejected: 1 WrongCount"),
+        (["good", "bad"], 1, "1 accepted, 1 rejected: 1 WrongCount"),
+        (["bad", "gone", "good"], 3, "1 accepted, 1 rejected: 1 WrongCount; 1 not opened"),
+        (["gone", "good"], 3, "1 accepted, 0 rejected; 1 not opened"),
+        (["gone", "gone"], 3, "0 accepted, 0 rejected; 2 not opened"),
+        (["good", "good"], 0, "2 accepted, 0 rejected"),
+        (["bad", "cut", "-", "bad", "cut", "bad"], 1, "1 accepted, 5 rejected: 3 WrongCount, 2 Truncated"),
+        (["bad", unreadable, "good"], 3, None),
+        ([unreadable], 3, None),
+    ):
+        heard = names[:names.index(unreadable)] if unreadable in names else names
         err = b"".join(room.fault("cannot open 'gone': no such file") for it in names if it == "gone")
-        room.wants(f"why {names}", room.run(["why", *names]), (status, out, err))
+        err += room.fault(counts) if counts else room.fault(f"'{unreadable}': read fault")
+        judged = [it for it in heard if it != "gone"]
+        out = b"".join(shown[it].replace(b"\n", f"\nfile {it}\n".encode(), 1) for it in judged)
+        room.wants(f"why {names}", room.run(["why", *names], YES), (status, out, err))
+        objects = b"".join(room.run(["why", "--json", it], YES)[1] for it in judged)
+        lines = room.run(["why", "--json", *names], YES)
+        room.wants(f"why --json {names}", (lines[0], re.sub(rb',"file":"[^"]*"', b"", lines[1]), lines[2]), (status, objects, err))
+    room.wants("why - of an input that fails", room.run(["why", "-"], os.open(room.folder, os.O_RDONLY)), (3, b"", room.fault("'-': read fault")))
+    many = room.run(["why", *["good", "bad"] * 5000])
+    room.wants("why of 10,000 files", (many[0], many[1].count(b"\nfile "), many[2]), (1, 10000, room.fault("5000 accepted, 5000 rejected: 5000 WrongCount")))
 
 
 def outputs(room):

@@ -52,7 +52,7 @@ class Room:
     def each(self, words, wanted, program="capcheck", spare=False, before=(b"",)):
         """Refuses each request of a run in turn, alone and with all later ones, until none is reached. If a run has requests
         to spare, which ask for more than it needs, one that is refused alone may make no difference. A run of several files may
-        have written what it says of those before: then `before` has each text that it may have written."""
+        have written what it says of those before, and of all: then `before` has each text that it may have written."""
         lacks = [(3, text, f"{program}: no memory\n".encode()) for text in before]
         for number in itertools.count(1):
             ran, made = self.run(words, number, program)
@@ -119,7 +119,7 @@ def each_run(room):
         wanted, told = room.run(words, program="capdiag")[0], room.run(words[:-1], program="capdiag")[0][1]
         name = f"file {words[-2]}\n".encode()
         first = next(text for text in (told.replace(b"\n", b"\n" + name, 1), told) if wanted[1].startswith(text))
-        room.each(words, wanted, "capdiag", spare=True, before=(b"", first))
+        room.each(words, wanted, "capdiag", spare=True, before=(b"", first, wanted[1]))
 
 
 def each_page(room):

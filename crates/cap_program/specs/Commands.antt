@@ -2,11 +2,11 @@
 use Rattle.std.specs.{Prelude.{◌≡◌, ◌≤◌, ◌↔◌, ℕ, Bool, true, List, [], Option, Some}, Io.KnownBytes.Consumes}
 use Rattle.cap_program.specs.{declared.faults.Fault.Fault, Faults.status_of}
 
--- the program's name, and for an order, or none: the text that belongs to it and the bytes given for it, with its
--- status; the fault that belongs to them, but for one of the output; the text that it prints for an input, with its
--- status; whether it cannot be followed; and whether it reads an input
+-- for an order, or none: what the line of a fault begins with, the program's name and what the fault is of; the text that belongs
+-- to the order and the bytes given for it, with its status; the fault that belongs to them, but for one of the output; the text
+-- that it prints for an input, with its status; whether it cannot be followed; and whether it reads an input
 pub record Meaning (C : Type 0) : Type 1 where
-  pub program : List ℕ
+  pub front : Option C → Fault → List ℕ
   pub shows : Option C → List ℕ → Bool → List ℕ → ℕ → Type 0
   pub fails : Option C → List ℕ → Fault → Type 0
   pub prints : Option C → Option (List ℕ) → List ℕ → ℕ → Type 0

@@ -64,10 +64,10 @@ pub record IsFollowed {C S K : Type 0} (m : Meaning C) (order : Option C) (gave 
   pub missing : m.reads_input order → before ≡ None → answer ≡ Err Read
   pub written : IsCounted Write answer (pushes out) (pushes out_after)
 
--- what was told of it by a program of this name: with a status nothing; with a fault a beginning of its line was taken,
--- and the whole line unless a fault was counted
-pub record TellsFaultLine {F : Type 0} (program : List ℕ) (took : F → F → List ℕ → Type 0) (faults : F → ℕ) (answer : Result ℕ Fault)
+-- what was told of it, where the line of each fault begins with this: with a status nothing; with a fault a beginning of its line
+-- was taken, and the whole line unless a fault was counted
+pub record TellsFaultLine {F : Type 0} (front : Fault → List ℕ) (took : F → F → List ℕ → Type 0) (faults : F → ℕ) (answer : Result ℕ Fault)
     (before after : F) : Type 0 where
   pub silent : IfOk answer (λ status. after ≡ before)
-  pub told : IfErr answer (λ fault. (n : ℕ) × took before after (take n (fault_line program fault)))
-  pub whole : IfErr answer (λ fault. IsPushed took faults before after (fault_line program fault))
+  pub told : IfErr answer (λ fault. (n : ℕ) × took before after (take n (fault_line (front fault) fault)))
+  pub whole : IfErr answer (λ fault. IsPushed took faults before after (fault_line (front fault) fault))

@@ -21,9 +21,9 @@ fault_text Read = codes "read fault"
 fault_text Write = codes "write fault"
 fault_text NoMemory = codes "no memory"
 
--- the line on standard error, behind the name of the program
+-- the line on standard error, after what it begins with
 abbrev pub fault_line : List ℕ → Fault → List ℕ
-fault_line program fault = program ++ codes ": " ++ fault_text fault ++ codes "\n"
+fault_line front fault = front ++ fault_text fault ++ codes "\n"
 
 -- the exit status of what was done, or of the fault that came instead
 abbrev pub exit_status : Result ℕ Fault → ℕ

@@ -41,4 +41,4 @@ pub record IsRan {C : Type 0} (m : Meaning C) (order : Option C) (input : Option
   -- But for a fault of the output, that kept what it had
   pub silent : status ≤ 1 → Keeps faults faults_after
   pub told : 2 ≤ status → (fault : Fault) × TellsFault (m.prints order input) (m.fails order) input fault × (status_of fault ≡ status)
-      × (n : ℕ) × Appends faults faults_after (take n (fault_line m.program fault)) × (fault ≢ Write → Keeps before after)
+      × (n : ℕ) × Appends faults faults_after (take n (fault_line (m.front order fault) fault)) × (fault ≢ Write → Keeps before after)

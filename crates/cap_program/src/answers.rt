@@ -3,6 +3,7 @@
 ghost use Rattle.std.specs.Prelude.{◌≡◌, ◌≤◌, true, [], length, take, OnOk};
 ghost use Rattle.cap_program.specs.{Doings.{IsHandedOn, IsPushed, TellsFaultLine}, Faults.{exit_status, fault_line}};
 
+use crate::commands::Command;
 use crate::faults::Fault;
 use crate::outputs::Output;
 use cap_log::buffers::put;
@@ -23,16 +24,27 @@ pub fn hand_on<K: Output>(done: Result<u8, Fault>, out: &mut K) -> Result<u8, Fa
     }
 }
 
-/// Tells why an order was not followed, if it was not: pushes the program's name, and what the fault is called, as a
-/// line. If the sink fails it took a beginning of the line.
-pub fn tell<F: Sink>(program: &str, done: Result<u8, Fault>, faults: &mut F)
-    requires short { length program.now ≤ 16 }
-    ensures told { TellsFaultLine program.now F.took F.faults done faults.old faults.new }
+/// Tells why an order was not followed, if it was not: pushes what the line begins with, the program's name, and what the fault is
+/// called, as a line. If the sink fails it took a beginning of the line.
+pub fn tell<F: Sink>(front: &[u8], done: Result<u8, Fault>, faults: &mut F)
+    requires short { length front.now ≤ 288 }
+    ensures told { TellsFaultLine (λ fault. front.now) F.took F.faults done faults.old faults.new }
 {
     if let Err(fault) = done {
-        let mut line = [0u8; 32];
-        let length = put_line(program, fault, &mut line);
+        let mut line = [0u8; 320];
+        let length = put_line(front, fault, &mut line);
         let _pushed = push_all(faults, &line[..length]);
+    }
+}
+
+/// Tells the same of an order, with what the line of its fault begins with.
+pub fn tell_of<C: Command, F: Sink>(order: Option<C>, done: Result<u8, Fault>, faults: &mut F)
+    ensures told { TellsFaultLine (C.meaning.front order) F.took F.faults done faults.old faults.new }
+{
+    if let Err(fault) = done {
+        let mut front = [0u8; 288];
+        let length = C::put_front(order, fault, &mut front);
+        tell(&front[..length], done, faults);
     }
 }
 
@@ -47,13 +59,12 @@ pub fn exit_status(done: Result<u8, Fault>) -> u8
 }
 
 // Writes the line of a fault at the front of a buffer, and answers its length.
-fn put_line(program: &str, fault: Fault, buffer: &mut [u8; 32]) -> usize
-    requires short { length program.now ≤ 16 }
-    ensures fits { result ≤ 32 }
-    ensures line { take result buffer.new ≡ fault_line program.now fault }
+fn put_line(front: &[u8], fault: Fault, buffer: &mut [u8; 320]) -> usize
+    requires short { length front.now ≤ 288 }
+    ensures fits { result ≤ 320 }
+    ensures line { take result buffer.new ≡ fault_line front.now fault }
 {
-    let at = put(buffer, 0, program.as_bytes());
-    let at = put(buffer, at, b": ");
+    let at = put(buffer, 0, front);
     let at = put(buffer, at, fault.text().as_bytes());
     put(buffer, at, b"\n")
 }

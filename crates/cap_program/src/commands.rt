@@ -1,6 +1,6 @@
 //! What the programs can be asked to do.
 
-ghost use Rattle.std.specs.Prelude.{◌≡◌, ◌≤◌, ℕ, List, Some, None, length};
+ghost use Rattle.std.specs.Prelude.{◌≡◌, ◌≤◌, ℕ, List, Some, None, take};
 ghost use Rattle.cap_program.specs.{declared.faults.Fault.TheVariants.BadWords, Commands.Meaning, Doings.IsFollowed};
 
 use crate::faults::Fault;
@@ -12,10 +12,11 @@ pub trait Command: Copy {
     /// What the orders of the program mean.
     ghost meaning: { Meaning Self };
 
-    /// The name of the program.
-    fn program() -> &'static str
-        ensures value { result.now ≡ meaning.program }
-        ensures short { length result.now ≤ 16 };
+    /// Writes what the line of a fault begins with at the front of the buffer: the program's name, and what the fault is of.
+    /// Answers its length.
+    fn put_front(order: Option<Self>, fault: Fault, buffer: &mut [u8; 288]) -> usize
+        ensures front { take result buffer.new ≡ meaning.front order fault }
+        ensures short { result ≤ 288 };
 
     /// Pushes the text of an order, and answers the status that goes with it. A missing input is a read fault.
     fn follow<S: Source, K: Sink>(

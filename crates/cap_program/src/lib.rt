@@ -10,7 +10,7 @@ mod outputs;
 mod runs;
 mod words;
 
-pub use crate::answers::{exit_status, hand_on, tell};
+pub use crate::answers::{exit_status, hand_on, tell, tell_of};
 pub use crate::commands::Command;
 pub use crate::faults::{Fault, fault_of};
 pub use crate::inputs::opened;

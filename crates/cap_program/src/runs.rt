@@ -5,7 +5,7 @@ ghost use Rattle.std.specs.Io.KnownBytes.{Appends};
 ghost use Rattle.cap_program.specs.{Commands.IsMeant, Doings.{IsDone, IsFollowed, TellsFaultLine, ended_by, gave_by}};
 ghost use Rattle.cap_program.specs.{Doings.known_bytes, Faults.fault_line, Runs.IsRan};
 
-use crate::answers::{exit_status, hand_on, tell};
+use crate::answers::{exit_status, hand_on, tell_of};
 use crate::commands::Command;
 use crate::faults::Fault;
 use crate::inputs::opened;
@@ -49,14 +49,26 @@ pub fn carry_out<C: Command, S: Source, K: Output, F: Sink>(
     faults: &mut F,
 ) -> Result<u8, Fault>
     ensures followed { IsFollowed C.meaning order S.gave S.ended S.faults K.took K.faults input.old input.new out.old out.new result }
-    ensures told { TellsFaultLine C.meaning.program F.took F.faults result faults.old faults.new }
+    ensures told { TellsFaultLine (C.meaning.front order) F.took F.faults result faults.old faults.new }
     ensures handed_on { OnOk result (K.has_handed_on out.new ≡ true) }
 {
-    let done = match order {
+    let done = follow(alloc, order, input, out);
+    let done = hand_on(done, out);
+    tell_of(order, done, faults);
+    done
+}
+
+// Pushes the text of an order, if there is one.
+fn follow<C: Command, S: Source, K: Output>(
+    alloc: Global,
+    order: Option<C>,
+    input: &mut Option<S>,
+    out: &mut K,
+) -> Result<u8, Fault>
+    ensures followed { IsFollowed C.meaning order S.gave S.ended S.faults K.took K.faults input.old input.new out.old out.new result }
+{
+    match order {
         Some(order) => order.follow(alloc, input, out),
         None => Err(Fault::BadWords),
-    };
-    let done = hand_on(done, out);
-    tell(C::program(), done, faults);
-    done
+    }
 }

@@ -81,20 +81,22 @@ module _ {S : Type 0} (asks_are : Asks) (gave : S → S → List ℕ → Type 0)
       (record {
         judged = record { given = given; gives = gives; answer = record { verdict = ends.0; guarded = run_guarded asks_are given; fault = tt } };
         stops = ends.1;
+        leaves = tt;
       })
 
   -- want of memory
-  pub lacking_judged : (more : List ℕ) → MayLackMemory asks_are given more → gave old new given
-      → JudgedBy asks_are gave ended old new (Err JudgeFault.NoMemory) run_is text
-  lacking_judged more lack gives = record {
+  pub lacking_judged : (stage : Stage) (taken rest more : List ℕ) → Goes (unread asks_are) taken stage → given ≡ taken ++ rest → run_is ≡ stage.run
+      → MayLackMemory asks_are given more → gave old new given → JudgedBy asks_are gave ended old new (Err JudgeFault.NoMemory) run_is text
+  lacking_judged stage taken rest more goes are is lack gives = record {
     judged = record { given = given; gives = gives; answer = record { verdict = tt; guarded = run_guarded asks_are given; fault = (more, lack) } };
     stops = tt;
+    leaves = record { stage = stage; rest = rest; behind = record { front = taken; bytes_are = are; goes = goes }; run_is = is };
   }
 
   -- a source that failed after lines that begin a run log, and less than a line
   pub pull_judged : (stage : Stage) (taken rest : List ℕ) → Goes (unread asks_are) taken stage → IsCut rest → given ≡ taken ++ rest
-      → gave old new given → JudgedBy asks_are gave ended old new (Err JudgeFault.Pull) run_is text
-  pull_judged stage taken rest goes cut are gives = record {
+      → run_is ≡ stage.run → gave old new given → JudgedBy asks_are gave ended old new (Err JudgeFault.Pull) run_is text
+  pull_judged stage taken rest goes cut are is gives = record {
     judged = record {
       given = given;
       gives = gives;
@@ -105,6 +107,7 @@ module _ {S : Type 0} (asks_are : Asks) (gave : S → S → List ℕ → Type 0)
       };
     };
     stops = tt;
+    leaves = record { stage = stage; rest = rest; behind = record { front = taken; bytes_are = are; goes = goes }; run_is = is };
   }
 
 -- lines were read, or what is left grows

@@ -60,8 +60,16 @@ pub record Judged {S : Type 0} (asks : Asks) (gave : S → S → List ℕ → Ty
   pub gives : gave old new given
   pub answer : IsAnswerOf asks given (ended new) result
 
+-- after a fault the machine has the run of the lines that were taken, with which the bytes begin
+pub record LeavesIn (asks : Asks) (bytes : List ℕ) (run : Run) : Type 0 where
+  pub stage : Stage
+  pub rest : List ℕ
+  pub behind : IsBehind asks bytes stage rest
+  pub run_is : run ≡ stage.run
+
 -- an answer with the run of the judge's machine then, and the text of the line that was refused
 pub record JudgedBy {S : Type 0} (asks : Asks) (gave : S → S → List ℕ → Type 0) (ended : S → Bool) (old new : S)
     (result : Result RunVerdict JudgeFault) (run : Run) (text : List ℕ) : Type 0 where
   pub judged : Judged asks gave ended old new result
   pub stops : IfOk result (StopsIn asks judged.given (ended new) run text)
+  pub leaves : IfErr result (λ fault. LeavesIn asks judged.given run)

@@ -79,7 +79,8 @@ pub struct RunJudgeEnd<M: TaggedStore> {
 }
 
 /// Judges as [`judge_run_in`] does, and gives the machine with the answer: after a `yes` it is as the log's lines left
-/// it, and after a `no` as those before the line left it that was refused.
+/// it, after a `no` as those before the line left it that was refused, and after a fault as the lines left it that were
+/// taken.
 pub fn judge_run_keeping<S: Source, M: TaggedStore>(
     source: &mut S,
     memory: M,

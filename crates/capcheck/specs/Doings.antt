@@ -43,7 +43,7 @@ Fails order given fault = ⊥
 -- what the orders of the program mean
 abbrev pub order_meaning : Meaning Order
 order_meaning = record {
-  program = codes "capcheck";
+  front = λ order fault. codes "capcheck: ";
   shows = Shows;
   fails = Fails;
   prints = Prints;

@@ -35,7 +35,7 @@ fn main(rt: HostRuntime) -> ExitCode {
         Ok(status) => status,
         Err(AllocError) => {
             let done = Err(Fault::NoMemory);
-            tell("capcheck", done, &mut WriteSink::new(&mut rt.stderr()));
+            tell(b"capcheck: ", done, &mut WriteSink::new(&mut rt.stderr()));
             exit_status(done)
         }
     })

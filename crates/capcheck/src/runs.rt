@@ -1,6 +1,6 @@
 //! What the program does with an order: its texts and its exit status.
 
-ghost use Rattle.std.specs.Prelude.{◌≡◌, ◌≤◌, true, codes, None, OnOk, length};
+ghost use Rattle.std.specs.Prelude.{◌≡◌, ◌≤◌, true, codes, take, None, OnOk};
 ghost use Rattle.cap_program.specs.{Doings.{IsFollowed, TellsFaultLine, known_bytes}, Runs.IsRan};
 ghost use Rattle.capcheck.specs.Doings.{order_meaning};
 
@@ -8,6 +8,7 @@ use crate::checks::check_source;
 use crate::explanations::{show_explanation, show_rounding};
 use crate::judges::judge_input;
 use crate::words::Order;
+use cap_log::buffers::put;
 use cap_log::{Sink, Source};
 use cap_program::{Command, Fault, Output};
 use std::alloc::Global;
@@ -20,11 +21,11 @@ impl Command for Order<'_> {
 
     ghost unread = { λ reads. reads };
 
-    fn program() -> &'static str
-        ensures value { result.now ≡ order_meaning.program }
-        ensures short { length result.now ≤ 16 }
+    fn put_front(_order: Option<Self>, _fault: Fault, buffer: &mut [u8; 288]) -> usize
+        ensures front { take result buffer.new ≡ codes "capcheck: " }
+        ensures short { result ≤ 288 }
     {
-        "capcheck"
+        put(buffer, 0, b"capcheck: ")
     }
 
     fn follow<S: Source, K: Sink>(
@@ -72,7 +73,7 @@ pub fn carry_out<S: Source, K: Output, F: Sink>(
     faults: &mut F,
 ) -> Result<u8, Fault>
     ensures followed { IsFollowed order_meaning order.entry S.gave S.ended S.faults K.took K.faults input.old input.new out.old out.new result }
-    ensures told { TellsFaultLine (codes "capcheck") F.took F.faults result faults.old faults.new }
+    ensures told { TellsFaultLine (λ fault. codes "capcheck: ") F.took F.faults result faults.old faults.new }
     ensures handed_on { OnOk result (K.has_handed_on out.new ≡ true) }
 {
     cap_program::carry_out(alloc, order, input, out, faults)

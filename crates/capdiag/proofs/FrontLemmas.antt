@@ -1,10 +1,10 @@
 -- The first bytes of an input, read part by part.
 use Rattle.std.specs.Io.KnownBytes.{Consumes, Keeps}
-use Rattle.std.proofs.Common.{◌≡◌, ◌≤◌, ◌+◌, ◌-◌, ◌++◌, ℕ, List, [], Option, None, Some, length, take, drop, sym, ap, subst, ◌∙◌, refl, arith, append-nil, length-drop, length-take}
+use Rattle.std.proofs.Common.{◌≡◌, ◌≤◌, ◌+◌, ◌++◌, ℕ, List, [], Option, None, Some, length, take, drop, sym, ap, subst, ◌∙◌, arith, append-nil, length-drop, length-take}
 use Rattle.std.proofs.Math.Seq.{take-append-add}
 use Rattle.std.proofs.lemmas.{List.take-append-le, Slice.take-put_mid_below}
 use borrow.Rule.Slice.PartMut.{put_mid, post_of, same_len_mid}
-use Rattle.cap_streams.specs.KnownLaws.{Consumes-joined, Consumes-nothing}
+use Rattle.cap_streams.specs.KnownLaws.{Consumes-joined}
 
 -- the first bytes of a list after bytes were put behind some of its own
 pub front_more : (a k m : ℕ) (xs ys : List ℕ) → a ≤ length xs → m ≤ length ys → take (a + m) (put_mid a k xs ys) ≡ take a xs ++ take m ys

@@ -1,9 +1,9 @@
 -- What the program prints for an order, and what belongs to the bytes that were given for it. All of it is this
 -- profile's own.
-use Rattle.std.specs.Prelude.{◌≡◌, ℕ, Bool, List, Option, Some, None, IfSome, option_map, codes}
+use Rattle.std.specs.Prelude.{◌≡◌, ℕ, Bool, List, Option, Some, None, IfSome, option_map}
 use Rattle.cap_program.specs.{declared.faults.Fault.{Fault, TheVariants.BadWords}, Commands.Meaning}
 use Rattle.capdiag.specs.declared.orders.Order.{Order, TheVariants.{Help, Version, Judge}}
-use Rattle.capdiag.specs.{Forms.is_kept, Judgings.{PrintsJudged, ShowsJudged, StopsJudged, kind_of}}
+use Rattle.capdiag.specs.{Files.front_of, Forms.is_kept, Judgings.{PrintsJudged, ShowsJudged, StopsJudged, kind_of}}
 use Rattle.capdiag.specs.{Renderings.{Lacks, Renders, RendersAll, name_of}, Showings.{help_text, version_line}}
 
 -- the text that an order prints, and its status: those of the verdict on its bytes, as they are shown
@@ -42,7 +42,7 @@ Fails order given fault = ⊥
 -- what the orders of the program mean
 abbrev pub order_meaning : Meaning Order
 order_meaning = record {
-  program = codes "capdiag";
+  front = front_of;
   shows = Shows;
   fails = Fails;
   prints = Prints;

@@ -4,6 +4,10 @@ pub mod Hints
 pub mod Showings
 pub mod Forms
 pub mod Orders
+pub mod Files
+pub mod Notes
+pub mod Noted
+pub mod Tallies
 pub mod Readings
 pub mod Renderings
 pub mod Judgings

@@ -1,5 +1,5 @@
 -- What the words after the program's name ask for, or what is wrong with them. All of it is this profile's own.
-use Rattle.std.specs.Prelude.{ℕ, ◌+◌, ◌-◌, ◌^◌, ◌==◌, min, Bool, true, false, ◌||◌, List, [], ◌∷◌, codes, bytes_eq, if◌then◌else◌}
+use Rattle.std.specs.Prelude.{ℕ, Bool, true, false, ◌||◌, List, [], ◌∷◌, ◌++◌, codes, bytes_eq, if◌then◌else◌}
 use Rattle.std.specs.Prelude.{Option, Some, None, is_some, ok_or, option_map, Result, Ok, Err}
 use Rattle.cap_program.specs.Words.{is_operand}
 use Rattle.capdiag.specs.declared.complaints.Complaint.{Complaint}
@@ -7,25 +7,15 @@ use Rattle.capdiag.specs.declared.complaints.Complaint.TheVariants.{NoCommand, U
 use Rattle.capdiag.specs.declared.complaints.Complaint.TheVariants.{NoCount, UnknownCount, Twice, Alone}
 use Rattle.capdiag.specs.declared.forms.Form.{Form}
 use Rattle.capdiag.specs.declared.orders.{Judging.{Judging, TheVariants.{Why, Heap, Run}}, Freed.TheVariants.{Held, Used, Both}}
-use Rattle.capdiag.specs.declared.words.Due.{Due, TheVariants.{Any, FreedValue, ContextValue, File}}
+use Rattle.capdiag.specs.declared.words.{Asked.Asked, Due.{Due, TheVariants.{Any, FreedValue, ContextValue, File}}}
 use Rattle.capdiag.specs.Forms.{count_of, is_json, plain, with_json, with_lines}
 
--- what words ask for: help; the version; or what a judge says of one of the files that they name, how it is shown, the
--- file, if that isn't standard input, and how many files there are
+-- what words ask for: help; the version; or what a judge says of each of these files in turn, or of standard input if there is
+-- none, and how it is shown
 pub data Request : Type 0 where
   Help : Request
   Version : Request
-  Judge : (judging : Judging) (form : Form) (file : Option (List ℕ)) (files : ℕ) → Request
-
--- what the words that were read ask for: what the next word is; the judge, and how what it says is shown; how many operands
--- there are, and that which has this number among them, from 0
-pub record Asked : Type 0 where
-  pub due : Due
-  pub judging : Judging
-  pub form : Form
-  pub number : ℕ
-  pub files : ℕ
-  pub operand : Option (List ℕ)
+  Judge : (judging : Judging) (form : Form) (files : List (List ℕ)) → Request
 
 -- what all words ask for, or what is wrong, and with which word
 abbrev pub Read : Type 0
@@ -76,16 +66,19 @@ with_freed (Run freed owned owners why) word =
     else None
 with_freed judging word = None
 
--- what is asked for with one operand more, of which no more are counted than a u32 holds
-abbrev pub with_operand : Asked → List ℕ → Asked
-with_operand asked word = record asked {
-  files = min (asked.files + 1) (2 ^ 32 - 1);
-  operand = if asked.files == asked.number then Some word else asked.operand;
-}
-
 -- whether a word is an operand before the options have ended: it is a minus sign alone, or doesn't begin with one
 abbrev pub is_taken : List ℕ → Bool
 is_taken word = bytes_eq word (codes "-") || is_operand word
+
+-- whether a word is a file, by what the next word is
+abbrev pub is_file : Due → List ℕ → Bool
+is_file Any word = is_taken word
+is_file File word = true
+is_file due word = false
+
+-- what is asked for with one file more: a minus sign alone names standard input, which can be read once
+abbrev pub with_file : Asked → List ℕ → Result Asked Complaint
+with_file asked word = if bytes_eq word (codes "-") then once asked.has_input (record asked { has_input = true }) else Ok asked
 
 -- what is asked for with one word more, by what it is
 abbrev pub with_due : Due → Asked → List ℕ → Result Asked Complaint
@@ -93,35 +86,35 @@ with_due FreedValue asked word =
     ok_or (option_map (λ more. record asked { due = Any; judging = more }) (with_freed asked.judging word)) UnknownValue
 with_due ContextValue asked word =
     ok_or (option_map (λ count. record asked { due = Any; form = with_lines asked.form count }) (count_of word)) UnknownCount
-with_due Any asked word = if is_taken word then Ok (with_operand asked word) else after_option asked word
-with_due File asked word = Ok (with_operand asked word)
+with_due Any asked word = if is_taken word then with_file asked word else after_option asked word
+with_due File asked word = with_file asked word
 
 abbrev pub with_word : Asked → List ℕ → Result Asked Complaint
 with_word asked word = with_due asked.due asked word
 
--- the file that an operand names: a minus sign alone names standard input, as no operand does
-abbrev pub file_of : Option (List ℕ) → Option (List ℕ)
-file_of None = None
-file_of (Some word) = if bytes_eq word (codes "-") then None else Some word
+-- what is asked for where the words end, by what was due, with the files that they name
+abbrev pub ended_by : Due → Asked → List (List ℕ) → Read
+ended_by FreedValue asked files = Err (NoValue, codes "--freed")
+ended_by ContextValue asked files = Err (NoCount, codes "--context")
+ended_by due asked files = Ok (Judge asked.judging asked.form files)
 
--- what is asked for where the words end, by what was due
-abbrev pub ended_by : Due → Asked → Read
-ended_by FreedValue asked = Err (NoValue, codes "--freed")
-ended_by ContextValue asked = Err (NoCount, codes "--context")
-ended_by due asked = Ok (Judge asked.judging asked.form (file_of asked.operand) asked.files)
-
-abbrev pub at_end : Asked → Read
-at_end asked = ended_by asked.due asked
+abbrev pub at_end : Asked → List (List ℕ) → Read
+at_end asked files = ended_by asked.due asked files
 
 -- what is asked for with more words, read from left to right until one is wrong
 abbrev pub told_of : List ℕ → Result Asked Complaint → Result Asked (Complaint × List ℕ)
 told_of word (Ok asked) = Ok asked
 told_of word (Err complaint) = Err (complaint, word)
 
-abbrev pub with_words : Result Asked (Complaint × List ℕ) → List (List ℕ) → Read
-with_words (Err wrong) words = Err wrong
-with_words (Ok asked) [] = at_end asked
-with_words (Ok asked) (word ∷ words) = with_words (told_of word (with_word asked word)) words
+abbrev pub more_files : Bool → List (List ℕ) → List ℕ → List (List ℕ)
+more_files true files word = files ++ (word ∷ [])
+more_files false files word = files
+
+abbrev pub with_words : Result Asked (Complaint × List ℕ) → List (List ℕ) → List (List ℕ) → Read
+with_words (Err wrong) files words = Err wrong
+with_words (Ok asked) files [] = at_end asked files
+with_words (Ok asked) files (word ∷ words) =
+    with_words (told_of word (with_word asked word)) (more_files (is_file asked.due word) files word) words
 
 -- whether the words after a command ask for help
 abbrev pub is_help : List (List ℕ) → Bool
@@ -129,24 +122,29 @@ is_help (word ∷ []) = bytes_eq word (codes "--help")
 is_help words = false
 
 -- what a command and the words after it ask for
-abbrev pub after_command : ℕ → Judging → List (List ℕ) → Read
-after_command at judge words =
+abbrev pub after_command : Judging → List (List ℕ) → Read
+after_command judge words =
     if is_help words then Ok Help
-    else with_words (Ok (record { due = Any; judging = judge; form = plain; number = at; files = 0; operand = None })) words
+    else with_words (Ok (record { due = Any; judging = judge; form = plain; has_input = false })) [] words
 
 -- what an option in place of a command asks for: no other word stands beside it
 abbrev pub alone : Request → List ℕ → List (List ℕ) → Read
 alone request option [] = Ok request
 alone request option (word ∷ words) = Err (Alone, option)
 
--- what the words ask for, of the file with this number among those that they name
-abbrev pub read_words : ℕ → List (List ℕ) → Read
-read_words at [] = Err (NoCommand, [])
-read_words at (command ∷ words) =
-    if bytes_eq command (codes "why") then after_command at (Why false) words
-    else if bytes_eq command (codes "heap") then after_command at (Heap false false) words
-    else if bytes_eq command (codes "run") then after_command at (Run None false false false) words
-    else if bytes_eq command (codes "--help") then alone Help command words
-    else if bytes_eq command (codes "--version") then alone Version command words
-    else if is_operand command then Err (UnknownCommand, command)
-    else Err (UnknownOption, command)
+-- what the words ask for if the first is no command
+abbrev pub without_command : List ℕ → List (List ℕ) → Read
+without_command word words =
+    if bytes_eq word (codes "--help") then alone Help word words
+    else if bytes_eq word (codes "--version") then alone Version word words
+    else if is_operand word then Err (UnknownCommand, word)
+    else Err (UnknownOption, word)
+
+-- what the words ask for
+abbrev pub read_words : List (List ℕ) → Read
+read_words [] = Err (NoCommand, [])
+read_words (command ∷ words) =
+    if bytes_eq command (codes "why") then after_command (Why false) words
+    else if bytes_eq command (codes "heap") then after_command (Heap false false) words
+    else if bytes_eq command (codes "run") then after_command (Run None false false false) words
+    else without_command command words

@@ -1,31 +1,20 @@
 -- What the program's code reads, as the definitions of orders have it.
-use Rattle.std.specs.Prelude.{option_map, Result, Ok, Err}
-use Rattle.capdiag.specs.declared.{complaints.{Complaint.Complaint, Wrong.Wrong}, words.Asked.Asked}
-use Rattle.capdiag.specs.declared.orders.Order.{Order, TheVariants.{Help, Version, Judge}}
+use Rattle.std.specs.Prelude.{ℕ, List, map, Result, Ok, Err}
+use Rattle.std.specs.Borrow.{Bor}
+use Rattle.capdiag.specs.declared.{complaints.Wrong.Wrong, orders.Request.{Request, TheVariants.{Help, Version, Judge}}}
 use Rattle.capdiag.specs.Orders as orders
 
--- what is asked for
-abbrev pub asked_of : Asked → orders.Asked
-asked_of it = record {
-  due = it.due;
-  judging = it.judging;
-  form = it.form;
-  number = it.number;
-  files = it.files;
-  operand = option_map (λ word. word.now) it.operand;
-}
+-- texts that are lent
+abbrev pub names_of : List (Bor (List ℕ)) → List (List ℕ)
+names_of texts = map (λ text. text.now) texts
 
-abbrev pub more_of : Result Asked Complaint → Result orders.Asked Complaint
-more_of (Ok asked) = Ok (asked_of asked)
-more_of (Err complaint) = Err complaint
-
--- an order
-abbrev pub request_of : Order → orders.Request
+-- a request
+abbrev pub request_of : Request → orders.Request
 request_of Help = orders.Help
 request_of Version = orders.Version
-request_of (Judge judging form file files) = orders.Judge judging form (option_map (λ word. word.now) file) files
+request_of (Judge judging form files) = orders.Judge judging form (names_of files.items)
 
 -- what was read
-abbrev pub read_of : Result Order Wrong → orders.Read
-read_of (Ok order) = Ok (request_of order)
+abbrev pub read_of : Result Request Wrong → orders.Read
+read_of (Ok request) = Ok (request_of request)
 read_of (Err wrong) = Err (wrong.complaint, wrong.word.now)

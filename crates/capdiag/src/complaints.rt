@@ -180,8 +180,8 @@ fn hint_text(kind: LogKind) -> &'static [u8]
     }
 }
 
-// Writes the name of a file, if there is one.
-fn put_name(buffer: &mut [u8], at: usize, name: Option<&str>) -> usize
+/// Writes the name of a file, if there is one.
+pub(crate) fn put_name(buffer: &mut [u8], at: usize, name: Option<&str>) -> usize
     requires room { at + 260 ≤ length buffer.old }
     ensures written { Writes at (named (option_map (λ it. it.now) name.entry)) buffer.old buffer.new result }
     ensures fits { result ≤ at + 260 }

@@ -9,9 +9,11 @@ mod fronts;
 mod guesses;
 mod help;
 mod judges;
+mod noting;
 mod orders;
 mod renderings;
 mod runs;
+mod tallies;
 mod words;
 
 pub use crate::complaints::{
@@ -19,13 +21,15 @@ pub use crate::complaints::{
 };
 pub use crate::forms::{Form, Look, is_plain};
 pub use crate::fronts::{order_on, other_kind, read_front};
-pub use crate::orders::Order;
+pub use crate::noting::{Noting, name_in};
+pub use crate::orders::{Judging, Order, Request, order_of};
 pub use crate::renderings::name_of;
 pub use crate::runs::run;
+pub use crate::tallies::{Tally, tell_summary};
 pub use crate::words::read_words;
 use cap_log::WriteSink;
 pub use cap_program::carry_out;
-use cap_program::{Fault, collect_words, tell};
+use cap_program::{Fault, collect_words, tell, tell_of};
 use std::alloc::AllocError;
 use std::env::{self, VarError};
 use std::fs::File;
@@ -41,12 +45,11 @@ fn main(rt: HostRuntime) -> ExitCode {
 
 // Tells a fault: the status of the program.
 fn fail<F: Write>(fault: Fault, errors: &mut F) -> u8 {
-    tell("capdiag", Err(fault), &mut WriteSink::new(errors));
+    tell(b"capdiag: ", Err(fault), &mut WriteSink::new(errors));
     fault.status()
 }
 
-// Collects the words, and follows the orders that they ask for, one for each file, or says why they ask for none. The status is
-// the greatest of theirs.
+// Collects the words, and does what they ask for, or says why they ask for nothing.
 fn answer(rt: &HostRuntime) -> Result<u8, AllocError> {
     let Some(texts) = collect_words(rt)? else {
         return Ok(fail(Fault::BadWords, &mut rt.stderr()));
@@ -56,21 +59,54 @@ fn answer(rt: &HostRuntime) -> Result<u8, AllocError> {
         words.push(text.as_str())?;
     }
     let words = words.as_slice();
-    let has_colors = has_colors(rt);
-    let mut status = 0u8;
-    for number in 0..u32::MAX {
-        let order = match read_words(number, words) {
-            Ok(order) => with_colors(has_colors, order),
-            Err(wrong) => {
-                tell_words(words, wrong, &mut WriteSink::new(&mut rt.stderr()));
-                return Ok(Fault::BadWords.status());
-            }
-        };
-        let (own, goes_on) = follow_alone(rt, order);
-        status = status.max(own);
-        if !goes_on || number + 1 >= files_of(order) {
-            break;
+    match read_words(rt.alloc(), words)? {
+        Ok(Request::Help) => Ok(show(rt, Order::Help)),
+        Ok(Request::Version) => Ok(show(rt, Order::Version)),
+        Ok(Request::Judge(judging, form, files)) => {
+            judge_files(
+                rt,
+                judging,
+                with_colors(has_colors(rt), form),
+                files.as_slice(),
+            )
         }
+        Err(wrong) => {
+            tell_words(words, wrong, &mut WriteSink::new(&mut rt.stderr()));
+            Ok(Fault::BadWords.status())
+        }
+    }
+}
+
+// Follows an order that reads no input: the status.
+fn show(rt: &HostRuntime, order: Order) -> u8 {
+    run(
+        rt.alloc(),
+        Some(order),
+        None::<File>,
+        &mut rt.stdout(),
+        &mut rt.stderr(),
+    )
+}
+
+// Judges each of these files in turn, or standard input if there is none: the greatest of their statuses. After several, tells
+// how many were accepted and rejected, unless a fault of reading, writing or memory ended it.
+fn judge_files(
+    rt: &HostRuntime,
+    judging: Judging,
+    form: Form,
+    files: &[&str],
+) -> Result<u8, AllocError> {
+    let mut tally = Tally::new(rt.alloc());
+    let mut status = 0u8;
+    for number in 0..files.len().max(1) {
+        let (own, goes_on) = judge_alone(rt, order_of(judging, form, files, number), &mut tally)?;
+        status = status.max(own);
+        if !goes_on {
+            return Ok(status);
+        }
+    }
+    if files.len() > 1 {
+        tell_summary(rt.alloc(), &tally, &mut WriteSink::new(&mut rt.stderr()))?;
     }
     Ok(status)
 }
@@ -91,51 +127,60 @@ fn has_colors(rt: &HostRuntime) -> bool {
     }
 }
 
-// An order whose text has colors, if there are any and it is shown as it is otherwise.
-fn with_colors<'a>(has_colors: bool, order: Order<'a>) -> Order<'a> {
-    match order {
-        Order::Judge(judging, form, file, files) if has_colors && is_plain(form.look) => {
-            let look = Look::Colored;
-            Order::Judge(judging, Form { look, ..form }, file, files)
-        }
-        _ => order,
+// A form with colors, if there are any and it is shown as it is otherwise.
+fn with_colors(has_colors: bool, form: Form) -> Form {
+    if has_colors && is_plain(form.look) {
+        return Form {
+            look: Look::Colored,
+            ..form
+        };
     }
+    form
 }
 
-// Follows an order on its file or on standard input: the status, and whether the next file can be judged, which no fault of
+// Judges a file or standard input, and counts it if it is one of several: the status, and whether the next file can be judged, which no fault of
 // reading, writing or memory lets.
-fn follow_alone(rt: &HostRuntime, order: Order) -> (u8, bool) {
+fn judge_alone(
+    rt: &HostRuntime,
+    order: Order,
+    tally: &mut Tally,
+) -> Result<(u8, bool), AllocError> {
     let (out, errors) = (&mut rt.stdout(), &mut rt.stderr());
+    let mut out = Noting::new(out);
     let status = match file_of(order) {
         Some(path) => match open(rt, path) {
-            Ok(file) => follow(rt, order, file, out, errors),
+            Ok(file) => judge(rt, order, file, &mut out, errors),
             Err(reason) => {
                 tell_unopened(path, reason, &mut WriteSink::new(errors));
-                return (Fault::Read.status(), true);
+                tally.pass_over();
+                return Ok((Fault::Read.status(), true));
             }
         },
         None => {
             let input = rt.stdin();
-            if reads_log(order) && input.is_terminal() {
+            if input.is_terminal() {
                 tell_waiting(&mut WriteSink::new(errors));
             }
-            follow(rt, order, input, out, errors)
+            judge(rt, order, input, &mut out, errors)
         }
     };
-    (status, status < Fault::Read.status())
+    match status {
+        0 => tally.accept(),
+        1 if files_of(order) > 1 => tally.reject(rt.alloc(), name_in(out.front()))?,
+        1 => {}
+        _ => return Ok((status, false)),
+    }
+    Ok((status, true))
 }
 
-// Follows an order on an input, whose first line says what `why` judges, and whether another command was meant.
-fn follow<R: Read + Drop, O: Write, F: Write>(
+// Judges an input, whose first line says what `why` judges, and whether another command was meant.
+fn judge<R: Read + Drop, O: Write, F: Write>(
     rt: &HostRuntime,
     order: Order,
     mut input: R,
     out: &mut O,
     errors: &mut F,
 ) -> u8 {
-    if !reads_log(order) {
-        return run(rt.alloc(), Some(order), Some(input), out, errors);
-    }
     let mut front = [0u8; 6];
     match read_front(&mut input, &mut front) {
         Ok(length) => {
@@ -151,7 +196,10 @@ fn follow<R: Read + Drop, O: Write, F: Write>(
             }
             status
         }
-        Err(_) => fail(Fault::Read, errors),
+        Err(_) => {
+            tell_of(Some(order), Err(Fault::Read), &mut WriteSink::new(errors));
+            Fault::Read.status()
+        }
     }
 }
 
@@ -167,11 +215,6 @@ fn open(rt: &HostRuntime, path: &str) -> Result<File, Unopened> {
     }
 }
 
-// Whether an order judges a log.
-fn reads_log(order: Order) -> bool {
-    matches!(order, Order::Judge(..))
-}
-
 // The file that an order names.
 fn file_of<'a>(order: Order<'a>) -> Option<&'a str> {
     match order {
@@ -181,7 +224,7 @@ fn file_of<'a>(order: Order<'a>) -> Option<&'a str> {
 }
 
 // How many files there are, as an order of one of them has it.
-fn files_of(order: Order) -> u32 {
+fn files_of(order: Order) -> usize {
     match order {
         Order::Judge(.., files) => files,
         Order::Help | Order::Version => 0,

@@ -1,18 +1,32 @@
 //! What the program can be asked to do.
 
+ghost use Rattle.std.specs.Prelude.{◌≡◌, length, option_map, slice_get};
+ghost use Rattle.capdiag.specs.{Files.{Judges, file_of}, Readings.names_of};
+
 use crate::forms::Form;
 
-/// What the program was asked to do.
-#[derive(Clone, Copy)]
-pub enum Order<'a> {
+/// What the words ask for.
+#[derive(Drop)]
+pub enum Request<'a> {
     /// `--help`, after a command too: tell how the program is used.
     Help,
     /// `--version`: tell its version.
     Version,
-    /// `why`, `heap` or `run`, each with `[--context N] [--json] [FILE..]`: judge a log, and print the verdict with the
-    /// reports that are asked for, in this form. The file's name is not `-`, and none for standard input. Each of so many
-    /// files is judged by an order of its own.
-    Judge(Judging, Form, Option<&'a str>, u32),
+    /// `why`, `heap` or `run`, each with `[--context N] [--json] [FILE..]`: judge each file in turn, or standard input if there
+    /// is none, and print the verdict with the reports that are asked for, in this form. `-` is standard input.
+    Judge(Judging, Form, Vec<&'a str>),
+}
+
+/// What the program does at once.
+#[derive(Clone, Copy)]
+pub enum Order<'a> {
+    /// Tell how the program is used.
+    Help,
+    /// Tell its version.
+    Version,
+    /// Judge a log, one of so many, and print the verdict with the reports that are asked for, in this form. The file's name
+    /// is not `-`, and none for standard input.
+    Judge(Judging, Form, Option<&'a str>, usize),
 }
 
 /// A judge, and the reports that it is asked for.
@@ -52,4 +66,22 @@ pub enum Freed {
     Used,
     /// `both` of these.
     Both,
+}
+
+// The file that a word names; none for standard input.
+fn file_of<'a>(word: Option<&'a str>) -> Option<&'a str>
+    ensures value { option_map (λ it. it.now) result ≡ file_of (option_map (λ it. it.now) word.entry) }
+{
+    match word {
+        None | Some("-") => None,
+        Some(name) => Some(name),
+    }
+}
+
+/// The order that judges one of some files, by its number from 0, or standard input if there are none.
+pub fn order_of<'a>(judging: Judging, form: Form, files: &[&'a str], number: usize) -> Order<'a>
+    ensures judges { Judges judging form (file_of (slice_get (names_of files.now) number)) (length files.now) result }
+{
+    let file = file_of(files.get(number).copied());
+    Order::Judge(judging, form, file, files.len())
 }

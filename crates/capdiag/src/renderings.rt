@@ -2,7 +2,7 @@
 
 ghost use Rattle.std.specs.Prelude.{◌≡◌, ℕ, List, option_map, true};
 ghost use Rattle.cap_program.specs.Doings.{IsCounted, IsDone};
-ghost use Rattle.capdiag.specs.{Forms.is_kept, Judgings.{ShowsJudged, StopsJudged, kind_of}, Renderings.{Lacks, Renders, name_of}};
+ghost use Rattle.capdiag.specs.{Files.told_name, Forms.is_kept, Judgings.{ShowsJudged, StopsJudged, kind_of}, Renderings.{Lacks, Renders, name_of}};
 
 use crate::forms::{Form, is_kept, push_report, recorded};
 use crate::judges::{asks_of, explain_source, judge_heap_source, judge_run_source};
@@ -14,10 +14,21 @@ use cap_program::Fault;
 use std::alloc::Global;
 
 /// The name that is shown of a file, if there are more: that of standard input is `-`.
-pub fn name_of<'a>(files: u32, file: Option<&'a str>) -> Option<&'a str>
+pub fn name_of<'a>(files: usize, file: Option<&'a str>) -> Option<&'a str>
     ensures value { option_map (λ it. it.now) result ≡ name_of files (option_map (λ it. it.now) file.entry) }
 {
     if files > 1 {
+        Some(file.unwrap_or("-"))
+    } else {
+        None
+    }
+}
+
+/// The name that a fault of reading has of its input, if the words name one: that of standard input is `-`.
+pub fn told_name<'a>(files: usize, file: Option<&'a str>) -> Option<&'a str>
+    ensures value { option_map (λ it. it.now) result ≡ told_name files (option_map (λ it. it.now) file.entry) }
+{
+    if files > 0 {
         Some(file.unwrap_or("-"))
     } else {
         None
@@ -106,7 +117,7 @@ pub fn judge_as<S: Source, K: Sink>(
     judging: Judging,
     form: Form,
     file: Option<&str>,
-    files: u32,
+    files: usize,
     source: &mut S,
     sink: &mut K,
 ) -> Result<u8, Fault>

@@ -1,12 +1,14 @@
 //! What the program does with an order: its texts and its exit status.
 
-ghost use Rattle.std.specs.Prelude.{◌≡◌, ◌≤◌, None, length};
+ghost use Rattle.std.specs.Prelude.{◌≡◌, ◌≤◌, None, take};
 ghost use Rattle.cap_program.specs.{Doings.known_bytes, Runs.IsRan};
-ghost use Rattle.capdiag.specs.Answers.{order_meaning};
+ghost use Rattle.capdiag.specs.{Answers.order_meaning, Files.front_of};
 
+use crate::complaints::put_name;
 use crate::help::{show_help, show_version};
 use crate::orders::Order;
-use crate::renderings::judge_as;
+use crate::renderings::{judge_as, told_name};
+use cap_log::buffers::put;
 use cap_log::{Sink, Source};
 use cap_program::{Command, Fault};
 use std::alloc::Global;
@@ -19,11 +21,17 @@ impl Command for Order<'_> {
 
     ghost unread = { λ reads. reads };
 
-    fn program() -> &'static str
-        ensures value { result.now ≡ order_meaning.program }
-        ensures short { length result.now ≤ 16 }
+    fn put_front(order: Option<Self>, fault: Fault, buffer: &mut [u8; 288]) -> usize
+        ensures front { take result buffer.new ≡ front_of order.entry fault }
+        ensures short { result ≤ 288 }
     {
-        "capdiag"
+        let at = put(buffer, 0, b"capdiag: ");
+        match (order, fault) {
+            (Some(Order::Judge(_, _, file, files)), Fault::Read) => {
+                put_name(buffer, at, told_name(files, file))
+            }
+            _ => at,
+        }
     }
 
     fn follow<S: Source, K: Sink>(

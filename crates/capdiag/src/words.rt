@@ -1,14 +1,15 @@
 //! The words after the program's name.
 
-ghost use Rattle.std.specs.Prelude.{◌≡◌, map, option_map};
-ghost use Rattle.capdiag.specs.Orders.{after_command, after_flag, after_option, alone, at_end, file_of, is_help, is_taken, once, read_words};
-ghost use Rattle.capdiag.specs.Orders.{with_flag, with_freed, with_operand, with_word, with_words};
-ghost use Rattle.capdiag.specs.Readings.{asked_of, more_of, read_of, request_of};
+ghost use Rattle.std.specs.Prelude.{◌≡◌, [], IfOk, Ok, map};
+ghost use Rattle.capdiag.specs.Orders.{after_command, after_flag, after_option, alone, at_end, is_file, is_help, is_taken, once, read_words};
+ghost use Rattle.capdiag.specs.Orders.{with_file, with_flag, with_freed, with_word, with_words, without_command};
+ghost use Rattle.capdiag.specs.Readings.{names_of, read_of, request_of};
 
 use crate::complaints::{Complaint, Wrong};
 use crate::forms::{Form, Look, PLAIN, count_of, is_json};
-use crate::orders::{Freed, Judging, Order};
+use crate::orders::{Freed, Judging, Request};
 use cap_program::is_operand;
+use std::alloc::{AllocError, Global};
 
 // What the next word is.
 #[derive(Clone, Copy)]
@@ -25,24 +26,20 @@ enum Due {
 
 // What the words that were read ask for.
 #[derive(Clone, Copy)]
-struct Asked<'a> {
+struct Asked {
     // What the next word is.
     due: Due,
     // The judge, and the reports that it is asked for.
     judging: Judging,
     // How they are shown.
     form: Form,
-    // The number of the operand that is asked for, from 0.
-    number: u32,
-    // How many operands there are.
-    files: u32,
-    // The operand with that number, if there is one.
-    operand: Option<&'a str>,
+    // Whether standard input is named.
+    has_input: bool,
 }
 
 // What is asked for with an option, if that wasn't given before.
-fn once<'a>(is_given: bool, asked: Asked<'a>) -> Result<Asked<'a>, Complaint>
-    ensures value { once is_given (asked_of asked.entry) ≡ more_of result }
+fn once(is_given: bool, asked: Asked) -> Result<Asked, Complaint>
+    ensures value { result ≡ once is_given asked }
 {
     if is_given {
         return Err(Complaint::Twice);
@@ -105,8 +102,8 @@ fn with_flag(judging: Judging, word: &str) -> Option<(bool, Judging)>
 }
 
 // What is asked for after a judge's own option.
-fn after_flag<'a>(asked: Asked<'a>, word: &str) -> Result<Asked<'a>, Complaint>
-    ensures value { after_flag (asked_of asked.entry) word.now ≡ more_of result }
+fn after_flag(asked: Asked, word: &str) -> Result<Asked, Complaint>
+    ensures value { result ≡ after_flag asked word.now }
 {
     let due = if word == "--freed" {
         Due::FreedValue
@@ -127,8 +124,8 @@ fn after_flag<'a>(asked: Asked<'a>, word: &str) -> Result<Asked<'a>, Complaint>
 }
 
 // What is asked for after an option.
-fn after_option<'a>(asked: Asked<'a>, word: &str) -> Result<Asked<'a>, Complaint>
-    ensures value { after_option (asked_of asked.entry) word.now ≡ more_of result }
+fn after_option(asked: Asked, word: &str) -> Result<Asked, Complaint>
+    ensures value { result ≡ after_option asked word.now }
 {
     let form = asked.form;
     match word {
@@ -192,25 +189,37 @@ fn is_taken(word: &str) -> bool
     word == "-" || is_operand(word)
 }
 
-// What is asked for with one operand more.
-fn with_operand<'a>(asked: Asked<'a>, word: &'a str) -> Asked<'a>
-    ensures value { with_operand (asked_of asked.entry) word.now ≡ asked_of result }
+// Whether a word is a file, by what the next word is.
+fn is_file(due: Due, word: &str) -> bool
+    ensures value { result ≡ is_file due word.now }
 {
-    let operand = if asked.files == asked.number {
-        Some(word)
+    match due {
+        Due::Any => is_taken(word),
+        Due::File => true,
+        Due::FreedValue | Due::ContextValue => false,
+    }
+}
+
+// What is asked for with one file more. Standard input can be read once.
+fn with_file(asked: Asked, word: &str) -> Result<Asked, Complaint>
+    ensures value { result ≡ with_file asked word.now }
+{
+    if word == "-" {
+        once(
+            asked.has_input,
+            Asked {
+                has_input: true,
+                ..asked
+            },
+        )
     } else {
-        asked.operand
-    };
-    Asked {
-        files: asked.files.saturating_add(1),
-        operand,
-        ..asked
+        Ok(asked)
     }
 }
 
 // What is asked for with one word more.
-fn with_word<'a>(asked: Asked<'a>, word: &'a str) -> Result<Asked<'a>, Complaint>
-    ensures value { with_word (asked_of asked.entry) word.now ≡ more_of result }
+fn with_word(asked: Asked, word: &str) -> Result<Asked, Complaint>
+    ensures value { result ≡ with_word asked word.now }
 {
     match asked.due {
         Due::FreedValue => match with_freed(asked.judging, word) {
@@ -233,23 +242,13 @@ fn with_word<'a>(asked: Asked<'a>, word: &'a str) -> Result<Asked<'a>, Complaint
             None => Err(Complaint::UnknownCount),
         },
         Due::Any if !is_taken(word) => after_option(asked, word),
-        Due::Any | Due::File => Ok(with_operand(asked, word)),
+        Due::Any | Due::File => with_file(asked, word),
     }
 }
 
-// The file that an operand names; none for standard input.
-fn file_of<'a>(operand: Option<&'a str>) -> Option<&'a str>
-    ensures value { option_map (λ word. word.now) result ≡ file_of (option_map (λ word. word.now) operand.entry) }
-{
-    match operand {
-        None | Some("-") => None,
-        Some(name) => Some(name),
-    }
-}
-
-// The order that is asked for where the words end.
-fn at_end<'a>(asked: Asked<'a>) -> Result<Order<'a>, Wrong<'a>>
-    ensures value { at_end (asked_of asked.entry) ≡ read_of result }
+// What is asked for where the words end, with the files that they name.
+fn at_end<'a>(asked: Asked, files: Vec<&'a str>) -> Result<Request<'a>, Wrong<'a>>
+    ensures value { at_end asked (names_of files.entry.items) ≡ read_of result }
 {
     match asked.due {
         Due::FreedValue => Err(Wrong {
@@ -260,25 +259,31 @@ fn at_end<'a>(asked: Asked<'a>) -> Result<Order<'a>, Wrong<'a>>
             complaint: Complaint::NoCount,
             word: "--context",
         }),
-        Due::Any | Due::File => {
-            let file = file_of(asked.operand);
-            Ok(Order::Judge(asked.judging, asked.form, file, asked.files))
-        }
+        Due::Any | Due::File => Ok(Request::Judge(asked.judging, asked.form, files)),
     }
 }
 
-// The order that is asked for with more words.
-fn with_words<'a>(asked: Asked<'a>, words: &[&'a str]) -> Result<Order<'a>, Wrong<'a>>
-    ensures value { with_words (Ok (asked_of asked.entry)) (map (λ word. word.now) words.now) ≡ read_of result }
+// What is asked for with more words.
+fn with_words<'a>(
+    alloc: Global,
+    asked: Asked,
+    words: &[&'a str],
+) -> Result<Result<Request<'a>, Wrong<'a>>, AllocError>
+    ensures value { IfOk result (λ read. with_words (Ok asked) [] (map (λ word. word.now) words.now) ≡ read_of read) }
 {
+    let mut files = Vec::new(alloc);
     let mut asked = asked;
     for word in words {
+        let names_file = is_file(asked.due, word);
         match with_word(asked, word) {
             Ok(next) => asked = next,
-            Err(complaint) => return Err(Wrong { complaint, word }),
+            Err(complaint) => return Ok(Err(Wrong { complaint, word })),
+        }
+        if names_file {
+            files.push(*word)?;
         }
     }
-    at_end(asked)
+    Ok(at_end(asked, files))
 }
 
 // Whether the words after a command ask for help.
@@ -293,32 +298,34 @@ fn is_help(words: &[&str]) -> bool
 
 // What a command and the words after it ask for.
 fn after_command<'a>(
-    number: u32,
+    alloc: Global,
     judging: Judging,
     words: &[&'a str],
-) -> Result<Order<'a>, Wrong<'a>>
-    ensures value { after_command number judging (map (λ word. word.now) words.now) ≡ read_of result }
+) -> Result<Result<Request<'a>, Wrong<'a>>, AllocError>
+    ensures value { IfOk result (λ read. after_command judging (map (λ word. word.now) words.now) ≡ read_of read) }
 {
     if is_help(words) {
-        return Ok(Order::Help);
+        return Ok(Ok(Request::Help));
     }
     let asked = Asked {
         due: Due::Any,
         judging,
         form: PLAIN,
-        number,
-        files: 0,
-        operand: None,
+        has_input: false,
     };
-    with_words(asked, words)
+    with_words(alloc, asked, words)
 }
 
 // What an option in place of a command asks for: no other word stands beside it.
-fn alone<'a>(order: Order<'a>, option: &'a str, words: &[&'a str]) -> Result<Order<'a>, Wrong<'a>>
-    ensures value { alone (request_of order.entry) option.now (map (λ word. word.now) words.now) ≡ read_of result }
+fn alone<'a>(
+    request: Request<'a>,
+    option: &'a str,
+    words: &[&'a str],
+) -> Result<Request<'a>, Wrong<'a>>
+    ensures value { alone (request_of request.entry) option.now (map (λ word. word.now) words.now) ≡ read_of result }
 {
     if words.is_empty() {
-        return Ok(order);
+        return Ok(request);
     }
     Err(Wrong {
         complaint: Complaint::Alone,
@@ -326,22 +333,42 @@ fn alone<'a>(order: Order<'a>, option: &'a str, words: &[&'a str]) -> Result<Ord
     })
 }
 
-/// Reads the words after the program's name: what they ask for of the file with this number among those that they name,
-/// counted from 0, and if they ask for nothing what is wrong with them. Options stand before, after and between files, in any
-/// order.
-pub fn read_words<'a>(number: u32, words: &[&'a str]) -> Result<Order<'a>, Wrong<'a>>
-    ensures value { read_words number (map (λ word. word.now) words.now) ≡ read_of result }
+// What the words ask for where the first is no command.
+fn without_command<'a>(word: &'a str, words: &[&'a str]) -> Result<Request<'a>, Wrong<'a>>
+    ensures value { without_command word.now (map (λ word. word.now) words.now) ≡ read_of result }
+{
+    match word {
+        "--help" => alone(Request::Help, word, words),
+        "--version" => alone(Request::Version, word, words),
+        _ if is_operand(word) => Err(Wrong {
+            complaint: Complaint::UnknownCommand,
+            word,
+        }),
+        _ => Err(Wrong {
+            complaint: Complaint::UnknownOption,
+            word,
+        }),
+    }
+}
+
+/// Reads the words after the program's name: what they ask for, and if they ask for nothing what is wrong with them. Options
+/// stand before, after and between files, in any order.
+pub fn read_words<'a>(
+    alloc: Global,
+    words: &[&'a str],
+) -> Result<Result<Request<'a>, Wrong<'a>>, AllocError>
+    ensures value { IfOk result (λ read. read_words (map (λ word. word.now) words.now) ≡ read_of read) }
 {
     let Some((command, words)) = words.split_first() else {
-        return Err(Wrong {
+        return Ok(Err(Wrong {
             complaint: Complaint::NoCommand,
             word: "",
-        });
+        }));
     };
     match *command {
-        "why" => after_command(number, Judging::Why { origins: false }, words),
+        "why" => after_command(alloc, Judging::Why { origins: false }, words),
         "heap" => after_command(
-            number,
+            alloc,
             Judging::Heap {
                 report: false,
                 why: false,
@@ -349,7 +376,7 @@ pub fn read_words<'a>(number: u32, words: &[&'a str]) -> Result<Order<'a>, Wrong
             words,
         ),
         "run" => after_command(
-            number,
+            alloc,
             Judging::Run {
                 freed: None,
                 owned: false,
@@ -358,15 +385,6 @@ pub fn read_words<'a>(number: u32, words: &[&'a str]) -> Result<Order<'a>, Wrong
             },
             words,
         ),
-        "--help" => alone(Order::Help, command, words),
-        "--version" => alone(Order::Version, command, words),
-        word if is_operand(word) => Err(Wrong {
-            complaint: Complaint::UnknownCommand,
-            word,
-        }),
-        word => Err(Wrong {
-            complaint: Complaint::UnknownOption,
-            word,
-        }),
+        word => Ok(without_command(word, words)),
     }
 }

@@ -12,7 +12,7 @@ ran : (g : given.Over) (c : goal.Joined-input g) (after faults_after : Option (L
     (Appends (g.O.Write.contents c.args.out.now) after) c.carry_out.result)
     → IfOk c.carry_out.result (λ status. Appends (g.F.Write.contents c.args.faults.now) faults_after [])
     → IfErr c.carry_out.result (λ fault. (n : ℕ)
-    × Appends (g.F.Write.contents c.args.faults.now) faults_after (take n (fault_line g.C.Command.meaning.program fault)))
+    × Appends (g.F.Write.contents c.args.faults.now) faults_after (take n (fault_line (g.C.Command.meaning.front c.args.order fault) fault)))
     → IsRan g.C.Command.meaning c.args.order (known_bytes g.R.Read.remaining c.args.input) (c.args.input ≡ None)
     (g.O.Write.contents c.args.out.now) after (g.F.Write.contents c.args.faults.now) faults_after c.exit_status.result
 ran g c after faults_after d silent told =
@@ -40,7 +40,7 @@ ran g c after faults_after d silent told =
       missing = λ reads none. ran_missing prints belongs faulty before after _ c.carry_out.result r
           (c.carry_out.ensures.followed.missing reads (c.opened-input.ensures.missing none));
       silent = ran_silent prints belongs faulty before after _ c.carry_out.result _ _ r silent;
-      told = ran_told prints belongs faulty before after _ c.carry_out.result (fault_line m.program)
+      told = ran_told prints belongs faulty before after _ c.carry_out.result (λ fault. fault_line (m.front order fault) fault)
           (Appends (g.F.Write.contents c.args.faults.now) faults_after) r told;
     }
 

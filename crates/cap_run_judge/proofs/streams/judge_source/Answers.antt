@@ -47,7 +47,7 @@ returns-in-Err-clause-judged g c =
     let here = c.pieces.invariant.here in
     let given = here.0 ++ items c.pieces.pulled in
     pull_judged c.args.judge.now.machine.asks gave g.S.Source.ended c.args.source.now c.fill.new.source (run_in c.pieces.judge.machine) _ given
-    (stage_of c.pieces.judge) here.0 (items c.pieces.pulled) here.2 c.pieces.invariant.cut refl
+    (stage_of c.pieces.judge) here.0 (items c.pieces.pulled) here.2 c.pieces.invariant.cut refl refl
     (subst (gave c.args.source.now c.fill.new.source) (append-nil given)
     (g.met.S.Source.joined c.args.source.now c.pieces.source c.fill.new.source given [] here.1 c.in-Err.ensures.err.1))
 
@@ -108,8 +108,8 @@ returns-in-NoMemory-clause-judged g c =
     let goes = goes_on (unread asks) (stage_of c.pieces.judge) new here.0 taken.0 here.2 taken.2.0 in
     let gives = given_more g.S.Source.gave here.0 (items c.pieces.pulled) (taken.0 ++ rest) g.met.S.Source.joined here.1 ok.3
     (sym taken.1 ∙ ok.2) in
-    lacking_judged asks g.S.Source.gave g.S.Source.ended c.args.source.now c.fill.new.source new.run _ ((here.0 ++ taken.0) ++ rest) taken.2.1
-    (lacks_memory asks (here.0 ++ taken.0) rest new goes taken.2.1 taken.2.2)
+    lacking_judged asks g.S.Source.gave g.S.Source.ended c.args.source.now c.fill.new.source new.run _ ((here.0 ++ taken.0) ++ rest) new
+    (here.0 ++ taken.0) rest taken.2.1 goes refl refl (lacks_memory asks (here.0 ++ taken.0) rest new goes taken.2.1 taken.2.2)
     (subst (g.S.Source.gave c.args.source.now c.fill.new.source) (sym (append_assoc here.0 taken.0 rest)) gives)
 
 pub returns-in-Ok-eq0-clause-counted : goal.returns-in-Ok-eq0-clause-counted
