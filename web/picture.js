@@ -125,7 +125,7 @@ class Bars {
         this.path += piece;
     }
 
-    drawn(kind) { return shape("path", { d: this.path, class: kind, "data-count": this.count }); }
+    drawn(kind, more = {}) { return shape("path", { d: this.path, class: kind, "data-count": this.count, ...more }); }
 }
 
 function pictureDrawing({ objects, samples, last }, asked, width) {
@@ -141,7 +141,7 @@ function pictureDrawing({ objects, samples, last }, asked, width) {
         live.add(x(line), x(freed || end), low, high);
         if (freed && gone !== freed) held.add(x(freed), x(gone || end), low, high);
     }
-    const nodes = [hatching(), live.drawn("bounds"), held.drawn("outside"), held.drawn("hatching")];
+    const nodes = [hatching(), live.drawn("bounds"), held.drawn("outside"), held.drawn("hatching", { fill: "url(#hatching)" })];
     for (const { low, high, from, to } of scale.ranges) {
         nodes.push(line(left, low, right, low, "leader"), words(left - 4, low - 1, ox(from), "number", "end"));
         if (low - high > 40) nodes.push(words(left - 4, high + 11, ox(to), "number", "end"));
