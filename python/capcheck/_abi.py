@@ -221,7 +221,7 @@ RECORDER: dict[str, tuple] = {
     "trapped": (flag, _recorder, Place, Cap, u64, Cap), "loaded_cap": (flag, _recorder, u64, Place, i64, Cap),
     "stored_cap": (flag, _recorder, u64, Place, i64), "loaded": (flag, _recorder, Place, i64, u64, u64),
     "stored": (flag, _recorder, Place, i64, u64, u64), "filled": (flag, _recorder, u64, text), "object": (flag, _recorder, u64, u64),
-    "freed": (flag, _recorder, u64, u64), "line": (flag, _recorder, text, size),
+    "freed": (flag, _recorder, u64, u64), "line": (flag, _recorder, text, size), "to_file": (flag, pointer, text, size),
 }
 
 
