@@ -309,7 +309,9 @@ def judge_bytes(log: Any) -> Verdict:
 
 def pieces(log: Any, progress: Callable[[int], object] | None = None) -> Iterator[bytes]:
     """The bytes of a binary file or a pipe, as they come. After each piece `progress` is called with how many bytes there were."""
-    read, taken = getattr(log, "read1", None) or log.read, 0
+    read, taken = getattr(log, "read1", None) or getattr(log, "read", None), 0
+    if read is None:
+        raise TypeError(f"a log is a path or a binary file, and not {type(log).__name__}")
     while piece := read(_PIECE):
         yield piece
         taken += len(piece)

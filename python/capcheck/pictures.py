@@ -14,9 +14,9 @@ from html import escape
 from pathlib import Path
 from typing import Any, BinaryIO, NamedTuple
 
-from . import _abi
+from . import _abi, runs
 from ._abi import judges as _c
-from .judges import State, _checked
+from .judges import _GOES_ON, _checked
 from .runs import RunJudge, RunVerdict
 
 _SAMPLES = 1000  # So many times it is asked which freed objects are held, if the log has as many lines.
@@ -95,24 +95,25 @@ class Timeline:
         """Passes whole lines to the judge. Returns whether all so far pass."""
         start, at = ctypes.cast(ctypes.c_char_p(piece), ctypes.c_void_p).value or 0, 0
         for found in _EVENT.finditer(piece):
-            if not self._pass(piece, start, at, found.start()):
+            first, end = found.span()
+            known, register, number = found.groups()
+            if register:  # The owner is that before the line.
+                if not self._pass(piece, start, at, first):
+                    return False
+                at, number = first, _c.capcheck_run_judge_owner(self._pointer, _abi.Place(int(register), 1))
+            if not self._pass(piece, start, at, first, end):
                 return False
-            at, number = found.end(), int(found[3] or 0)
-            if found[2]:
-                number = _c.capcheck_run_judge_owner(self._pointer, _abi.Place(int(found[2]), 1))
-            if not self._lines(start + found.start(), at - found.start()):
-                return False
-            self._line += 1
-            if found[2] or found[3]:
-                self._free(number)
+            at = end
+            if number:
+                self._free(int(number))
             else:
-                self._hand_out(int(found[1] or 0))
+                self._hand_out(int(known or 0))
             if self._line >= self._next:
                 self._sample()
         return self._pass(piece, start, at, len(piece))
 
-    def _pass(self, piece: bytes, start: int, at: int, end: int) -> bool:
-        """Passes lines without events, and asks at those where it is time."""
+    def _pass(self, piece: bytes, start: int, at: int, end: int, event: int = 0) -> bool:
+        """Passes lines without events, and asks at those where it is time; then perhaps the line of an event, which ends there."""
         count = piece.count(b"\n", at, end)
         while self._line + count >= self._next:
             to = at
@@ -123,14 +124,14 @@ class Timeline:
             count -= self._next - self._line
             self._line, at = self._next, to
             self._sample()
-        if not self._lines(start + at, end - at):
+        if not self._lines(start + at, (event or end) - at):
             return False
-        self._line += count
+        self._line += count + (event > 0)
         return True
 
     def _lines(self, start: int, length: int) -> bool:
-        taken = _c.capcheck_run_judge_lines(self._pointer, start, length)
-        if _checked(taken.state) == State.GOES_ON:
+        state = _c.capcheck_run_judge_lines(self._pointer, start, length).state
+        if _checked(state) == _GOES_ON:
             return True
         self._line = _c.capcheck_run_judge_answer(self._pointer).line - 1
         return False
@@ -217,11 +218,14 @@ def picture(given: argparse.Namespace, log: BinaryIO) -> tuple[bytes, int]:
     log.seek(0)
     if not begins:
         raise ValueError("a picture is of a run log, which begins with 'run 1'")
-    found = Timeline(log, given.freed, given.owned)
+    if given.csv:
+        found = Timeline(log, given.freed, given.owned)
+        _written(f"{given.csv}-objects.csv", found.objects, Extent._fields)
+        _written(f"{given.csv}-steps.csv", found.steps, Step._fields)
+        verdict = found.verdict
+    else:
+        verdict = runs.judge(log, given.freed, given.owned)
     if given.output:
         log.seek(0)
         Path(given.output).write_text(page(log.read(), os.path.basename(given.log or ""), given.freed, given.owned), encoding="utf-8")
-    if given.csv:
-        _written(f"{given.csv}-objects.csv", found.objects, Extent._fields)
-        _written(f"{given.csv}-steps.csv", found.steps, Step._fields)
-    return f"{found.verdict}\n".encode(), 0
+    return f"{verdict}\n".encode(), 0

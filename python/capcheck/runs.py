@@ -22,6 +22,8 @@ _FREED_CHOICES = {"held": (1, 0), "used": (0, 1), "both": (1, 1)}
 
 
 def _place(place: str) -> _abi.Place:
+    if not isinstance(place, str):
+        raise TypeError(f"a place is a string, such as 'c3', and not {type(place).__name__}")
     if not (named := _PLACE.fullmatch(place)):
         raise ValueError(f"{place!r} isn't a place of a run log, such as c3, scr0 or @0000000000001000")
     if named[3]:
@@ -216,6 +218,8 @@ def _verdict(answer: _abi.RunAnswer) -> RunVerdict:
 def _asks(freed: str, owned: bool) -> _abi.Asks:
     if freed not in _FREED_CHOICES:
         raise ValueError(f"freed is 'held', 'used' or 'both', and not {freed!r}")
+    if owned not in (True, False):
+        raise ValueError(f"owned is True or False, and not {owned!r}")
     return _abi.Asks(*_FREED_CHOICES[freed], bool(owned))
 
 

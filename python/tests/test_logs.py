@@ -367,6 +367,13 @@ class RunLogs(unittest.TestCase):
                 self.assertRaisesRegex(TypeError, type(judge).__name__, copied, judge)
             self.assertIsNone(judge.verdict)
 
+    def test_arguments(self):
+        with RunJudge() as judge:
+            for call, error in ((lambda: runs.judge(3), "a log is a path or a binary file, and not int"), (lambda: capcheck.judge(3), "and not int"),
+                                (lambda: judge.held(3), "a place is a string, such as 'c3', and not int")):
+                self.assertRaisesRegex(TypeError, error, call)
+        self.assertRaisesRegex(ValueError, "owned is True or False, and not 'no'", lambda: RunJudge(owned="no"))
+
 
 class Heaps(unittest.TestCase):
     def test_corpus(self):
