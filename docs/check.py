@@ -60,6 +60,7 @@ ELSEWHERE = {
     "capdiag why logs/git.*.log": "examples/objects/check.sh, for another program",
     "cc program.c $(pkg-config --cflags --libs capcheck) -o program": "the block of C",
     "sh recorder/build.sh": "examples/emulator/check.sh",
+    "python3 -m capcheck many /shared/logs --scheduler tcp://HEAD:8786 --results results.jsonl": "python/check.sh, with another scheduler",
     "cc program.c -I ~/.local/include ~/.local/lib/libcapcheck_c.a -o program": "the block of C",
     "cc -Iinclude program.c crates/capcheck_c/out/libcapcheck_c.a -o program": "examples/emulator/check.sh, with another program",
     "cc -ffreestanding -Iinclude program.c crates/capcheck_freestanding/out/libcapcheck_freestanding.a -o program": "examples/emulator/check.sh, with another program",
