@@ -43,7 +43,7 @@ function ownersAfter(lines, line) {
 /** At lines of a log the picture has the objects and the numbers that the program prints. */
 function sameAsPrinted(it, lines, name) {
     const first = lines.findIndex((line) => !/^(run|mode|root)/.test(line));
-    const samples = it.samples.filter(({ line }) => line > first);
+    const samples = it.samples.filter(({ line }) => line > first && !/^end/.test(lines[line - 1]));
     const picked = samples.filter((_, k) => k % Math.ceil(samples.length / 40) === 0 || k >= samples.length - 10);
     for (const { line, live, held, holders } of picked) {
         const there = ownersAfter(lines, line);
