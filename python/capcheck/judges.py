@@ -304,7 +304,7 @@ def judge_bytes(log: Any) -> Verdict:
     """The verdict on a log in memory: bytes, another buffer, or a binary file, which is read whole. Other threads run
     meanwhile."""
     data = _bytes(log)
-    return _verdict(_whole_logs.capcheck_judge_bytes(ctypes.cast(ctypes.c_char_p(data), ctypes.c_void_p), len(data)))
+    return _verdict(_whole_logs.capcheck_judge_bytes(data, len(data)))
 
 
 def pieces(log: Any, progress: Callable[[int], object] | None = None) -> Iterator[bytes]:

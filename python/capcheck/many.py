@@ -21,7 +21,7 @@ from xml.sax.saxutils import escape, quoteattr
 from . import heaps, judges, runs
 
 _NUMBERS = ("size", "changed", "line")  # The fields of a result that are.
-_BATCH = 32  # So many files a process or a worker gets at a time, at most.
+_BATCH = 64  # So many files a process or a worker gets at a time, at most.
 _WAITING = 4  # So many batches for each process are begun at most.
 _UNDER_WAY = 1000  # So many batches a cluster gets at most.
 _AN_ANNOTATION_ENDS = str.maketrans({"%": "%25", "\r": "%0D", "\n": "%0A"})
@@ -71,12 +71,21 @@ def _about(file: str) -> tuple[int, int]:
         return size, 0
 
 
-def _contents(file: str) -> bytes:
-    if "://" not in file:
-        with open(file, "rb") as log:
-            return log.read()
-    system, path = _system(file)
-    return system.cat_file(path)
+def _read(file: str) -> tuple[bytes, int]:
+    """The contents of a file, and when it was changed."""
+    if "://" in file:
+        system, path = _system(file)
+        return system.cat_file(path), _about(file)[1]
+    log = os.open(file, os.O_RDONLY)
+    try:
+        about = os.fstat(log)
+        data = os.read(log, about.st_size + 1)
+        if len(data) != about.st_size:  # A pipe, or a file that grows.
+            while piece := os.read(log, 2**20):
+                data += piece
+        return data, about.st_mtime_ns
+    finally:
+        os.close(log)
 
 
 def files(paths: Iterable[str]) -> Iterator[str]:
@@ -87,7 +96,8 @@ def files(paths: Iterable[str]) -> Iterator[str]:
             found = [system.unstrip_protocol(it) for it in sorted(system.find(there)) if it.endswith(".log")] if system.isdir(there) else [path]
             yield from found
         elif os.path.isdir(path):
-            yield from sorted(map(str, Path(path).rglob("*.log")))
+            inside = [f"{folder}/{name}" for folder, _, names in os.walk(Path(path)) for name in names if name.endswith(".log")]
+            yield from sorted(it.removeprefix("./") for it in inside)
         else:
             yield path
 
@@ -95,8 +105,7 @@ def files(paths: Iterable[str]) -> Iterator[str]:
 def judge_file(file: str, freed: str = "held", owned: bool = False) -> Result:
     """The verdict on a file: what its first line says that it is."""
     try:
-        _, changed = _about(file)
-        data = _contents(file)
+        data, changed = _read(file)
     except OSError as fault:
         return Result(file, -1, -1, _asks(freed, owned), "", failed=f"read fault: {fault.strerror or fault}")
     of = file, len(data), changed, _asks(freed, owned)
@@ -311,7 +320,7 @@ def many(given: argparse.Namespace) -> tuple[bytes, int]:
                 written.add(it)
     if given.junit:
         Path(given.junit).write_text(junit(results), encoding="utf-8")
-    shown = [annotation(it) if given.annotations else f"{it.file}: {it.failed or it.verdict}" for it in sorted(results) if it.status]
+    shown = [annotation(it) if given.annotations else f"{it.file}: {it.failed or it.verdict}" for it in sorted(it for it in results if it.status)]
     text = "".join(f"{line}\n" for line in shown) + summary(results)
     return text.encode(errors="surrogateescape"), max((it.status for it in results), default=0)
 

@@ -6,6 +6,7 @@ import ctypes
 import os
 import re
 from collections.abc import Callable, Iterator
+from functools import lru_cache
 from operator import index
 from typing import Any, NamedTuple
 
@@ -215,6 +216,7 @@ def _verdict(answer: _abi.RunAnswer) -> RunVerdict:
     return RunVerdict(False, line=answer.line, refusal=Refusal(answer.refusal))
 
 
+@lru_cache
 def _asks(freed: str, owned: bool) -> _abi.Asks:
     if freed not in _FREED_CHOICES:
         raise ValueError(f"freed is 'held', 'used' or 'both', and not {freed!r}")
@@ -379,8 +381,7 @@ def judge_bytes(log: Any, freed: str = "held", owned: bool = False) -> RunVerdic
     """The verdict on a run log in memory: bytes, another buffer, or a binary file, which is read whole. Other threads run
     meanwhile."""
     data = _bytes(log)
-    start = ctypes.cast(ctypes.c_char_p(data), ctypes.c_void_p)
-    return _verdict(_whole_logs.capcheck_run_judge_bytes(start, len(data), _asks(freed, owned)))
+    return _verdict(_whole_logs.capcheck_run_judge_bytes(data, len(data), _asks(freed, owned)))
 
 
 def judge(log: Any, freed: str = "held", owned: bool = False, *, progress: Callable[[int], object] | None = None) -> RunVerdict:
