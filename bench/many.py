@@ -4,7 +4,7 @@ this machine, and `capdiag run` by xargs.
 
     python3 bench/many.py PREFIX [COUNT]
 
-PREFIX is the folder that install.sh installed below. The COUNT logs, or 100,000, have 30 lines each. It prints for each how many logs a second
+PREFIX is the folder that install.sh installed below. The COUNT logs, or 100,000, have 300 lines each. It prints for each how many logs a second
 of time and of processor time there are: the least time of three rounds counts."""
 import importlib.util
 import json
@@ -61,7 +61,7 @@ def main():
         for number in range(COUNT):
             at = f"{folder}/logs/{number // 1000:03}"
             os.makedirs(at, exist_ok=True)
-            Path(f"{at}/{number:06}.log").write_text(f"{ROOT}{MOVE * 26}end 26\n")
+            Path(f"{at}/{number:06}.log").write_text(f"{ROOT}{MOVE * 296}end 296\n")
         many = [sys.executable, "-m", "capcheck", "many", f"{folder}/logs"]
         for jobs in (1, 2, 4):
             said(f"many, {jobs} job{'s' * (jobs > 1)}", [*many, "--jobs", str(jobs)], folder)

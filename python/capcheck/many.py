@@ -21,7 +21,7 @@ from xml.sax.saxutils import escape, quoteattr
 from . import heaps, judges, runs
 
 _NUMBERS = ("size", "changed", "line")  # The fields of a result that are.
-_BATCH = 64  # So many files a process or a worker gets at a time, at most.
+_BATCH = 128  # So many files a process or a worker gets at a time, at most.
 _WAITING = 4  # So many batches for each process are begun at most.
 _UNDER_WAY = 1000  # So many batches a cluster gets at most.
 _AN_ANNOTATION_ENDS = str.maketrans({"%": "%25", "\r": "%0D", "\n": "%0A"})
@@ -281,10 +281,11 @@ def _line(results: Iterator[Result], total: int) -> Iterator[Result]:
     print(file=sys.stderr)
 
 
-def summary(results: Iterable[Result]) -> str:
+def summary(accepted: int, others: Iterable[Result]) -> str:
     """How many are accepted, and how many rejected, by refusal."""
-    counted = Counter("accepted" if it.status == 0 else f"not read: {it.failed}" if it.failed else f"rejected, {it.refusal}" for it in results)
-    return "".join(f"{count} {what}\n" for what, count in sorted(counted.items(), key=lambda it: (it[0] != "accepted", -it[1], it[0])))
+    counted = Counter(f"not read: {it.failed}" if it.failed else f"rejected, {it.refusal}" for it in others)
+    lines = [f"{accepted} accepted\n"] if accepted else []
+    return "".join([*lines, *(f"{count} {what}\n" for what, count in sorted(counted.items(), key=lambda it: (-it[1], it[0])))])
 
 
 def add_arguments(command: argparse.ArgumentParser) -> None:
@@ -320,9 +321,10 @@ def many(given: argparse.Namespace) -> tuple[bytes, int]:
                 written.add(it)
     if given.junit:
         Path(given.junit).write_text(junit(results), encoding="utf-8")
-    shown = [annotation(it) if given.annotations else f"{it.file}: {it.failed or it.verdict}" for it in sorted(it for it in results if it.status)]
-    text = "".join(f"{line}\n" for line in shown) + summary(results)
-    return text.encode(errors="surrogateescape"), max((it.status for it in results), default=0)
+    others = sorted(it for it in results if it.line or it.failed)
+    shown = [annotation(it) if given.annotations else f"{it.file}: {it.failed or it.verdict}" for it in others]
+    text = "".join(f"{line}\n" for line in shown) + summary(len(results) - len(others), others)
+    return text.encode(errors="surrogateescape"), max((it.status for it in others), default=0)
 
 
 def _appended(file: str) -> TextIO:
