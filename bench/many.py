@@ -65,9 +65,7 @@ def main():
         many = [sys.executable, "-m", "capcheck", "many", f"{folder}/logs"]
         for jobs in (1, 2, 4):
             said(f"many, {jobs} job{'s' * (jobs > 1)}", [*many, "--jobs", str(jobs)], folder)
-        for words in ("", "-n 1 "):
-            each = f"find logs -name '*.log' -print0 | xargs -0 {words}-P4 {PREFIX}/bin/capdiag run"
-            said(f"xargs {words}-P4 capdiag run", ["sh", "-c", each], folder)
+        said("xargs -P4 capdiag run", ["sh", "-c", f"find logs -name '*.log' -print0 | xargs -0 -P4 {PREFIX}/bin/capdiag run"], folder)
         if importlib.util.find_spec("distributed"):
             by_cluster(folder, many)
 

@@ -35,7 +35,7 @@ class Beside {
 // of it.
 const closed = {
     beside: null, name: "", blob: null, text: null, size: 0, packed: "", judged: null, report: null, faulty: "", origins: null,
-    made: null, line: 0, at: null, granule: null, wrote: null, evened: null, objects: null, timeline: null, asks: "", shown: "", isAnew: false, isGiven: false,
+    made: null, line: 0, at: null, granule: null, wrote: null, evened: null, objects: null, timeline: null, asks: "", shown: "", isAnew: false, isGiven: false, isPictured: false,
 };
 const log = { ...closed, wait: 0 };
 
@@ -105,11 +105,11 @@ function toldOfLog(told) {
     if (told.problem) return failed(new Error(told.problem), "There is no verdict");
     log.judged = told.judged;
     // With other options an earlier line may be refused: nothing is known of the line that was shown.
-    offerPicture();
     const typed = Number(byId("line").value);
     const asked = log.isAnew && log.judged.line && typed > log.judged.line ? 0 : typed;
     const last = Math.max(log.judged.count, log.judged.line);
     stepTo(asked || log.judged.line || log.judged.count, asked > last ? `There is no line ${decimal(asked)}: this is the last.` : "");
+    offerPicture();
     if (FORMLESS.includes(log.judged.refusal)) askEvened();
 }
 

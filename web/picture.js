@@ -12,9 +12,10 @@ const CUTS = 24; // at most so many gaps between addresses are cut
 /** The picture costs a judging of the log, line by line: it is asked for once it is to be seen. */
 async function askPicture() {
     const { beside, judged } = log;
-    if (!byId("picture").open || log.timeline || !judged?.isRun) return;
+    if (!byId("picture").open || log.isPictured || !judged?.isRun) return;
+    log.isPictured = true;
     const timeline = await beside.ask({ ask: "timeline" });
-    if (log.beside !== beside) return;
+    if (log.beside !== beside || !log.judged) return;
     log.timeline = timeline;
     showPicture();
     if (log.isGiven) byId("picture").scrollIntoView();

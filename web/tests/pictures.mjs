@@ -98,13 +98,14 @@ export async function picturesAreGiven(page) {
     const given = fs.readFileSync(built, "utf8").replace('<script id="page-script"', `<script id="given" type="text/plain" data-name="held.log" data-freed="both" data-owned="">\n${packed}\n</script>\n$&`);
     const made = file("web/out/given.html");
     fs.writeFileSync(made, given);
+    await page.size(1000, 700);
     await page.go(pathToFileURL(made).href);
     await page.run(tools);
     await page.run(settled);
     await page.run(() => globalThis.settled());
     const it = await page.run(pictured);
     same([it.objects.length, it.across], [2, 1], "the log in the page");
-    same(await page.run(() => [view, log.name, byId("freed").value, byId("picture").getBoundingClientRect().top < innerHeight]), ["log", "held.log", "both", true],
+    same(await page.run(() => [view, log.name, byId("freed").value, Math.abs(byId("picture").getBoundingClientRect().top) < 2]), ["log", "held.log", "both", true],
         "it opens at its picture");
     await page.go(pathToFileURL(made).href + hash({ show: "request", base: "1", length: "fff" }));
     same(await page.run(() => view), "request", "a link to another part");
