@@ -61,6 +61,7 @@ function sameAsPrinted(it, lines, name) {
 /** The pictures of the revoker's three logs, and of one of the corpus. */
 export async function picturesAreDrawn(page) {
     await page.run(settled);
+    fs.mkdirSync(file("web/out/pictures"), { recursive: true });
     let compared = 0;
     for (const [k, given] of [...revokerLogs(), HELD].entries()) {
         const name = ["revoker", "revoker skips", "revoker early", "36-of-the-second"][k];
@@ -74,6 +75,11 @@ export async function picturesAreDrawn(page) {
         same(it.objects.length, lines.slice(0, last).filter((line) => /^object c\d+$/.test(line)).length, `${name}: the objects`);
         same(it.held, it.objects.filter(({ freed, gone }) => freed && gone !== freed).length, `${name}: the hatched bars`);
         same(it.label, it.says, `${name}: what is read out`);
+        for (const width of [400, 1280]) {
+            await page.size(width, 900, width === 400);
+            await page.run(() => new Promise((done) => setTimeout(done, 100)));
+            await page.picture(file(`web/out/pictures/${name.replace(" ", "-")}-${width}.png`));
+        }
         if (verdict === "yes") continue;
         const why = printed(CAPDIAG, ["run", "--why"], given);
         const [, met] = why.match(/^object (\d+) /m);
