@@ -147,20 +147,22 @@ function pictureDrawing({ objects, samples, last }, asked, width) {
         nodes.push(line(left, low, right, low, "leader"), words(left - 4, low - 1, ox(from), "number", "end"));
         if (low - high > 40) nodes.push(words(left - 4, high + 11, ox(to), "number", "end"));
     }
-    if (objects.length <= NAMED && width > 600) nodes.push(...objects.flatMap((it) => nameNodes(it, x, scale, end)));
-    if (asked) nodes.push(...askedNodes(asked, scale, left, right));
+    const across = asked ? askedNodes(asked, scale, left, right) : { nodes: [] };
+    if (objects.length <= NAMED && width > 600) nodes.push(...objects.flatMap((it) => nameNodes(it, x, scale, end, across.says)));
+    nodes.push(...across.nodes);
     const curves = CURVES.flatMap((it, k) => curveNodes(it, samples, x, HIGH + 14 + k * (CURVE + 22), left, right));
     const bottom = HIGH + 14 + CURVES.length * (CURVE + 22);
     const below = labels([{ x: x(1), number: "line 1", note: "" }, { x: x(end), number: `line ${decimal(asked?.line ?? last)}`, note: "" }], width, bottom);
     return canvas(width, bottom + below.height + 4, ...nodes, ...curves, ...below.nodes);
 }
 
-/** The number of an object in its bar, where there is room. */
-function nameNodes({ number, line: at, base, top, freed, gone }, x, scale, end) {
+/** The number of an object in its bar, where there is room, also for what is said at a height. */
+function nameNodes({ number, line: at, base, top, freed, gone }, x, scale, end, says) {
     const [low, high] = [scale.place(base), scale.place(top)];
     const [left, right] = [x(at), x(freed ? gone || end : end)];
     const text = `object ${number}`;
-    if (low - high < 16 || right - left < text.length * LETTER.note + 8) return [];
+    const isTaken = Math.abs((low + high) / 2 + 4 - says) < 14;
+    if (isTaken || low - high < 16 || right - left < text.length * LETTER.note + 8) return [];
     return [words((left + right) / 2, (low + high) / 2 + 4, text, "note halo")];
 }
 
@@ -173,12 +175,13 @@ function askedNodes({ base, top, object, line: at }, scale, left, right) {
     const height = Math.max(4, low - high);
     const says = object ? `object ${object.number}: ${holdersSaid(object)}` : `line ${decimal(at)}`;
     const y = low - height > 18 ? low - height - 5 : low + 15;
-    return [
+    const nodes = [
         shape("rect", { x: left, y: low - height, width: right - left, height, class: "asked-across" }),
         shape("rect", { x: right - 4, y: low - height, width: 8, height, class: "refused-extent" }),
         line(right, 0, right, HIGH, "lost"),
         words(right - 8, y, says, "note lost halo", "end"),
     ];
+    return { nodes, says: y };
 }
 
 /** A curve by lines, with its greatest value. */
