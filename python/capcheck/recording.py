@@ -16,7 +16,7 @@ from .words import Capability, _mask, _passed
 _NOWHERE = _abi.Place(0, 0)
 _libc = ctypes.CDLL(None, use_errno=True)  # Its streams, into which the library writes lines.
 _libc.fdopen.restype, _libc.fdopen.argtypes = ctypes.c_void_p, (ctypes.c_int, ctypes.c_char_p)
-_libc.fflush.argtypes = _libc.fclose.argtypes = (ctypes.c_void_p,)
+_libc.ferror.argtypes = _libc.fflush.argtypes = _libc.fclose.argtypes = (ctypes.c_void_p,)
 
 
 def _opened(descriptor: int) -> int:
@@ -114,7 +114,8 @@ class Recorder:
         """Returns if the recording goes on; otherwise raises what it failed by."""
         if goes_on:
             return
-        self.flush()
+        if self._stream is not None and _libc.ferror(self._stream):
+            raise OSError(number := ctypes.get_errno(), os.strerror(number))
         fault, self._fault = self._fault, None
         if fault is not None:
             raise fault
