@@ -457,6 +457,11 @@ def _line(value):
     return f"{Kind(int(value['kind'])).name.lower()} {registers} {numbers} cap {_short(*capability_of(value['cap']))}"
 
 
+def _recorder(value):
+    error = value["error"].string()
+    return f"{int(value['lines'])} lines" + (f": {error}" if error else "")
+
+
 # How the structs of the headers are printed.
 _PRINTED = {
     "capcheck_cap": lambda value: _short(*capability_of(value)),
@@ -473,6 +478,7 @@ _PRINTED = {
     "capcheck_run_answer": _run_answer,
     "capcheck_run_judge": _judge,
     "capcheck_object": _object,
+    "capcheck_recorder": _recorder,
     "capcheck_expected": _expected,
     "capcheck_place": _place_text,
     "capcheck_rounded": _rounded,

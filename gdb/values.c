@@ -1,5 +1,5 @@
 /* Values of each kind that gdb/capcheck_gdb.py prints; gdb/values.txt is the session. */
-#include <capcheck_judge.h>
+#include <capcheck_recorder.h>
 
 #include <pthread.h>
 #include <stdlib.h>
@@ -15,6 +15,7 @@ typedef struct cc128_cap {
 static capcheck_cap registers[4];
 static uint8_t memory[64];
 static capcheck_judge judge = CAPCHECK_NO_JUDGE_YET;
+static capcheck_recorder recorders[2] = {{.lines = 11}, {.lines = 12, .error = "no 12 12 NotExact"}};
 
 static void set_register(int number, capcheck_made made) {
     if (made.refusal == CAPCHECK_NOT_REFUSED)

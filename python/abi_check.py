@@ -31,7 +31,6 @@ LEFT_OUT = {
     "CAPCHECK_VERSION": "capcheck_version", "CAPCHECK_NOT_REFUSED": "no Refusal", "CAPCHECK_KIND_NONE": "no Kind",
     "CAPCHECK_EXPECTS_NOTHING": "None", "CAPCHECK_OTYPE_GREATEST": "capcheck_seal",
     "capcheck_run_judge_report": "capcheck_run_judge_end_report",
-    "capcheck_recorder_to_file": "a file's write",
     **dict.fromkeys(("capcheck_c", "capcheck_scr", "capcheck_granule", "capcheck_nowhere"), "places are strings"),
 }
 NUMBERS = {"uint64_t": c.c_uint64, "int64_t": c.c_int64, "uint32_t": c.c_uint32, "uint16_t": c.c_uint16, "size_t": c.c_size_t,

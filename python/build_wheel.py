@@ -18,6 +18,9 @@ Name: capcheck
 Version: {version}
 Summary: 128-bit CHERI capabilities, over the proved C libraries: words, bounds, operations, logs and their judge
 Requires-Python: >=3.10
+Provides-Extra: cluster
+Requires-Dist: distributed; extra == "cluster"
+Requires-Dist: fsspec; extra == "cluster"
 """
 WHEEL = """Wheel-Version: 1.0
 Generator: capcheck
@@ -46,6 +49,7 @@ def build_wheel(folder, settings=None, metadata=None):
              *(installed / f"lib{name}.so.1" for name in LIBRARIES)]
     parts = {f"capcheck/{file.name}": file.read_bytes() for file in files}
     parts |= {f"capcheck/dialects/{file.name}": file.read_bytes() for file in sorted((HERE / "capcheck/dialects").glob("*.json"))}
+    parts["capcheck/page.html"] = (HERE.parent / "web/capcheck.html").read_bytes()
     parts[f"{about}/METADATA"] = METADATA.format(version=version).encode()
     parts[f"{about}/WHEEL"] = WHEEL.format(tag=tag).encode()
     hashes = {name: base64.urlsafe_b64encode(hashlib.sha256(part).digest()).rstrip(b"=").decode() for name, part in parts.items()}

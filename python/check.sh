@@ -29,13 +29,22 @@ for number in range('"${WORDS:-10000}"'):
 while read -r word; do
     "$CAPCHECK" explain "$word"
 done < "$work/words" > "$EXPLAINED"
-${CC:-cc} -std=c99 -Wall -Wextra -Wconversion -Wshadow -Werror -pedantic -O2 "-I$prefix/include" examples/traces/machine.c \
+${CC:-cc} -std=c99 -Wall -Wextra -Wconversion -Wshadow -Werror -pedantic -O2 "-I$prefix/include" examples/emulator/machine.c \
     "$prefix/lib/libcapcheck_recorder.a" "$prefix/lib/libcapcheck_judge.a" "$prefix/lib/libcapcheck_c.a" -o "$work/machine"
 PYTHONPATH="$prefix/share/capcheck" MACHINE="$work/machine" python3 -m unittest discover -q python/tests
 for other in ${PYTHONS:-python3.10 python3.12 python3.13}; do
     "$other" -c '' 2> "$work/said" || { left_out "the tests of words in $other"; continue; }
     PYTHONPATH="$prefix/share/capcheck" "$other" -m unittest discover -q -p test_words.py python/tests
 done
+
+# A cluster on this machine judges many logs, in a Python that has its packages.
+clustered=
+for other in python3 /usr/bin/python3; do
+    [ -z "$clustered" ] && "$other" -c 'import distributed, fsspec' 2> "$work/said" || continue
+    [ "$other" = python3 ] || PYTHONPATH="$prefix/share/capcheck" "$other" -m unittest discover -q -p test_cluster.py python/tests
+    clustered=$other
+done
+[ -n "$clustered" ] || left_out "many logs by a cluster: no python3 here has the packages distributed and fsspec"
 
 # Run logs drawn at random get the same verdict from the program, from C in each way, and from the package.
 ${CC:-cc} -std=c99 -O2 "-I$prefix/include" examples/emulator/runs.c "$prefix/lib/libcapcheck_judge.a" "$prefix/lib/libcapcheck_c.a" -o "$work/runs"

@@ -130,8 +130,8 @@ packed() { gzip -9 -n | base64 -w 120; }
 
 for module in capcheck judge runs; do packed < "web/out/$module.wasm" > "web/out/$module.base64"; done
 cd web
-plain words.js lines.js facts.js drawing.js pasting.js vectors.js reports.js formless.js faults.js allocators.js links.js log.js objects.js stepping.js page.js | packed > out/page.base64
-plain words.js lines.js trace.js judging.js shortest.js runs.js heaps.js working.js | packed > out/worker.base64
+plain words.js lines.js facts.js drawing.js pasting.js vectors.js reports.js formless.js faults.js allocators.js links.js log.js objects.js picture.js stepping.js page.js | packed > out/page.base64
+plain words.js lines.js trace.js judging.js shortest.js runs.js timeline.js heaps.js working.js | packed > out/worker.base64
 plain style.css > out/style.css
 sh sources.sh > out/sources
 # A line `@NAME@` of page.html is the file NAME, `@pages@` where links lead to, and `@hash@` the hash of all sources.

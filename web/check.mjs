@@ -100,7 +100,7 @@ for (const file of files.filter((it) => it.endsWith(".vectors"))) {
 }
 // What the page reads in dumps. Its scripts need a document only once they show something.
 globalThis.document = {};
-const page = ["facts.js", "pasting.js", "vectors.js", "reports.js", "formless.js", "faults.js", "allocators.js", "links.js", "log.js", "stepping.js", "page.js"];
+const page = ["facts.js", "pasting.js", "vectors.js", "reports.js", "formless.js", "faults.js", "allocators.js", "links.js", "log.js", "picture.js", "stepping.js", "page.js"];
 const reading = vm.runInThisContext(`${script(...page)}; (module) => { c = module; return ${readDump}; }`)(c);
 for (const row of dumpsOf(fs.readFileSync(new URL("tests/dumps.rows", here), "utf8"))) {
     agree(`the dump ${JSON.stringify(row.text)}`, differs(row, reading(row.text)), "", 1);

@@ -35,7 +35,7 @@ class Beside {
 // of it.
 const closed = {
     beside: null, name: "", blob: null, text: null, size: 0, packed: "", judged: null, report: null, faulty: "", origins: null,
-    made: null, line: 0, at: null, granule: null, wrote: null, evened: null, objects: null, asks: "", shown: "", isAnew: false,
+    made: null, line: 0, at: null, granule: null, wrote: null, evened: null, objects: null, timeline: null, asks: "", shown: "", isAnew: false, isGiven: false, isPictured: false,
 };
 const log = { ...closed, wait: 0 };
 
@@ -62,6 +62,16 @@ function judgeLog(blob, name, text, packed = "") {
     tellWork("Reading", 0);
     tellWay("");
     byId("log").querySelector(".results").hidden = true;
+}
+
+/** Opens the log that this file has in it, unless a link has another, at its picture. */
+async function openGiven() {
+    const given = document.getElementById("given");
+    if (!given || location.hash !== "" && (view !== "log" || valueOf("text") !== "" || chosen.packed !== "")) return;
+    const { name, freed, owned } = given.dataset;
+    for (const [field, value] of Object.entries({ freed, owned })) setValue(field, value ?? "");
+    await openLog(new Blob([await unpacked("given")]), name);
+    log.isGiven = true;
 }
 
 /** Opens the log that a link has packed. */
@@ -99,6 +109,7 @@ function toldOfLog(told) {
     const asked = log.isAnew && log.judged.line && typed > log.judged.line ? 0 : typed;
     const last = Math.max(log.judged.count, log.judged.line);
     stepTo(asked || log.judged.line || log.judged.count, asked > last ? `There is no line ${decimal(asked)}: this is the last.` : "");
+    offerPicture();
     if (FORMLESS.includes(log.judged.refusal)) askEvened();
 }
 
@@ -153,6 +164,7 @@ function showVerdict() {
     byId("log").querySelector(".gloss").hidden = state !== 2 || FORMLESS.includes(refusal);
     byId("origins").hidden = state !== 1 || isOther;
     byId("before").hidden = Boolean(isHeap);
+    showPicture();
     showEvened();
     showWrote();
     showOrigins();
@@ -489,5 +501,6 @@ function listenToLog() {
     byId("link-shortest").addEventListener("click", () =>
         copy(`${location.href.split("#")[0]}#${new URLSearchParams({ show: "log", text: log.made.text, line: "" })}`, "Link"));
     listenToAsks();
+    listenToPicture();
     listenToSteps();
 }

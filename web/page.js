@@ -692,4 +692,5 @@ async function start() {
     listen();
     listenToLog();
     restore();
+    await openGiven();
 }

@@ -11,6 +11,7 @@ import * as heaps from "./tests/heaps.mjs";
 import * as logs from "./tests/logs.mjs";
 import * as module from "./tests/module.mjs";
 import * as pasting from "./tests/pasting.mjs";
+import * as drawings from "./tests/pictures.mjs";
 import * as runs from "./tests/runs.mjs";
 import * as shown from "./tests/shown.mjs";
 import * as stepping from "./tests/stepping.mjs";
@@ -43,6 +44,9 @@ const GROUPS = {
     runsHaveOptions: runs.runsHaveOptions,
     objectsAreDrawn: runs.objectsAreDrawn,
     runsAreUsable: runs.runsAreUsable,
+    picturesAreDrawn: drawings.picturesAreDrawn,
+    picturesAreGiven: drawings.picturesAreGiven,
+    picturesLead: drawings.picturesLead,
     heapsAreJudged: heaps.heapsAreJudged,
     liveObjectsAreDrawn: heaps.liveObjectsAreDrawn,
     heapsAreUsable: heaps.heapsAreUsable,

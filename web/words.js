@@ -130,10 +130,11 @@ function readStruct(memory, kind, at) {
         const found = new Uint8Array(memory.buffer, at, size);
         return String.fromCharCode(...found.subarray(0, found.indexOf(0)));
     }
+    const view = new DataView(memory.buffer);
     const made = {};
-    for (const [name, [offset, width]] of Object.entries(fields)) {
-        made[name] = typeof width === "string" ? readStruct(memory, width, at + offset)
-            : number(new DataView(memory.buffer), at + offset, width);
+    for (const name in fields) {
+        const [offset, width] = fields[name];
+        made[name] = typeof width === "string" ? readStruct(memory, width, at + offset) : number(view, at + offset, width);
     }
     return kind === "wide" ? made.high << 64n | made.low : made;
 }

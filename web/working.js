@@ -99,6 +99,7 @@ const ANSWERS = {
     evened: () => evened(held),
     nextUse: ({ line, place }) => held.lines.nextUse(line, place),
     objects: ({ line, numbers }) => (isPast(held, line) ? null : held.lines.objects(line, numbers)),
+    timeline: () => new Timeline(held.lines).read(),
     find: ({ text, line, backward }) => held.lines.find(text, line, backward),
     origins: () => held.lines.judge.origins().text,
     shortest: () => shortest(held.modules.judge, held.lines),

@@ -1,12 +1,18 @@
-"""python3 -m capcheck explain|judge|why|shorten|trace|many: what the programs print, a short log with the fault of a rejected one,
-the run log of a trace, and the verdicts on many logs."""
+"""python3 -m capcheck explain|judge|why|shorten|trace|many|picture: what the programs print, a short log with the fault of a rejected one,
+the run log of a trace, the verdicts on many logs, and a picture of a run."""
 from __future__ import annotations
 
 import argparse
 import sys
-from typing import BinaryIO
+from typing import Any
 
-from . import Capability, importing, judge, many, shorten, version, why
+from . import Capability, heaps, importing, judge, many, pictures, runs, shorten, version, why
+
+
+def _add_asks(command: argparse.ArgumentParser) -> None:
+    """The options of `capdiag run`."""
+    command.add_argument("--freed", choices=("held", "used", "both"), default="held", help="what is asked of freed objects, as in capdiag run")
+    command.add_argument("--owned", action="store_true", help="each access to a live object goes through its own capability")
 
 
 def _arguments() -> argparse.Namespace:
@@ -21,19 +27,31 @@ def _arguments() -> argparse.Namespace:
         command = commands.add_parser(name, help=told)
         command.add_argument("log", metavar="LOG", nargs="?", help="a file; without it, standard input")
         if name == "why":
-            command.add_argument("--origins", action="store_true", help="after a yes, print the origins")
+            command.add_argument("--origins", action="store_true", help="after a yes, print the origins; run logs and logs of allocators have none")
+        _add_asks(command)
     command.add_argument("--seconds", type=float, default=5, help="stop looking for a shorter one after this time")
     command.add_argument("--replayable", action="store_true", help="take lines of the log alone")
-    many.add_arguments(commands.add_parser("many", help="judge many logs, side by side"))
-    importing.add_arguments(commands.add_parser("trace", help="write the run log of a trace, or judge it"))
+    for name, module, told in (("many", many, "judge many logs, side by side"), ("picture", pictures, "draw the objects of a run log over time"),
+                               ("trace", importing, "write the run log of a trace, or judge it")):
+        module.add_arguments(command := commands.add_parser(name, help=told))
+        _add_asks(command)
     return parser.parse_args()
 
 
-def _printed(given: argparse.Namespace, log: BinaryIO) -> tuple[bytes, int]:
+def _printed(given: argparse.Namespace, log: Any) -> tuple[bytes, int]:
     """What is printed of a log, and the status."""
+    if given.command == "picture":
+        return pictures.picture(given, log)
+    asks = {"freed": given.freed, "owned": given.owned}
     if given.command == "shorten":
-        return shorten(log, given.seconds, given.replayable), 0
-    text = why(log, given.origins) if given.command == "why" else f"{judge(log)}\n"
+        return shorten(log, given.seconds, given.replayable, **asks), 0
+    begin, explains = log.peek(8), given.command == "why"
+    if begin.startswith(b"run 1\n"):
+        text = runs.why(log, **asks) if explains else f"{runs.judge(log, **asks)}\n"
+    elif begin.startswith(b"heap 1\n"):
+        text = heaps.why(log) if explains else f"{heaps.judge(log)}\n"
+    else:
+        text = why(log, given.origins) if explains else f"{judge(log)}\n"
     return text.encode(), int(not text.startswith("yes"))
 
 

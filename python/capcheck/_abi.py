@@ -221,21 +221,21 @@ RECORDER: dict[str, tuple] = {
     "trapped": (flag, _recorder, Place, Cap, u64, Cap), "loaded_cap": (flag, _recorder, u64, Place, i64, Cap),
     "stored_cap": (flag, _recorder, u64, Place, i64), "loaded": (flag, _recorder, Place, i64, u64, u64),
     "stored": (flag, _recorder, Place, i64, u64, u64), "filled": (flag, _recorder, u64, text), "object": (flag, _recorder, u64, u64),
-    "freed": (flag, _recorder, u64, u64), "line": (flag, _recorder, text, size),
+    "freed": (flag, _recorder, u64, u64), "line": (flag, _recorder, text, size), "to_file": (flag, pointer, text, size),
 }
 
 
-def _load(name: str, kind: type[c.CDLL]) -> c.CDLL:
+def _load(name: str, kind: type[c.CDLL], **how: bool) -> c.CDLL:
     """Opens a library: in the folder CAPCHECK_LIB if that is set; otherwise next to this file, in the lib of the PREFIX that
     this file is installed below, or where the system finds it."""
     here, given = Path(__file__).resolve().parent, os.environ.get("CAPCHECK_LIB")
     for folder in (Path(given),) if given else (here, here / "../../../lib"):
         if (path := folder / f"{name}.so.1").exists():
-            return kind(str(path))
+            return kind(str(path), **how)
     if given:
         raise ImportError(f"CAPCHECK_LIB is {given}, where there is no {name}.so.1")
     try:
-        return kind(f"{name}.so.1")
+        return kind(f"{name}.so.1", **how)
     except OSError as error:
         raise ImportError(f"{error}: set CAPCHECK_LIB to the folder of the libraries") from None
 
@@ -252,7 +252,7 @@ judges = _load("libcapcheck_judge", c.PyDLL)
 # A CDLL releases it: for calls that judge a whole log and have no state.
 whole_logs = _load("libcapcheck_judge", c.CDLL)
 freestanding = _load("libcapcheck_freestanding", c.CDLL)
-recorders = _load("libcapcheck_recorder", c.PyDLL)
+recorders = _load("libcapcheck_recorder", c.PyDLL, use_errno=True)  # A line that can't be written has a reason.
 
 
 def shown(number: int) -> str:

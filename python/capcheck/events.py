@@ -6,7 +6,7 @@ import re
 from collections.abc import Iterable
 from typing import Any
 
-from .dialects import PCC, place_of
+from .dialects import PCC
 from .lines import Kind
 from .traces import Held, Importer, word_of
 from .words import _mask
@@ -17,6 +17,9 @@ _VALUE = re.compile(r"([01]) ([0-9a-f]{32})", re.A)
 _GRANULE = re.compile(r"@([0-9a-f]{16})", re.A)
 _FIELDS = ("base", "length", "permissions", "type", "flag", "address")
 _MISSING = object()
+_PLACES = {f"{kind}{number}": first + number for kind, first in (("c", 0), ("scr", 32)) for number in range(32)}
+_DECIMAL_OR_HEXADECIMAL = re.compile("0x[0-9a-fA-F]+|-?[0-9]+", re.A)
+_JSON: Any = json.JSONDecoder().scan_once  # type: ignore[attr-defined]
 
 
 class _Event:
@@ -26,10 +29,12 @@ class _Event:
         self.given = given
 
     def take(self, key: str, default: Any = _MISSING) -> Any:
-        found = self.given.pop(key, default)
-        if found is _MISSING:
-            raise ValueError(f"the key {key!r} is missing")
-        return found
+        try:
+            return self.given.pop(key)
+        except KeyError:
+            if default is _MISSING:
+                raise ValueError(f"the key {key!r} is missing") from None
+            return default
 
     def number(self, key: str, default: Any = _MISSING) -> int:
         """A number: as JSON has it, or a string such as "0x1000"."""
@@ -43,8 +48,8 @@ class _Event:
     def place(self, key: str, most: int = 32) -> int:
         """A register, special or not."""
         name = self.take(key)
-        place = place_of(name) if isinstance(name, str) else None
-        if place is None or place >= 64:
+        place = _PLACES.get(name) if isinstance(name, str) else None
+        if place is None:
             raise ValueError(f"{key} {name!r} is no register, such as c3 or scr0")
         if place >= most:
             raise ValueError(f"{key} {name!r} is a special register")
@@ -58,8 +63,8 @@ class _Event:
     def value(self, key: str) -> Held:
         """A capability: its tag and word, or its fields."""
         said = self.take(key)
-        if isinstance(said, str) and (found := _VALUE.fullmatch(said)):
-            return int(found[1]), int(found[2], 16)
+        if isinstance(said, str) and _VALUE.fullmatch(said):
+            return int(said[0]), int(said[2:], 16)
         if not isinstance(said, dict):
             raise ValueError(f"{key} {said!r} is neither a tag and a word, as in a log, nor an object of fields")
         if unknown := sorted(set(said) - {"tag", *_FIELDS}):
@@ -69,11 +74,26 @@ class _Event:
 
 
 def _number(said: Any, name: str) -> int:
-    if isinstance(said, str):
-        said = int(said, 16 if said[:2] == "0x" else 10) if re.fullmatch("0x[0-9a-fA-F]+|-?[0-9]+", said, re.A) else None
-    if not isinstance(said, int):
-        raise ValueError(f"{name} is no number")
-    return said
+    if isinstance(said, int):
+        return said
+    if isinstance(said, str) and _DECIMAL_OR_HEXADECIMAL.fullmatch(said):
+        return int(said, 16 if said[:2] == "0x" else 10)
+    raise ValueError(f"{name} is no number")
+
+
+def _object(text: str) -> dict[str, Any]:
+    """The object of a line without blanks at its ends."""
+    try:
+        given, end = _JSON(text, 0)
+    except (StopIteration, json.JSONDecodeError):
+        given, end = None, 0
+    if end == len(text) and isinstance(given, dict):
+        return given
+    try:
+        json.loads(text)
+    except json.JSONDecodeError as wrong:
+        raise ValueError(f"it isn't a JSON object: {wrong.msg}, column {wrong.colno}") from None
+    raise ValueError("it isn't a JSON object")
 
 
 class Events(Importer):
@@ -90,12 +110,7 @@ class Events(Importer):
                 self._line(text)
 
     def _line(self, text: str) -> None:
-        try:
-            given = json.loads(text)
-        except json.JSONDecodeError as wrong:
-            raise ValueError(f"it isn't a JSON object: {wrong.msg}, column {wrong.colno}") from None
-        if not isinstance(given, dict):
-            raise ValueError("it isn't a JSON object")
+        given = _object(text)
         event = _Event(given)
         self.at, self.text = self.lines, text
         if "n" in given:
@@ -103,8 +118,6 @@ class Events(Importer):
             if self._last is not None and number != self._last + 1:
                 raise ValueError(f"the trace was cut: n {number} doesn't follow {self._last}")
             self._last = number
-        given.pop("pc", None)
-        given.pop("note", None)
         do = event.take("do")
         if do in _STEPS:
             self._step(_STEPS[do], event)
@@ -113,11 +126,14 @@ class Events(Importer):
             return
         else:
             take(event)
-        if given:
-            raise ValueError(f"{do} has no key {min(given)!r}")
+        if given and (more := given.keys() - {"pc", "note"}):
+            raise ValueError(f"{do} has no key {min(more)!r}")
         if do != "root":
             self.instructions += 1
-        self.machine.kernel = 1 if do == "kernel" else max(0, self.machine.kernel - 1)
+        if do == "kernel":
+            self.machine.kernel = 1
+        elif self.machine.kernel:
+            self.machine.kernel -= 1
 
     def _step(self, kind: Kind, it: _Event) -> None:
         other = number = 0

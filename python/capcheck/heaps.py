@@ -49,5 +49,5 @@ def judge(log: Any) -> HeapVerdict:
             return judge(file)
     said, *words = why(log).split("\n", 1)[0].split()
     if said == "yes":
-        return HeapVerdict(True, *map(int, words))
+        return HeapVerdict(True, int(words[0]), int(words[1]))
     return HeapVerdict(False, line=int(words[0]), refusal=Refusal(int(words[1])))

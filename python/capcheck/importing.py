@@ -7,7 +7,6 @@ import sys
 import time
 from collections.abc import Iterable, Iterator
 from contextlib import ExitStack
-from io import BufferedWriter
 from typing import Any, TextIO
 
 from . import dialects
@@ -20,7 +19,6 @@ from .traces import Importer
 
 _QEMU = "The form qemu-cheri is as remembered: it could not be compared with a real trace."
 _EVERY = 2**14  # Lines between two looks at the clock.
-_ROOM = 2**18
 
 
 def add_arguments(command: argparse.ArgumentParser) -> None:
@@ -32,14 +30,13 @@ def add_arguments(command: argparse.ArgumentParser) -> None:
         help=f"the form of the trace: {', '.join(dialects.shipped())} or a file; by default events")
     add("--judge", action="store_true", help="print the verdict, and after a no the diagnosis and the line of the trace, and not the log")
     add("--log", metavar="FILE", help="write the log into a file, and not to standard output")
-    add("--freed", choices=("held", "used", "both"), default="held", help="what is asked of freed objects, as in capdiag run")
-    add("--owned", action="store_true", help="each access to a live object goes through its own capability")
     add("--strict", action="store_true", help="stop at a line that isn't understood")
     add("--mode", choices=("clear", "strict"),
         help="whether the machine clears tags or traps if a check fails; by default as the dialect says, of events clear")
     add("--spare", metavar="N", type=int, default=0, help="a register that the program doesn't use")
     add("--hart", metavar="N", help="the hart to read; by default that of the first instruction")
-    for name, told in (("malloc", "a function that returns a new object"), ("free", "a function that frees its argument")):
+    for name, told in (("malloc", "a function that returns a new object"), ("free", "a function that frees its argument"),
+                       ("realloc", "a function that does both, or gives its argument more room")):
         add(f"--{name}", metavar="ADDRESS", action="append", default=[], type=_address, help=f"the address of {told}; may be repeated")
 
 
@@ -51,7 +48,7 @@ def importer(recorder: Recorder, dialect: dialects.Dialect | None, *, stop_at_un
     """The importer of a dialect, or of events, which has no `words`: those of Text."""
     if dialect is None:
         if any(words.values()):
-            raise ValueError("events have no hart, malloc or free: they say so themselves")
+            raise ValueError("events have no hart, malloc, free or realloc: they say so themselves")
         return Events(recorder, stop_at_unknown=stop_at_unknown)
     return Text(recorder, dialect, stop_at_unknown=stop_at_unknown, **words)
 
@@ -90,19 +87,21 @@ def _shown(lines: Iterable[str], taking: Importer, size: int) -> Iterator[str]:
         print(file=sys.stderr)
 
 
-def _run(given: argparse.Namespace, dialect: dialects.Dialect | None, trace: TextIO, log: BufferedWriter | None) -> tuple[str, int]:
+def _run(given: argparse.Namespace, dialect: dialects.Dialect | None, trace: TextIO, log: int | None) -> tuple[str, int]:
     """Imports a trace; what is printed, and the status."""
     clear = given.mode == "clear" if given.mode else dialect is None or dialect.clear
     with ExitStack() as stack:
         judge = stack.enter_context(RunJudge(given.freed, given.owned)) if given.judge else None
         recorder = Recorder(log, judge, clear=clear, spare=given.spare)
-        taking = importer(recorder, dialect, stop_at_unknown=given.strict, hart=given.hart, malloc=given.malloc, free=given.free)
+        taking = importer(recorder, dialect, stop_at_unknown=given.strict, hart=given.hart, malloc=given.malloc, free=given.free,
+                          realloc=given.realloc)
         try:
             taking.take(_shown(_read(trace), taking, os.fstat(trace.fileno()).st_size))
             taking.end()
         except Rejected as rejected:
             return f"{rejected.diagnosis}trace {taking.at} {taking.text.strip()}\n", 1
         finally:
+            recorder.flush()
             for said in taking.told():
                 print(f"capcheck: trace: {said}", file=sys.stderr)
         if judge is None:
@@ -130,8 +129,8 @@ def _opened(given: argparse.Namespace) -> tuple[bytes, int]:
             raise ReadFault(fault) from None
         log = None
         if given.log:
-            log = stack.enter_context(open(given.log, "wb", buffering=_ROOM))
+            log = stack.enter_context(open(given.log, "wb", buffering=0)).fileno()
         elif not given.judge:
-            log = stack.enter_context(open(1, "wb", buffering=_ROOM, closefd=False))
+            log = 1
         text, status = _run(given, dialect, source, log)
     return text.encode(errors="surrogateescape"), status

@@ -4,6 +4,7 @@ from __future__ import annotations
 import ctypes
 import os
 import re
+from collections.abc import Callable, Iterator
 from enum import IntEnum
 from operator import index
 from typing import Any, NamedTuple
@@ -71,9 +72,10 @@ class Verdict(NamedTuple):
 class Rejected(Exception):
     """A line of a log is faulty. Only a judge that was made with `raises` raises it."""
 
-    def __init__(self, verdict: Verdict, diagnosis: str) -> None:
+    def __init__(self, verdict: Any, diagnosis: str) -> None:
         super().__init__(verdict, diagnosis)
-        self.verdict, self.diagnosis = verdict, diagnosis
+        self.verdict: Any = verdict  # A Verdict, or of a run log a RunVerdict.
+        self.diagnosis = diagnosis
 
     def __str__(self) -> str:
         return self.diagnosis.rstrip("\n")
@@ -302,18 +304,31 @@ def judge_bytes(log: Any) -> Verdict:
     """The verdict on a log in memory: bytes, another buffer, or a binary file, which is read whole. Other threads run
     meanwhile."""
     data = _bytes(log)
-    return _verdict(_whole_logs.capcheck_judge_bytes(ctypes.cast(ctypes.c_char_p(data), ctypes.c_void_p), len(data)))
+    return _verdict(_whole_logs.capcheck_judge_bytes(data, len(data)))
 
 
-def judge(log: Any) -> Verdict:
-    """The verdict on a file or a pipe: its path, or an open binary file. It is read up to the first faulty line, in pieces."""
+def pieces(log: Any, progress: Callable[[int], object] | None = None) -> Iterator[bytes]:
+    """The bytes of a binary file or a pipe, as they come. After each piece `progress` is called with how many bytes there were."""
+    read, taken = getattr(log, "read1", None) or getattr(log, "read", None), 0
+    if read is None:
+        raise TypeError(f"a log is a path or a binary file, and not {type(log).__name__}")
+    while piece := read(_PIECE):
+        yield piece
+        taken += len(piece)
+        if progress is not None:
+            progress(taken)
+
+
+def judge(log: Any, *, progress: Callable[[int], object] | None = None) -> Verdict:
+    """The verdict on a file or a pipe: its path, or an open binary file. It is read up to the first faulty line, in pieces. After each
+    piece that passes, `progress` is called with how many bytes have been judged; what it raises stops the judge."""
     if isinstance(log, (str, bytes, os.PathLike)):
         with open(log, "rb", buffering=0) as file:
-            return judge(file)
-    read = getattr(log, "read1", None) or log.read
+            return judge(file, progress=progress)
     with Judge() as judging:
-        while (piece := read(_PIECE)) and judging.feed(piece):
-            pass
+        for piece in pieces(log, progress):
+            if not judging.feed(piece):
+                break
         return judging.end()
 
 

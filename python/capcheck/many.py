@@ -5,12 +5,15 @@ import argparse
 import csv
 import json
 import os
+import signal
 import sys
 import time
 from collections import Counter
-from collections.abc import Callable, Iterable, Iterator
-from concurrent.futures import FIRST_COMPLETED, Future, ThreadPoolExecutor, wait
+from collections.abc import Callable, Iterable, Iterator, Sequence
+from concurrent.futures import FIRST_COMPLETED, Future, ProcessPoolExecutor, wait
+from concurrent.futures.process import BrokenProcessPool
 from contextlib import ExitStack
+from itertools import islice
 from pathlib import Path
 from typing import Any, NamedTuple, TextIO
 from xml.sax.saxutils import escape, quoteattr
@@ -18,7 +21,9 @@ from xml.sax.saxutils import escape, quoteattr
 from . import heaps, judges, runs
 
 _NUMBERS = ("size", "changed", "line")  # The fields of a result that are.
-_WAITING = 64  # So many logs for each job are begun at most.
+_BATCH = 128  # So many files a process or a worker gets at a time, at most.
+_WAITING = 4  # So many batches for each process are begun at most.
+_UNDER_WAY = 1000  # So many batches a cluster gets at most.
 _AN_ANNOTATION_ENDS = str.maketrans({"%": "%25", "\r": "%0D", "\n": "%0A"})
 
 
@@ -41,11 +46,58 @@ class Result(NamedTuple):
         return 3 if self.failed else int(self.line > 0)
 
 
+def _system(url: str) -> tuple[Any, str]:
+    """The file system of a URL, and the path there."""
+    try:
+        from fsspec.core import url_to_fs  # type: ignore
+    except ImportError:
+        raise ValueError(f"{url} needs the package fsspec") from None
+    try:
+        return url_to_fs(url)
+    except (ValueError, ImportError) as wrong:
+        raise ValueError(f"{url}: {wrong}") from None
+
+
+def _about(file: str) -> tuple[int, int]:
+    """The size of a file, and when it was changed, in nanoseconds; 0 if a URL's file system doesn't tell."""
+    if "://" not in file:
+        about = os.stat(file)
+        return about.st_size, about.st_mtime_ns
+    system, path = _system(file)
+    size = system.info(path)["size"] or 0
+    try:
+        return size, int(system.modified(path).timestamp() * 10**9)
+    except (NotImplementedError, AttributeError, KeyError):
+        return size, 0
+
+
+def _read(file: str) -> tuple[bytes, int]:
+    """The contents of a file, and when it was changed."""
+    if "://" in file:
+        system, path = _system(file)
+        return system.cat_file(path), _about(file)[1]
+    log = os.open(file, os.O_RDONLY)
+    try:
+        about = os.fstat(log)
+        data = os.read(log, about.st_size + 1)
+        if len(data) != about.st_size:  # A pipe, or a file that grows.
+            while piece := os.read(log, 2**20):
+                data += piece
+        return data, about.st_mtime_ns
+    finally:
+        os.close(log)
+
+
 def files(paths: Iterable[str]) -> Iterator[str]:
-    """The files that are named, and those of folders whose names end in .log, by name."""
+    """The files that are named, by a path or a URL, and those of folders whose names end in .log, by name."""
     for path in paths:
-        if os.path.isdir(path):
-            yield from sorted(map(str, Path(path).rglob("*.log")))
+        if "://" in path:
+            system, there = _system(path)
+            found = [system.unstrip_protocol(it) for it in sorted(system.find(there)) if it.endswith(".log")] if system.isdir(there) else [path]
+            yield from found
+        elif os.path.isdir(path):
+            inside = [f"{folder}/{name}" for folder, _, names in os.walk(Path(path)) for name in names if name.endswith(".log")]
+            yield from sorted(it.removeprefix("./") for it in inside)
         else:
             yield path
 
@@ -53,12 +105,10 @@ def files(paths: Iterable[str]) -> Iterator[str]:
 def judge_file(file: str, freed: str = "held", owned: bool = False) -> Result:
     """The verdict on a file: what its first line says that it is."""
     try:
-        about = os.stat(file)
-        with open(file, "rb") as log:
-            data = log.read()
+        data, changed = _read(file)
     except OSError as fault:
-        return Result(file, -1, -1, _asks(freed, owned), "", failed=f"read fault: {fault.strerror}")
-    of = file, len(data), about.st_mtime_ns, _asks(freed, owned)
+        return Result(file, -1, -1, _asks(freed, owned), "", failed=f"read fault: {fault.strerror or fault}")
+    of = file, len(data), changed, _asks(freed, owned)
     try:
         why: Callable[[], str]
         if data.startswith(b"run 1\n"):
@@ -83,10 +133,10 @@ def _asks(freed: str, owned: bool) -> str:
 def _same(result: Result, asks: str) -> bool:
     """Whether a file still has the contents of which a result is, by the same options."""
     try:
-        about = os.stat(result.file)
+        about = _about(result.file)
     except OSError:
         return False
-    return not result.failed and result.asks == asks and (about.st_size, about.st_mtime_ns) == (result.size, result.changed)
+    return not result.failed and result.asks == asks and about == (result.size, result.changed)
 
 
 def read_results(file: str) -> list[Result]:
@@ -123,18 +173,68 @@ class _Written:
         self._file.flush()
 
 
-def judge_many(names: Iterable[str], jobs: int = 1, freed: str = "held", owned: bool = False) -> Iterator[Result]:
-    """The results of files, as they come. Threads judge them: the library runs without Python's lock."""
-    with ThreadPoolExecutor(jobs) as pool:
-        pending: set[Future[Result]] = set()
-        for name in names:
-            pending.add(pool.submit(judge_file, name, freed, owned))
-            if len(pending) >= _WAITING * jobs:
+def _each(names: list[str], freed: str, owned: bool) -> list[Result]:
+    """What a process or a worker does with a batch."""
+    return [judge_file(name, freed, owned) for name in names]
+
+
+def _batches(names: Sequence[str], jobs: int) -> Iterator[list[str]]:
+    size = max(1, min(_BATCH, len(names) // (4 * jobs)))
+    for at in range(0, len(names), size):
+        yield list(names[at:at + size])
+
+
+def judge_many(names: Sequence[str], jobs: int = 1, freed: str = "held", owned: bool = False) -> Iterator[Result]:
+    """The results of files, as they come. More than one job are as many processes."""
+    if jobs == 1:
+        yield from (judge_file(name, freed, owned) for name in names)
+        return
+    # An interrupt ends this process, which ends the others.
+    with ProcessPoolExecutor(jobs, initializer=signal.signal, initargs=(signal.SIGINT, signal.SIG_IGN)) as pool:
+        batches, pending = _batches(names, jobs), set[Future[list[Result]]]()
+        try:
+            while True:
+                pending |= {pool.submit(_each, batch, freed, owned) for batch in islice(batches, _WAITING * jobs - len(pending))}
+                if not pending:
+                    return
                 done, pending = wait(pending, return_when=FIRST_COMPLETED)
-                yield from (it.result() for it in done)
-        while pending:
-            done, pending = wait(pending, return_when=FIRST_COMPLETED)
-            yield from (it.result() for it in done)
+                yield from (result for it in done for result in it.result())
+        except BrokenProcessPool:  # The system ended one, for lack of memory.
+            raise MemoryError from None
+
+
+def judge_by_cluster(scheduler: str, names: Sequence[str], freed: str = "held", owned: bool = False) -> Iterator[Result]:
+    """The same by the workers of dask.distributed that a scheduler has: it judges again what a lost worker had. Each worker imports this
+    package, and reads the files itself."""
+    try:
+        from distributed import Client, as_completed
+    except ImportError:
+        raise ValueError("--scheduler needs the package distributed") from None
+    try:
+        client = Client(scheduler)
+    except (OSError, ValueError) as fault:
+        raise ConnectionError(f"the scheduler {scheduler} doesn't answer: {fault}") from None
+    with client:
+        batches = _batches(names, max(1, sum(client.nthreads().values())))
+        of = {client.submit(_each, batch, freed, owned, pure=False): batch for batch in islice(batches, _UNDER_WAY)}
+        done = as_completed(list(of))
+        for future in done:
+            status = future.status
+            if status == "cancelled":
+                raise ConnectionError(f"the scheduler {scheduler} has ended")
+            if status not in ("finished", "error"):  # Its worker was lost since: another one has it now.
+                done.add(future)
+                continue
+            batch = of.pop(future)
+            if status == "finished":
+                yield from future.result()
+            else:
+                failed = f"no worker judged it: {type(future.exception()).__name__}"
+                yield from (Result(name, -1, -1, _asks(freed, owned), "", failed=failed) for name in batch)
+            for more in islice(batches, 1):
+                added = client.submit(_each, more, freed, owned, pure=False)
+                of[added] = more
+                done.add(added)
 
 
 def junit(results: Iterable[Result]) -> str:
@@ -165,7 +265,7 @@ def _bar(results: Iterator[Result], total: int) -> Iterator[Result]:
     if not sys.stderr.isatty():
         return results
     try:
-        from tqdm import tqdm
+        from tqdm import tqdm  # type: ignore
     except ImportError:
         return _line(results, total)
     return iter(tqdm(results, total=total, unit=" logs"))
@@ -181,19 +281,19 @@ def _line(results: Iterator[Result], total: int) -> Iterator[Result]:
     print(file=sys.stderr)
 
 
-def summary(results: Iterable[Result]) -> str:
+def summary(accepted: int, others: Iterable[Result]) -> str:
     """How many are accepted, and how many rejected, by refusal."""
-    counted = Counter("accepted" if it.status == 0 else f"not read: {it.failed}" if it.failed else f"rejected, {it.refusal}" for it in results)
-    return "".join(f"{count} {what}\n" for what, count in sorted(counted.items(), key=lambda it: (it[0] != "accepted", -it[1], it[0])))
+    counted = Counter(f"not read: {it.failed}" if it.failed else f"rejected, {it.refusal}" for it in others)
+    lines = [f"{accepted} accepted\n"] if accepted else []
+    return "".join([*lines, *(f"{count} {what}\n" for what, count in sorted(counted.items(), key=lambda it: (-it[1], it[0])))])
 
 
 def add_arguments(command: argparse.ArgumentParser) -> None:
     """The words of the command."""
     add = command.add_argument
-    add("paths", metavar="PATH", nargs="+", help="a log, or a folder with files that end in .log")
+    add("paths", metavar="PATH", nargs="+", help="a log, or a folder with files that end in .log; or a URL that fsspec reads")
     add("--jobs", metavar="N", type=int, default=os.cpu_count() or 1, help="how many are judged at a time; by default one for each processor")
-    add("--freed", choices=("held", "used", "both"), default="held", help="what is asked of freed objects, as in capdiag run")
-    add("--owned", action="store_true", help="each access to a live object goes through its own capability")
+    add("--scheduler", metavar="ADDRESS", help="have the workers of dask.distributed judge them that this scheduler has; they read the files")
     add("--results", metavar="FILE", help="add the results to a file, of JSON Lines or, if it ends in .csv, CSV; logs that it has and that "
         "didn't change aren't judged again")
     add("--junit", metavar="FILE", help="write JUnit's XML")
@@ -213,15 +313,18 @@ def many(given: argparse.Namespace) -> tuple[bytes, int]:
         if given.results:
             written = _Written(stack.enter_context(_appended(given.results)), given.results.endswith(".csv"))
         results = list(kept)
-        for it in _bar(judge_many((name for name in names if name in left), given.jobs, given.freed, given.owned), len(left)):
+        wanted, words = [name for name in names if name in left], (given.freed, given.owned)
+        judged = judge_by_cluster(given.scheduler, wanted, *words) if given.scheduler else judge_many(wanted, given.jobs, *words)
+        for it in _bar(judged, len(left)):
             results.append(it)
             if written:
                 written.add(it)
     if given.junit:
         Path(given.junit).write_text(junit(results), encoding="utf-8")
-    shown = [annotation(it) if given.annotations else f"{it.file}: {it.failed or it.verdict}" for it in sorted(results) if it.status]
-    text = "".join(f"{line}\n" for line in shown) + summary(results)
-    return text.encode(errors="surrogateescape"), max((it.status for it in results), default=0)
+    others = sorted(it for it in results if it.line or it.failed)
+    shown = [annotation(it) if given.annotations else f"{it.file}: {it.failed or it.verdict}" for it in others]
+    text = "".join(f"{line}\n" for line in shown) + summary(len(results) - len(others), others)
+    return text.encode(errors="surrogateescape"), max((it.status for it in others), default=0)
 
 
 def _appended(file: str) -> TextIO:

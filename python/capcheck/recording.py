@@ -2,6 +2,7 @@
 from __future__ import annotations
 
 import ctypes
+import os
 from operator import index
 from typing import Any, Protocol
 
@@ -13,6 +14,19 @@ from .runs import RunJudge, _place, _verdict
 from .words import Capability, _mask, _passed
 
 _NOWHERE = _abi.Place(0, 0)
+_libc = ctypes.CDLL(None, use_errno=True)  # Its streams, into which the library writes lines.
+_libc.fdopen.restype, _libc.fdopen.argtypes = ctypes.c_void_p, (ctypes.c_int, ctypes.c_char_p)
+_libc.ferror.argtypes = _libc.fflush.argtypes = _libc.fclose.argtypes = (ctypes.c_void_p,)
+
+
+def _opened(descriptor: int) -> int:
+    """A stream over a copy of a file descriptor."""
+    copy = os.dup(descriptor)
+    if (stream := _libc.fdopen(copy, b"wb")) is None:
+        fault = ctypes.get_errno()
+        os.close(copy)
+        raise OSError(fault, os.strerror(fault))
+    return stream
 
 
 class Written(Protocol):
@@ -47,7 +61,9 @@ class Recorder:
             recorder.did(Kind.SETADDR, 2, 1, root.set_address(0x1000), number=0x1000)
             recorder.end()
 
-    Each line is passed to the judge, which has no lines yet, and then written into the file; one of the two may be left out.
+    Each line is passed to the judge, which has no lines yet, and then written into the file; one of the two may be left out. The file
+    is a binary file, any object with its `write`, or the number of a file descriptor: this is the fastest, and what was written may be in
+    a buffer until `end`, `flush` or an error.
     `spare` is a register that the program doesn't use, for accesses through special registers and beyond offsets of 12 bits.
     A register is a number, or a place as in a log, such as "scr0". The arguments are in the order of the line.
 
@@ -56,14 +72,19 @@ class Recorder:
     the file's `write` raises is raised. After any of these but MemoryError the recording may be over, and then later calls raise,
     too."""
 
-    def __init__(self, file: Written | None = None, judge: RunJudge | None = None, *, clear: bool = False, spare: int = 0) -> None:
+    def __init__(self, file: Written | int | None = None, judge: RunJudge | None = None, *, clear: bool = False, spare: int = 0) -> None:
         self._recorder = _abi.Recorder()
         self._pointer = ctypes.byref(self._recorder)
-        self._judge, self._fault = judge, None
+        self._judge, self._fault, self._stream = judge, None, None
         if judge is not None and judge._rest:
             raise ValueError("the last line that the judge was fed is incomplete")
-        self._write = _abi.RecorderWrite(0) if file is None else _abi.RecorderWrite(self._writing(file))
-        self._done(_c.capcheck_recorder_start(self._pointer, None if judge is None else judge._open, self._write, None, bool(clear)))
+        if isinstance(file, int):
+            self._stream = _opened(file)
+            self._write = ctypes.cast(_c.capcheck_recorder_to_file, _abi.RecorderWrite)
+        else:
+            self._write = _abi.RecorderWrite(0) if file is None else _abi.RecorderWrite(self._writing(file))
+        judging = None if judge is None else judge._open
+        self._done(_c.capcheck_recorder_start(self._pointer, judging, self._write, self._stream, bool(clear)))
         self.spare = spare
 
     def _writing(self, file: Written) -> Any:
@@ -80,10 +101,21 @@ class Recorder:
 
         return written
 
+    def flush(self) -> None:
+        """Writes what is in the buffer of a file descriptor."""
+        if self._stream is not None and _libc.fflush(self._stream):
+            raise OSError(fault := ctypes.get_errno(), os.strerror(fault))
+
+    def __del__(self) -> None:
+        if (stream := self.__dict__.pop("_stream", None)) is not None:
+            _libc.fclose(stream)
+
     def _done(self, goes_on: bool) -> None:
         """Returns if the recording goes on; otherwise raises what it failed by."""
         if goes_on:
             return
+        if self._stream is not None and _libc.ferror(self._stream):
+            raise OSError(number := ctypes.get_errno(), os.strerror(number))
         fault, self._fault = self._fault, None
         if fault is not None:
             raise fault
@@ -126,6 +158,7 @@ class Recorder:
     def end(self) -> None:
         """The end line. No call may follow."""
         self._done(_c.capcheck_recorder_end(self._pointer))
+        self.flush()
 
     def again(self) -> None:
         """After MemoryError: passes the line again, and what follows it of the same call."""

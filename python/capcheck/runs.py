@@ -5,24 +5,26 @@ from __future__ import annotations
 import ctypes
 import os
 import re
-from collections.abc import Iterator
+from collections.abc import Callable, Iterator
+from functools import lru_cache
 from operator import index
 from typing import Any, NamedTuple
 
 from . import _abi, lines
 from ._abi import judges as _c, whole_logs as _whole_logs, words as _words
-from .judges import _REPORT_SIZE, Rejected, State, _Steps, _bytes, _checked, _expected
+from .judges import _REPORT_SIZE, Rejected, State, _Steps, _bytes, _checked, _expected, pieces
 from .lines import Kind, _write
 from .words import Capability, Refusal, _address, _capability, _mask, _passed
 
 _NO_PLACE, _REGISTER, _GRANULE, _SPECIAL = 0, 1, 2, 3
 _LIVE, _FREED, _NO_SUCH_OBJECT = 1, 2, 0
-_PIECE = 2**18
 _PLACE = re.compile(r"(c|scr)([0-9]|[12][0-9]|3[01])|@([0-9a-f]{16})", re.A)
 _FREED_CHOICES = {"held": (1, 0), "used": (0, 1), "both": (1, 1)}
 
 
 def _place(place: str) -> _abi.Place:
+    if not isinstance(place, str):
+        raise TypeError(f"a place is a string, such as 'c3', and not {type(place).__name__}")
     if not (named := _PLACE.fullmatch(place)):
         raise ValueError(f"{place!r} isn't a place of a run log, such as c3, scr0 or @0000000000001000")
     if named[3]:
@@ -106,7 +108,8 @@ def write(line: RunLine) -> bytes:
     """A line as it is written: the inverse of `read`."""
     if line.kind in _ROOTS:
         return root(*line.operands)
-    return _LINES.get(line.kind, getattr(lines, line.kind.name.lower(), None))(*line.operands)
+    writes: Any = _LINES.get(line.kind) or getattr(lines, line.kind.name.lower())
+    return writes(*line.operands)
 
 
 def _operands(found: _abi.RunLine) -> tuple[Any, ...]:
@@ -213,9 +216,12 @@ def _verdict(answer: _abi.RunAnswer) -> RunVerdict:
     return RunVerdict(False, line=answer.line, refusal=Refusal(answer.refusal))
 
 
+@lru_cache
 def _asks(freed: str, owned: bool) -> _abi.Asks:
     if freed not in _FREED_CHOICES:
         raise ValueError(f"freed is 'held', 'used' or 'both', and not {freed!r}")
+    if owned not in (True, False):
+        raise ValueError(f"owned is True or False, and not {owned!r}")
     return _abi.Asks(*_FREED_CHOICES[freed], bool(owned))
 
 
@@ -375,19 +381,19 @@ def judge_bytes(log: Any, freed: str = "held", owned: bool = False) -> RunVerdic
     """The verdict on a run log in memory: bytes, another buffer, or a binary file, which is read whole. Other threads run
     meanwhile."""
     data = _bytes(log)
-    start = ctypes.cast(ctypes.c_char_p(data), ctypes.c_void_p)
-    return _verdict(_whole_logs.capcheck_run_judge_bytes(start, len(data), _asks(freed, owned)))
+    return _verdict(_whole_logs.capcheck_run_judge_bytes(data, len(data), _asks(freed, owned)))
 
 
-def judge(log: Any, freed: str = "held", owned: bool = False) -> RunVerdict:
-    """The verdict on a file or a pipe: its path, or an open binary file. It is read up to the first faulty line, in pieces."""
+def judge(log: Any, freed: str = "held", owned: bool = False, *, progress: Callable[[int], object] | None = None) -> RunVerdict:
+    """The verdict on a file or a pipe: its path, or an open binary file. It is read up to the first faulty line, in pieces. After each
+    piece that passes, `progress` is called with how many bytes have been judged; what it raises stops the judge."""
     if isinstance(log, (str, bytes, os.PathLike)):
         with open(log, "rb", buffering=0) as file:
-            return judge(file, freed, owned)
-    take = getattr(log, "read1", None) or log.read
+            return judge(file, freed, owned, progress=progress)
     with RunJudge(freed, owned) as judging:
-        while (piece := take(_PIECE)) and judging.feed(piece):
-            pass
+        for piece in pieces(log, progress):
+            if not judging.feed(piece):
+                break
         return judging.end()
 
 

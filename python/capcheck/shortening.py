@@ -3,7 +3,7 @@ from __future__ import annotations
 
 import io
 import time
-from collections.abc import Callable, Iterator
+from collections.abc import Callable, Iterable, Iterator
 from contextlib import suppress
 from typing import Any
 
@@ -17,18 +17,18 @@ _ROWS = frozenset("line source authority holds root length gives recorded reques
                   "cleared differs".split())
 
 
-def shorten(log: Any, seconds: float = 5, replayable: bool = False) -> bytes:
+def shorten(log: Any, seconds: float = 5, replayable: bool = False, *, freed: str = "held", owned: bool = False) -> bytes:
     """A short log with the fault of a rejected log: the same refusal, the same refused line and the same diagnosis, except
     for origins and counts. No line of it can be left out, apart from the header, unless `seconds` didn't suffice. The log is
-    bytes, another buffer, or a binary file. ValueError if it is accepted. A run log is judged as `capdiag run` judges it, and
-    its lines are the log's own.
+    bytes, another buffer, or a binary file. ValueError if it is accepted. A run log is judged as `capdiag run` judges it, with
+    its options `freed` and `owned`, and its lines are the log's own.
 
     The lines of other logs are the log's own if no fewer lines do; otherwise others give the refused line its operands. With `replayable`
     they are the log's own in any case. Replayed on the machine that the log is from, a short log needn't show the same bug:
     the machine may need steps that the judge doesn't."""
     data, until = _bytes(log), time.monotonic() + seconds
     if data.startswith(b"run 1\n"):
-        return _shorten_run(data, until)
+        return _shorten_run(data, until, freed, owned)
     if verdict := judge_bytes(data):
         raise ValueError(f"the log is accepted: {verdict}")
     texts, number = io.BytesIO(data).readlines(), verdict.line or 1
@@ -39,30 +39,38 @@ def shorten(log: Any, seconds: float = 5, replayable: bool = False) -> bytes:
     def has_fault(middle: list[bytes]) -> bool:
         return _fault(b"".join([*header, *middle, faulty])) == fault
 
-    made = [] if replayable else _fewest(next(filter(has_fault, _middles(header, before, faulty))), has_fault, until)
+    made = [] if replayable else _fewest(_first(_middles(header, before, faulty), has_fault), has_fault, until)
     own = made
     if made or replayable:
-        own = _fewest(next(filter(has_fault, ([], _needed(before, faulty), before))), has_fault, until)
+        own = _fewest(_first(([], _needed(before, faulty), before), has_fault), has_fault, until)
     return b"".join([*header, *(own if replayable or len(own) <= len(made) else made), faulty])
 
 
-def _shorten_run(data: bytes, until: float) -> bytes:
+def _shorten_run(data: bytes, until: float, freed: str, owned: bool) -> bytes:
     """A short run log with the fault of a long one."""
-    if verdict := runs.judge_bytes(data):
+    def fault_of(lines: list[bytes]) -> list[str]:
+        return _run_fault(runs.why(b"".join(lines), freed, owned))
+
+    if verdict := runs.judge_bytes(data, freed, owned):
         raise ValueError(f"the log is accepted: {verdict}")
     texts, number = io.BytesIO(data).readlines(), verdict.line or 1
     header = texts[:2][:number - 1]
     before, faulty = texts[len(header):number - 1], b"".join(texts[number - 1:number])
-    fault = _run_fault(b"".join(texts[:number]))
+    fault = fault_of(texts[:number])
 
     def has_fault(middle: list[bytes]) -> bool:
-        return _run_fault(b"".join([*header, *middle, faulty])) == fault
+        return fault_of([*header, *middle, faulty]) == fault
 
-    first = next(filter(has_fault, ([], _needed_of_run(header, before, faulty), before)))
+    why = runs.why(b"".join([*header, *before, faulty]), freed, owned)
+    first = _first(([], _needed_of_run(header, before, faulty, why), before), has_fault)
     return b"".join([*header, *_fewest(first, has_fault, until), faulty])
 
 
-def _needed_of_run(header: list[bytes], before: list[bytes], faulty: bytes) -> list[bytes]:
+def _first(middles: Iterable[list[bytes]], has_fault: Callable[[list[bytes]], bool]) -> list[bytes]:
+    return next(it for it in middles if has_fault(it))
+
+
+def _needed_of_run(header: list[bytes], before: list[bytes], faulty: bytes, diagnosis: str) -> list[bytes]:
     """The lines on which the faulty line depends: those that wrote its places last, those of the objects that its diagnosis
     names, and what these depend on."""
     writers: dict[str, int] = {}
@@ -76,7 +84,7 @@ def _needed_of_run(header: list[bytes], before: list[bytes], faulty: bytes) -> l
     if len(reads) <= len(before):  # The faulty line is none that can be read.
         return []
     found, left = set[int](), [len(before)]
-    for row in runs.why(b"".join([*header, *before, faulty])).splitlines():
+    for row in diagnosis.splitlines():
         name, *words = row.split()
         if name in ("object", "freed"):
             left.append(int(words[name == "object"]) - len(header) - 1)
@@ -122,9 +130,9 @@ def _places(line: runs.RunLine, addresses: dict[str, int]) -> tuple[list[str], l
     return sources, list(written)
 
 
-def _run_fault(log: bytes) -> list[str]:
+def _run_fault(diagnosis: str) -> list[str]:
     """The refusal, the faulty line and its diagnosis, without counts, and the numbers of lines and objects."""
-    verdict, *rows = runs.why(log).splitlines()
+    verdict, *rows = diagnosis.splitlines()
     told = [verdict.split()[-1]]
     for row in rows:
         name, *words = row.split(" ")

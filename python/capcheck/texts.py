@@ -14,7 +14,7 @@ from .traces import _LOW, _NULL_HIGH, _TYPE, _UNSEALED, Held, Importer, _name, _
 from .words import NULL
 
 _MOST_LINES = 2**16  # So many parsed lines are kept.
-_ARGUMENT, _LINK = 10, 1  # Of RISC-V's calls.
+_ARGUMENT, _LINK, _STACK = 10, 1, 2  # Of RISC-V's calls.
 _PLACES = {"pcc": 1, "return": 1, "jump": 2, "invoke": 2, "special": 3}  # So many operands of a kind are registers; two of a step.
 _TOKEN, _AUTHORITY = re.compile(r"[^\s,()]+"), re.compile(r"\((\w+)\)")
 Operand = tuple[int | None, int | None]  # A place, or a number.
@@ -31,6 +31,11 @@ class _Plan(NamedTuple):
     quick: tuple[int, ...] | None
 
 
+def _bounds(word: int) -> tuple[int, int]:
+    bounds = _words.capcheck_decode(_abi.Wide.of(word))
+    return bounds.base, int(bounds.top)
+
+
 def _quick(kind: str, wanted: list[Operand]) -> tuple[int, ...] | None:
     """Of a step: the kind of line, target, source, authority, whether the source's address is added, and the operand: a
     register, or 0 and a number. None if it needs more than that."""
@@ -45,56 +50,95 @@ def _quick(kind: str, wanted: list[Operand]) -> tuple[int, ...] | None:
     return int(STEPS[kind]), wanted[0][0] % 64, wanted[1][0] % 64, 0, kind == "incoffset", register, number or 0
 
 
+class _Call(NamedTuple):
+    """A call of an allocator that hasn't returned: where to, the stack's address, and what realloc gets: the number of the object, its
+    address and its bounds."""
+    back: int
+    stack: int
+    number: int
+    address: int
+    bounds: tuple[int, int]
+
+
 class Text(Importer):
     """The importer of a dialect. `hart` is the one that is read, by default that of the first instruction. At the addresses
-    `malloc` a function returns a new object, at `free` one begins that frees its argument."""
+    `malloc` a function begins that returns a new object, at `free` one that frees its argument, at `realloc` one that does both."""
 
     def __init__(self, recorder: Recorder, dialect: Dialect, *, hart: str | None = None, malloc: Sequence[int] = (), free: Sequence[int] = (),
-                 **words: Any) -> None:
+                 realloc: Sequence[int] = (), **words: Any) -> None:
         super().__init__(recorder, **words)
-        self._dialect, self._hart, self._malloc, self._free = dialect, hart, frozenset(malloc), frozenset(free)
-        self._watched = self._malloc | self._free
+        self._dialect, self._hart, self._free, self._realloc = dialect, hart, frozenset(free), frozenset(realloc)
+        self._watched = frozenset(malloc) | self._free | self._realloc
+        self._call: _Call | None = None
+        self._numbers: dict[int, int] = {}  # Of an object by its address.
+        self._made = 0
         self._forms = [(kind, form.fullmatch) for kind, form in dialect.forms if kind != "instruction"]
         self._goes_on = next((form for kind, form in self._forms if kind == "more"), None)
         self._begins = next(form for kind, form in dialect.forms if kind == "instruction").fullmatch
         self._parsed: dict[str, tuple[Any, ...]] = {}
+        self._joined: dict[tuple[str, str], tuple[Any, ...] | None] = {}
         self._plans: dict[tuple[str, str | None], _Plan] = {}
-        self._now: _Plan | None = None  # The instruction that the next lines belong to, and its address.
+        self._now: Any = None  # What the instruction does that the next lines belong to, and its address.
         self._pc: int | None = None
         self._effects: list[tuple[Any, ...]] = []
+        self._accessed = False  # Whether one of them isn't about a register.
         self._of_another = self._is_open = False  # Whether the last line is a capability, which the next one may go on with.
         self._trapped = False
         self._level = next(iter(dialect.modes.values()), None)  # Where a trap saves PCC, and its vector.
         self._mask: int | None = None
-        self._returns: list[int] = []
         self._swapped: int | None = None
         self._taken: tuple[Any, ...] | None = None
 
     # ---- Lines ----
 
     def _lines(self, lines: Iterable[str]) -> None:
-        known, begins, goes_on, begin = self._parsed, self._begins, self._goes_on, self._begin
-        is_open, number = self._is_open, self.lines
+        known, joined, goes_on, begin, take = self._parsed, self._joined, self._goes_on is not None, self._begin, self._take
+        is_open, number, last = self._is_open, self.lines, ""
         try:
             for text in lines:
                 number += 1
-                text = text.rstrip("\r\n")
-                if is_open and goes_on is not None and (found := goes_on(text)):
-                    what, place, fields = self._effects[-1]
-                    self._effects[-1] = what, place, fields | self._fields(found.groupdict())
-                    is_open = False
-                elif parsed := known.get(text):
-                    is_open = self._take(parsed, text)
-                elif found := begins(text):
+                if is_open and goes_on:
+                    effect = joined[last, text] if (last, text) in joined else self._join(last, text)
+                    if effect is not None:
+                        self._effects[-1] = effect
+                        is_open = False
+                        continue
+                last = text
+                parsed = known.get(text) or self._parse(text)
+                if parsed[0] == "instruction":
                     is_open, self.lines = False, number
-                    begin(*found.group("hart", "pc", "mnemonic", "operands"), text)
+                    begin(parsed, text)
                 else:
-                    if len(known) == _MOST_LINES:
-                        known.clear()
-                    parsed = known[text] = self._read(text)
-                    is_open = self._take(parsed, text)
+                    is_open = take(parsed, text)
         finally:
             self._is_open, self.lines = is_open, number
+
+    def _join(self, last: str, text: str) -> tuple[Any, ...] | None:
+        """The last capability with what a line goes on with; None if it is another line."""
+        effect: tuple[Any, ...] | None = None
+        if self._goes_on is not None and (found := self._goes_on(text.rstrip("\r\n"))):
+            what, place, fields = self._effects[-1]
+            effect = what, place, {name: it for name, it in fields.items() if name != "made"} | self._fields(found.groupdict())
+        if last:
+            if len(self._joined) == _MOST_LINES:
+                self._joined.clear()
+            self._joined[last, text] = effect
+        return effect
+
+    def _parse(self, text: str) -> tuple[Any, ...]:
+        """What a line says: its kind, and of an instruction the hart, the address and what it does."""
+        if len(self._parsed) == _MOST_LINES:
+            self._parsed.clear()
+        line = text.rstrip("\r\n")
+        if found := self._begins(line):
+            hart, address, mnemonic, operands = found.group("hart", "pc", "mnemonic", "operands")
+            if (plan := self._plans.get((mnemonic, operands))) is None:
+                plan = self._plans[mnemonic, operands] = self._plan(mnemonic, operands)
+            parsed: tuple[Any, ...] = "instruction", hart, None if address is None else int(address, 16), plan
+        else:
+            parsed = self._read(line)
+        self._parsed[text] = parsed
+        return parsed
 
     def _take(self, parsed: tuple[Any, ...], text: str) -> bool:
         """Takes a line that was read and isn't an instruction's. Returns whether it is a capability."""
@@ -110,11 +154,12 @@ class Text(Importer):
             return False
         elif kind == "trap":
             self._finish(None, parsed[1] is not None)
-            self._now, self._trapped, self._effects, self.machine.kernel = None, True, [], 1
+            self._now, self._trapped, self._effects, self._accessed, self.machine.kernel = None, True, [], False, 1
         elif kind == "mode":
             self._level = self._mode(parsed[1])
         else:
             self._effects.append(parsed)
+            self._accessed = True
         return False
 
     def _mode(self, mode: str) -> tuple[int, ...]:
@@ -159,7 +204,7 @@ class Text(Importer):
         """What an instruction does, by its text."""
         found = [self._operand(it) for it in _TOKEN.findall(operands or "")]
         kind, positions = self._dialect.kinds.get(mnemonic.lower(), ("", ()))
-        wanted = [(-1 - it, 0) if it < 0 else found[it] if it < len(found) else None for it in positions]
+        wanted: list[Any] = [(-1 - it, 0) if it < 0 else found[it] if it < len(found) else None for it in positions]
         authority = _AUTHORITY.search(operands or "")
         place = None if authority is None else self._operand(authority[1])[0]
         if kind == "jump" and place is not None and len(wanted) == 2:
@@ -181,8 +226,8 @@ class Text(Importer):
 
     # ---- Instructions ----
 
-    def _begin(self, hart: str | None, address: str | None, mnemonic: str, operands: str | None, text: str) -> None:
-        pc = None if address is None else int(address, 16)
+    def _begin(self, parsed: tuple[Any, ...], text: str) -> None:
+        _, hart, pc, plan = parsed
         if hart != self._hart:
             if self._hart is not None:
                 self._of_another = True
@@ -192,27 +237,46 @@ class Text(Importer):
         self._of_another = False
         before, last = self._now, self._pc
         self._finish(pc)
-        if before and pc is not None and last is not None and pc - last not in (2, 4) and before.kind in STRAIGHT:
+        follows = pc is None or last is None or pc - last == 4 or pc - last == 2
+        if not follows and before and before.kind in STRAIGHT:
             raise ValueError(f"the trace was cut: {pc:#x} doesn't follow {last:#x}, line {self.at}")
-        plan = self._plans.get((mnemonic, operands))
-        if plan is None:
-            plan = self._plans[mnemonic, operands] = self._plan(mnemonic, operands)
-        self._now, self._pc, self._effects = plan, pc, []
+        self._now, self._pc, self._effects, self._accessed = plan, pc, [], False
         self.instructions += 1
         self.at, self.text = self.lines, text
-        if pc in self._watched or self._returns and pc == self._returns[-1]:
+        if not follows and (pc in self._watched or self._call is not None and pc == self._call.back):
             self._object(pc)
 
     def _object(self, pc: int | None) -> None:
-        """Tells of objects, by the addresses of an allocator's functions."""
-        if pc in self._free and self.machine.held[_ARGUMENT][0]:
-            self.machine.call("freed", _ARGUMENT, 0)
-        elif pc in self._malloc:
-            self._returns.append(self.machine.held[_LINK][1] & _LOW)
+        """Tells of objects, by the addresses of an allocator's functions. What such a function calls itself isn't followed."""
+        held, call = self.machine.held, self._call
+        tag, word = held[_ARGUMENT]
+        address, stack = word & _LOW, held[_STACK][1] & _LOW
+        if call is not None and pc == call.back:
+            self._call = None
+            if tag:
+                self._returned(call, address, _bounds(word))
+        elif call is not None and stack <= call.stack:
+            return
+        elif pc in self._free:
+            if tag:
+                self._numbers.pop(address, None)
+                self.machine.call("freed", _ARGUMENT, 0)
         else:
-            self._returns.pop()
-            if self.machine.held[_ARGUMENT][0]:
-                self.machine.call("object", _ARGUMENT, 0)
+            number = self._numbers.get(address, 0) if tag and pc in self._realloc else 0
+            self._call = _Call(held[_LINK][1] & _LOW, stack, number, address, _bounds(word))
+
+    def _returned(self, call: _Call, address: int, bounds: tuple[int, int]) -> None:
+        """A call returned a capability: of a new object, or of the one that realloc got."""
+        if call.number and address == call.address:
+            if bounds[0] < call.bounds[0] or call.bounds[1] < bounds[1]:  # Otherwise it may have its owner already.
+                self.machine.call("object", _ARGUMENT, call.number)
+            return
+        if call.number:
+            del self._numbers[call.address]
+            self.machine.call("freed", 0, call.number)
+        self._made += 1
+        self._numbers[address] = self._made
+        self.machine.call("object", _ARGUMENT, 0)
 
     def _end(self) -> None:
         self._finish(None)
@@ -228,7 +292,8 @@ class Text(Importer):
             mask = self._mask if self._mask is not None else 0 if fields["high"] else _NULL_HIGH
             return tag, (fields["high"] ^ mask) << 64 | fields["address"]
         try:
-            word = word_of(fields)
+            if (word := fields.get("made")) is None:
+                word = fields["made"] = word_of(fields)
             if tag or likely is None or word == likely or not shows(likely, fields):
                 return tag, word
             return 0, likely
@@ -256,10 +321,8 @@ class Text(Importer):
             if not self.instructions:
                 self._roots()
         else:
-            for what, _, _ in effects:
-                if what != "capability" and what != "integer":
-                    effects = self._accesses(effects)
-                    break
+            if self._accessed:
+                effects = self._accesses(effects)
             if effects or self._now.kind not in ("", "access"):
                 if len(effects) != 1 or machine.kernel or not self._quickly(effects[0]):
                     machine.kernel = 2 if self._now.kind == "call" else machine.kernel
@@ -301,7 +364,9 @@ class Text(Importer):
             number += machine.held[source][1]
         number &= _LOW
         if value.get("tag") == 1 and "base" in value:
-            held = 1, word_of(value)
+            if (word := value.get("made")) is None:
+                word = value["made"] = word_of(value)
+            held = 1, word
         else:
             held = self._held(value, machine.expected(step, source, other, number))
             if held[0] < 0:
@@ -400,7 +465,8 @@ class Text(Importer):
     def _step(self, kind: str, target: int, wanted: list[Operand], fields: dict[str, int]) -> None:
         """Records a step with its own operand."""
         machine, source = self.machine, (wanted[1][0] or 0) % 64
-        other, number, step = 0, 0, STEPS[kind]
+        other, step = 0, STEPS[kind]
+        number: Any = 0
         if kind in ("seal", "ccseal", "unseal"):
             other = (wanted[2][0] or 0) % 64
             if kind == "ccseal" and self._held(fields)[1] & _TYPE == machine.held[source][1] & _TYPE:
@@ -431,12 +497,12 @@ class Text(Importer):
         else:
             machine.step(step, target, source, other, number, held)
 
-    def _changed_pcc(self, kind: str, wanted: list[Operand], fields: dict[int, dict[str, int]], next_pc: int | None) -> None:
+    def _changed_pcc(self, kind: str, wanted: list[Any], fields: dict[int, dict[str, int]], next_pc: int | None) -> None:
         """Records a jump, a return, an invocation, CSpecialRW, and what is derived from PCC. What it records is no longer in `fields`."""
         machine = self.machine
         written = {place: self._held(value, machine.held[wanted[1][0] % 64][1] if kind == "special" and place == wanted[0][0] else None)
                    for place, value in fields.items()}
-        at = [(it[0] or 0) % 64 for it in wanted]
+        at: Any = [(it[0] or 0) % 64 for it in wanted]
         if kind in ("jump", "special") and at[0] and at[0] not in written:
             raise ValueError(f"what {self._now.mnemonic} wrote into {_name(at[0])} isn't in the trace")
         if kind == "pcc":
@@ -449,7 +515,7 @@ class Text(Importer):
         elif kind == "invoke":
             words = [machine.held[it][1] | _TYPE for it in at]
             code = written.pop(PCC, (1, words[0] if next_pc is None else words[0] & ~_LOW | next_pc))
-            machine.invoked(*at, code[1], written.pop(31, (1, words[1]))[1])
+            machine.invoked(at[0], at[1], code[1], written.pop(31, (1, words[1]))[1])
         else:
             tag, word = machine.held[at[-1]]
             pcc = written.pop(PCC, (tag, _unsealed(word, word & _LOW & ~1 if next_pc is None else next_pc)))

@@ -12,7 +12,7 @@ from ._abi import recorders as _recorders, words as _words
 from .dialects import PCC
 from .lines import Kind
 from .recording import Recorder
-from .words import NULL, Capability
+from .words import NULL
 
 _NULL_HIGH = NULL.word >> 64
 _LOW, _WHOLE = 2**64 - 1, 2**64
@@ -175,7 +175,9 @@ class Machine:
     def fault(self, source: int, held: Held, into: int = 0) -> int:
         """Why a `derive` is refused, by number."""
         tag, word = held
-        return _words.capcheck_derive_fault(_cap(self.held[source]), _abi.Wide(word >> 64, word & _LOW), into == PCC) if tag == 1 else 0
+        if tag != 1:
+            return 0
+        return _words.capcheck_derive_fault(self._passed(self.held[source]), _abi.Wide(word >> 64, word & _LOW), into == PCC)
 
     def exchanged(self, target: int, source: int | None, special: int, held: Held, special_held: Held) -> None:
         place = _NOWHERE if source is None else _PLACES[source]
@@ -219,7 +221,7 @@ class Machine:
 
     def expected(self, kind: int, source: int, other: int, number: int) -> int:
         """The word of a step's result, if it has no tag."""
-        cap = _cap(self.held[source])
+        cap = self._passed(self.held[source])
         if kind in (Kind.SETBOUNDS, Kind.SETBOUNDSEXACT):
             made = _words.capcheck_set_bounds_clear(cap, number, 0)
         elif kind == Kind.SETADDR:
@@ -306,7 +308,7 @@ class Machine:
     def loaded_cap(self, target: int, authority: int, address: int, held: Held) -> None:
         if not held[0] and address % 16 == 0:
             self._fill(address, (held[1] ^ NULL.word).to_bytes(16, "little"))
-        self._access("loaded_cap", (target,), authority, address, _cap(held))
+        self._access("loaded_cap", (target,), authority, address, self._passed(held))
         self.hold(target, held)
 
     def swapped(self, register: int, authority: int, address: int, held: Held) -> None:

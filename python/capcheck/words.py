@@ -237,7 +237,9 @@ class Capability:
         raise AttributeError(f"a Capability is immutable: {name} can't be deleted")
 
     def __eq__(self, other: object) -> bool:
-        return (self.word, self.tag) == (other.word, other.tag) if isinstance(other, Capability) else NotImplemented
+        if not isinstance(other, Capability):
+            return NotImplemented
+        return (self.word, self.tag) == (other.word, other.tag)
 
     def __hash__(self) -> int:
         return hash((self.word, self.tag))

@@ -300,11 +300,11 @@ class RunLogs(unittest.TestCase):
     def test_shortening(self):
         for path, freed, owned, _, (verdict, *_) in RUNS:
             log = path.read_bytes()
-            if freed == "held" and not owned and verdict.startswith("no") and log.startswith(b"run 1\n"):
-                short = capcheck.shorten(log)
+            if verdict.startswith("no") and log.startswith(b"run 1\n"):
+                short = capcheck.shorten(log, freed=freed, owned=owned)
                 rest = iter(log.splitlines(True))
                 self.assertTrue(all(line in rest for line in short.splitlines(True)), path)
-                self.assertEqual(str(runs.judge_bytes(short)).split()[2:], verdict.split()[2:], path)
+                self.assertEqual(str(runs.judge_bytes(short, freed, owned)).split()[2:], verdict.split()[2:], path)
 
     def test_a_long_log(self):
         made = subprocess.run(["python3", TOP / "bench/run_log.py", "objects", "300", "300"], capture_output=True, check=True).stdout
@@ -367,6 +367,13 @@ class RunLogs(unittest.TestCase):
                 self.assertRaisesRegex(TypeError, type(judge).__name__, copied, judge)
             self.assertIsNone(judge.verdict)
 
+    def test_arguments(self):
+        with RunJudge() as judge:
+            for call, error in ((lambda: runs.judge(3), "a log is a path or a binary file, and not int"), (lambda: capcheck.judge(3), "and not int"),
+                                (lambda: judge.held(3), "a place is a string, such as 'c3', and not int")):
+                self.assertRaisesRegex(TypeError, error, call)
+        self.assertRaisesRegex(ValueError, "owned is True or False, and not 'no'", lambda: RunJudge(owned="no"))
+
 
 class Heaps(unittest.TestCase):
     def test_corpus(self):
@@ -407,6 +414,37 @@ class Command(unittest.TestCase):
         self.assertEqual(self.run_command("explain", "12")[0], 2)
         self.assertEqual(self.run_command("shorten", "--replayable", log)[1], capcheck.shorten(log.read_bytes(), replayable=True).decode())
         self.assertEqual(self.run_command("why", "--origins", log)[1], diagnosed(log.read_bytes(), "--origins"))
+
+    def test_other_logs(self):
+        """Run logs and logs of allocators are judged by their first line."""
+        for path, freed, owned, _, (verdict, *_) in RUNS[::20]:
+            log = path.read_bytes()
+            if log.startswith(b"run 1\n") and log.endswith(b"\n"):
+                asks = ["--freed", freed, *(["--owned"] if owned else [])]
+                status = int(verdict.startswith("no"))
+                self.assertEqual(self.run_command("judge", *asks, path), (status, f"{verdict}\n", ""))
+                self.assertEqual(self.run_command("why", *asks, given=log), (status, runs.why(log, freed, owned), ""))
+                if status:
+                    self.assertEqual(self.run_command("shorten", *asks, path), (0, capcheck.shorten(log, freed=freed, owned=owned).decode(), ""))
+        heap = b"heap 1\nroot 0000000000010000 00000000000020000\nend 0\n"
+        self.assertEqual(self.run_command("judge", given=heap), (0, f"{heaps.judge(heap)}\n", ""))
+        self.assertEqual(self.run_command("why", given=heap), (0, heaps.why(heap), ""))
+
+    def test_progress(self):
+        """A call gets the number of bytes that were judged; what it raises stops the judge."""
+        for call, log in ((capcheck.judge, b"capcheck 1\nend 0\n"), (runs.judge, b"run 1\nmode clear\nend 0\n")):
+            class Slowly(io.RawIOBase):
+                def __init__(self):
+                    self.at = 0
+
+                def read(self, _=-1):
+                    self.at += 3
+                    return log[self.at - 3:self.at]
+
+            told = []
+            self.assertTrue(call(Slowly(), progress=told.append))
+            self.assertEqual(told, [min(3 * it, len(log)) for it in range(1, -(-len(log) // 3) + 1)])
+            self.assertRaises(ZeroDivisionError, call, io.BytesIO(log), progress=lambda _: 1 // 0)
 
     def test_statuses_of_the_program(self):
         for words in ("judge examples/moves.log > /dev/full", "judge missing.log", "why examples", "explain %s > /dev/full" % NULL.digits,

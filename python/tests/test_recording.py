@@ -1,8 +1,10 @@
 """Tests of the recorder: the lines of each call, what it raises, and the judge that it may have."""
 import copy
 import io
+import os
 import pickle
 import random
+import tempfile
 import unittest
 
 from capcheck import NULL, Capability, Kind, Recorder, Refusal, Rejected, RunJudge, lines, runs
@@ -179,6 +181,29 @@ class RecorderTest(unittest.TestCase):
         with RunJudge() as judge:
             it = begun(judge=judge)
         self.assertRaisesRegex(ValueError, "the judge takes no line: NoJudge", it.wrote, 2, 1, ROOT)
+
+    def test_a_descriptor(self):
+        """A file descriptor gets the lines that a file gets, and its errors are raised."""
+        with tempfile.TemporaryFile() as file:
+            there = io.BytesIO()
+            for it in (begun(file.fileno()), begun(there)):
+                it.did(Kind.MOVE, 2, 1, ROOT)
+                it.flush()
+                it.did(Kind.MOVE, 3, 1, ROOT)
+                it.end()
+            file.seek(0)
+            self.assertEqual(file.read(), there.getvalue())
+        reads, writes = os.pipe()
+        os.close(reads)
+        it = begun(writes)
+        with self.assertRaises(BrokenPipeError):
+            for _ in range(10000):
+                it.did(Kind.MOVE, 2, 1, ROOT)
+        os.close(writes)
+        self.assertRaises(OSError, begun, writes)
+        if os.path.exists("/dev/full"):
+            with open("/dev/full", "wb") as full:
+                self.assertRaisesRegex(OSError, "No space left", begun(full.fileno()).end)
 
 
 if __name__ == "__main__":

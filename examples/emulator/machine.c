@@ -36,6 +36,7 @@ static capcheck_cap c[32], scr[32];
 static capcheck_word memory[GRANULES];
 static uint8_t tags[GRANULES];
 static uint64_t pc = CODE, steps;
+static unsigned long long events;
 static enum way way;
 static enum bug bug;
 static capcheck_recorder r;
@@ -50,6 +51,7 @@ static void stop(const char *why) {
 typedef unsigned long long big;
 #define WORD(cap) (cap).tag != 0, (big)(cap).word.high, (big)(cap).word.low
 #define VALUE "%d %016llx%016llx"
+#define EVENT printf("{\"n\":%llu,", events++), printf
 
 static void own(const char *line, size_t length) {
     if (length == 0 || fwrite(line, 1, length, stdout) != length)
@@ -96,7 +98,7 @@ static void did(uint8_t kind, const char *name, unsigned d, unsigned s, unsigned
     else if (way == WROTE)
         RECORD(wrote, &r, capcheck_c(d), capcheck_c(s), value);
     else if (way == EVENTS) {
-        printf("{\"do\":\"%s\",\"target\":\"c%u\",\"source\":\"c%u\",", capcheck_kind_text(kind), d, s);
+        EVENT("\"do\":\"%s\",\"target\":\"c%u\",\"source\":\"c%u\",", capcheck_kind_text(kind), d, s);
         if (has_other)
             printf("\"other\":\"c%u\",", other);
         else if (kind != CAPCHECK_KIND_MOVE)
@@ -126,7 +128,7 @@ static void derived(capcheck_place target, capcheck_place source, capcheck_cap v
     if (way == DID || way == WROTE)
         RECORD(wrote, &r, target, source, value);
     else if (way == EVENTS)
-        printf("{\"do\":\"derive\",\"target\":\"%s\",\"source\":\"%s\",\"value\":\"" VALUE "\"}\n", place_name(to, target),
+        EVENT("\"do\":\"derive\",\"target\":\"%s\",\"source\":\"%s\",\"value\":\"" VALUE "\"}\n", place_name(to, target),
                place_name(from, source), WORD(value));
     else if (way == OWN)
         LINE(derive, target, source, value);
@@ -145,7 +147,7 @@ static void integer(unsigned d, uint64_t value) {
     if (way == DID || way == WROTE)
         RECORD(overwrote, &r, d, value);
     else if (way == EVENTS)
-        printf("{\"do\":\"integer\",\"target\":\"c%u\",\"number\":\"0x%llx\"}\n", d, (big)value);
+        EVENT("\"do\":\"integer\",\"target\":\"c%u\",\"number\":\"0x%llx\"}\n", d, (big)value);
     else if (way == OWN)
         LINE(derive, capcheck_c(d), capcheck_c(0), c[d]);
     pc += 4;
@@ -225,12 +227,12 @@ static void special(unsigned d, unsigned number, const char *name, unsigned s) {
     if (way == DID || way == WROTE)
         RECORD(exchanged, &r, d, source, number, read, written);
     else if (way == EVENTS && s == 0)
-        printf("{\"do\":\"exchange\",\"target\":\"c%u\",\"special\":\"scr%u\",\"value\":\"" VALUE "\"}\n", d, number, WORD(read));
+        EVENT("\"do\":\"exchange\",\"target\":\"c%u\",\"special\":\"scr%u\",\"value\":\"" VALUE "\"}\n", d, number, WORD(read));
     else if (way == EVENTS && d == 0)
-        printf("{\"do\":\"exchange\",\"target\":\"c0\",\"source\":\"c%u\",\"special\":\"scr%u\",\"special_value\":\"" VALUE "\"}\n",
+        EVENT("\"do\":\"exchange\",\"target\":\"c0\",\"source\":\"c%u\",\"special\":\"scr%u\",\"special_value\":\"" VALUE "\"}\n",
                s, number, WORD(written));
     else if (way == EVENTS)
-        printf("{\"do\":\"exchange\",\"target\":\"c%u\",\"source\":\"c%u\",\"special\":\"scr%u\",\"value\":\"" VALUE
+        EVENT("\"do\":\"exchange\",\"target\":\"c%u\",\"source\":\"c%u\",\"special\":\"scr%u\",\"value\":\"" VALUE
                "\",\"special_value\":\"" VALUE "\"}\n", d, s, number, WORD(read), WORD(written));
     else if (way == OWN && s == 0)
         LINE(derive, capcheck_c(d), capcheck_scr(number), read);
@@ -268,7 +270,7 @@ static void jump(unsigned d, unsigned s) {
     if (way == DID || way == WROTE)
         RECORD(exchanged, &r, d, capcheck_c(s), PCC, value, entry);
     else if (way == EVENTS) {
-        printf("{\"do\":\"exchange\",\"target\":\"c%u\",\"source\":\"c%u\",", d, s);
+        EVENT("\"do\":\"exchange\",\"target\":\"c%u\",\"source\":\"c%u\",", d, s);
         if (d != 0)
             printf("\"value\":\"" VALUE "\",", WORD(value));
         printf("\"special_value\":\"" VALUE "\"}\n", WORD(entry));
@@ -291,7 +293,7 @@ static void trap(void) {
     if (way == DID || way == WROTE)
         RECORD(trapped, &r, capcheck_scr(MEPCC), saved, MTCC, vector);
     else if (way == EVENTS)
-        printf("{\"do\":\"trap\",\"saved\":\"scr31\",\"saved_value\":\"" VALUE "\",\"vector\":\"scr28\",\"value\":\"" VALUE "\"}\n",
+        EVENT("\"do\":\"trap\",\"saved\":\"scr31\",\"saved_value\":\"" VALUE "\",\"vector\":\"scr28\",\"value\":\"" VALUE "\"}\n",
                WORD(saved), WORD(vector));
     else if (way == OWN) {
         LINE(derive, capcheck_scr(MEPCC), capcheck_scr(PCC), saved);
@@ -309,7 +311,7 @@ static void trap(void) {
     if (way == DID || way == WROTE)
         RECORD(trapped, &r, capcheck_nowhere(), scr[MEPCC], MEPCC, scr[MEPCC]);
     else if (way == EVENTS)
-        printf("{\"do\":\"return\",\"saved\":\"scr31\",\"value\":\"" VALUE "\"}\n", WORD(scr[MEPCC]));
+        EVENT("\"do\":\"return\",\"saved\":\"scr31\",\"value\":\"" VALUE "\"}\n", WORD(scr[MEPCC]));
     else if (way == OWN)
         LINE(derive, capcheck_scr(PCC), capcheck_scr(MEPCC), scr[MEPCC]);
     scr[PCC] = scr[MEPCC];
@@ -357,7 +359,7 @@ static void store_cap(unsigned s, unsigned authority, int64_t offset) {
     if (way == DID || way == WROTE)
         RECORD(stored_cap, &r, s, capcheck_c(authority), offset);
     else if (way == EVENTS)
-        printf("{\"do\":\"sc\",\"source\":\"c%u\",\"authority\":\"c%u\",\"offset\":%lld}\n", s, authority, (long long)offset);
+        EVENT("\"do\":\"sc\",\"source\":\"c%u\",\"authority\":\"c%u\",\"offset\":%lld}\n", s, authority, (long long)offset);
     else if (way == OWN)
         LINE(sc, s, authority, offset);
     pc += 4;
@@ -377,7 +379,7 @@ static void load_cap(unsigned d, unsigned authority, int64_t offset) {
     if (way == DID || way == WROTE)
         RECORD(loaded_cap, &r, d, capcheck_c(authority), offset, stored);
     else if (way == EVENTS)
-        printf("{\"do\":\"lc\",\"target\":\"c%u\",\"authority\":\"c%u\",\"offset\":%lld,\"value\":\"" VALUE "\"}\n", d, authority,
+        EVENT("\"do\":\"lc\",\"target\":\"c%u\",\"authority\":\"c%u\",\"offset\":%lld,\"value\":\"" VALUE "\"}\n", d, authority,
                (long long)offset, WORD(stored));
     else if (way == OWN)
         LINE(lc, d, authority, offset, stored);
@@ -410,7 +412,7 @@ static void access_data(bool is_store, unsigned number, capcheck_place authority
     else if (way == DID || way == WROTE)
         RECORD(loaded, &r, authority, offset, 8, value);
     else if (way == EVENTS)
-        printf("{\"do\":\"%s\",\"authority\":\"%s\",\"offset\":\"%lld\",\"size\":8,\"number\":\"0x%llx\"}\n", is_store ? "store" : "load",
+        EVENT("\"do\":\"%s\",\"authority\":\"%s\",\"offset\":\"%lld\",\"size\":8,\"number\":\"0x%llx\"}\n", is_store ? "store" : "load",
                place_name(place, authority), (long long)offset, (big)value);
     else if (way == OWN) {
         unsigned by = reach(authority, &offset);
@@ -431,7 +433,7 @@ static void object(bool is_new) {
         else
             RECORD(freed, &r, A0, 0);
     } else if (way == EVENTS)
-        printf("{\"do\":\"%s\",\"target\":\"c10\"}\n", is_new ? "object" : "free");
+        EVENT("\"do\":\"%s\",\"target\":\"c10\"}\n", is_new ? "object" : "free");
     else if (way == OWN && is_new)
         LINE(object, A0, 0);
     else if (way == OWN)
@@ -534,7 +536,7 @@ static void begin(void) {
         if (way == DID || way == WROTE)
             RECORD(root, &r, capcheck_scr(roots[i]), root->word);
         else if (way == EVENTS)
-            printf("{\"do\":\"root\",\"place\":\"scr%u\",\"value\":\"" VALUE "\"}\n", roots[i], WORD(*root));
+            EVENT("\"do\":\"root\",\"place\":\"scr%u\",\"value\":\"" VALUE "\"}\n", roots[i], WORD(*root));
         else if (way == OWN)
             own(line, capcheck_line_root_special(line, roots[i], root->word));
     }

@@ -1,0 +1,74 @@
+#!/usr/bin/env python3
+"""Times `python3 -m capcheck many` on many small logs, by 1, 2 and 4 jobs and, where distributed is installed, by a scheduler and four workers on
+this machine, and `capdiag run` by xargs.
+
+    python3 bench/many.py PREFIX [COUNT]
+
+PREFIX is the folder that install.sh installed below. The COUNT logs, or 100,000, have 300 lines each. It prints for each how many logs a second
+of time and of processor time there are: the least time of three rounds counts."""
+import importlib.util
+import json
+import os
+import subprocess
+import sys
+import tempfile
+import time
+from pathlib import Path
+
+PREFIX, COUNT = Path(sys.argv[1]), int(sys.argv[2]) if len(sys.argv) > 2 else 100_000
+ROOT = "run 1\nmode clear\nroot c1 ffff1ffffc0180040000000000000000\n"
+MOVE = "move c2 c1 = 1 ffff1ffffc0180040000000000000000\n"
+ENVIRONMENT = {**os.environ, "PYTHONPATH": str(PREFIX / "share/capcheck"), "CAPCHECK_LIB": str(PREFIX / "lib")}
+
+
+def timed(command, folder):
+    """The least time of three rounds, and the least processor time."""
+    times, spent = [], []
+    for _ in range(3):
+        before, begun = os.times(), time.monotonic()
+        subprocess.run(command, cwd=folder, env=ENVIRONMENT, stdout=subprocess.DEVNULL, check=True)
+        times.append(time.monotonic() - begun)
+        after = os.times()
+        spent.append(after.children_user + after.children_system - before.children_user - before.children_system)
+    return min(times), min(spent)
+
+
+def said(what, command, folder):
+    took, spent = timed(command, folder)
+    print(f"{what:28} {COUNT / took:8.0f} a second, {COUNT / spent:8.0f} a second of processor time", flush=True)
+
+
+def by_cluster(folder, many):
+    about = f"{folder}/scheduler.json"
+    start = [sys.executable, "-m", "distributed.cli.dask_scheduler", "--host", "127.0.0.1", "--port", "0", "--no-dashboard", "--scheduler-file", about]
+    quiet = {"env": ENVIRONMENT, "stdout": subprocess.DEVNULL, "stderr": subprocess.DEVNULL}
+    running = [subprocess.Popen(start, **quiet)]
+    while not os.path.exists(about) or not Path(about).read_text().endswith("}"):
+        time.sleep(0.1)
+    address = json.loads(Path(about).read_text())["address"]
+    start = [sys.executable, "-m", "distributed.cli.dask_worker", address, "--nthreads", "1", "--no-nanny", "--no-dashboard"]
+    running += [subprocess.Popen(start, **quiet) for _ in range(4)]
+    time.sleep(3)
+    took, _ = timed([*many, "--scheduler", address], folder)
+    print(f"{'many, a cluster of 4 workers':28} {COUNT / took:8.0f} a second", flush=True)
+    for it in running:
+        it.kill()
+        it.wait()
+
+
+def main():
+    with tempfile.TemporaryDirectory() as folder:
+        for number in range(COUNT):
+            at = f"{folder}/logs/{number // 1000:03}"
+            os.makedirs(at, exist_ok=True)
+            Path(f"{at}/{number:06}.log").write_text(f"{ROOT}{MOVE * 296}end 296\n")
+        many = [sys.executable, "-m", "capcheck", "many", f"{folder}/logs"]
+        for jobs in (1, 2, 4):
+            said(f"many, {jobs} job{'s' * (jobs > 1)}", [*many, "--jobs", str(jobs)], folder)
+        said("xargs -P4 capdiag run", ["sh", "-c", f"find logs -name '*.log' -print0 | xargs -0 -P4 {PREFIX}/bin/capdiag run"], folder)
+        if importlib.util.find_spec("distributed"):
+            by_cluster(folder, many)
+
+
+if __name__ == "__main__":
+    main()
