@@ -65,6 +65,7 @@ ELSEWHERE = {
     "cc -ffreestanding -Iinclude program.c crates/capcheck_freestanding/out/libcapcheck_freestanding.a -o program": "examples/emulator/check.sh, with another program",
     "cc -shared -fPIC -I ~/.local/include recorder.c ~/.local/lib/libcapcheck_judge.a ~/.local/lib/libcapcheck_c.a -Wl,--exclude-libs,ALL -o recorder.so": "by hand, as examples/qemu/README.md has it",
     "cc -std=c11 -shared -fPIC -O2 -Iinclude -I/path/to/qemu/include/qemu examples/qemu/recorder.c judge/out/libcapcheck_judge.a crates/capcheck_c/out/libcapcheck_c.a -Wl,--exclude-libs,ALL -o recorder.so": "by hand, where QEMU is",
+    """capdiag why --json logs/*.log | jq -r 'select(.verdict == "no") | "::error file=\\(.file),line=\\(.line)::\\(.name): \\(.says // .hint // .expected)"'""": "by hand, where jq is",
     "sh web/build.sh --keep": "by hand, after a change; web/check.sh builds the modules",
     "sh web/build.sh --page": "by hand, after a change of a script or the style",
     "sh web/sources.sh --compare": "the gate",
