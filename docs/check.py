@@ -43,7 +43,7 @@ sys.path.insert(0, f"{ROOT}/gdb")
 from sessions import PROMPT, agrees, is_installed, tell_left_out, transcript  # noqa: E402
 
 PAGES = ["README.md", "CONTRIBUTING.md", "docs/FIRST_HOUR.md", "docs/FORMAT.md", "docs/STEPS.md", "docs/RUNS.md", "docs/HEAPS.md", "docs/WORDS.md", "docs/MACHINE.md", "docs/RECORDING.md", "docs/REFUSED.md"]
-PAGES += ["docs/PYTHON.md", "docs/TRACES.md", "docs/GDB.md", "docs/ALLOCATORS.md", "docs/STANDARD.md", "docs/STANDARD-RUNS.md", "docs/STANDARD-ALLOCATORS.md", "docs/STANDARD-PROGRAMS.md", "docs/STANDARD-INDEX.md", "docs/C.md", "docs/GLOSSARY.md", "docs/PROOFS.md", "docs/TESTING.md", "docs/FAULTS.md", "docs/COMPARISON.md", "docs/DECISIONS.md", "docs/INTERNALS.md", "CHANGELOG.md", "examples/README.md", "examples/objects/README.md", "examples/qemu/README.md", "conformance/README.md", "web/README.md", "web/PASTING.md", "bench/README.md", "bench/units.md"]
+PAGES += ["docs/PYTHON.md", "docs/TRACES.md", "docs/GDB.md", "docs/ALLOCATORS.md", "docs/STANDARD.md", "docs/STANDARD-RUNS.md", "docs/STANDARD-ALLOCATORS.md", "docs/STANDARD-PROGRAMS.md", "docs/STANDARD-INDEX.md", "docs/C.md", "docs/GLOSSARY.md", "docs/PROOFS.md", "PROMISES.md", "docs/TESTING.md", "docs/FAULTS.md", "docs/COMPARISON.md", "docs/DECISIONS.md", "INTERNALS.md", "CHANGELOG.md", "examples/README.md", "examples/objects/README.md", "examples/qemu/README.md", "conformance/README.md", "web/README.md", "web/PASTING.md", "bench/README.md", "bench/units.md"]
 
 # Commands that no session runs, and where they are run.
 ELSEWHERE = {
