@@ -27,7 +27,7 @@ DESTDIR=$work sh install.sh "/$name"
 rm -r "$to/share/gdb"
 sed -i 's|^prefix=.*|prefix=${pcfiledir}/../..|' "$to"/lib/pkgconfig/*.pc
 CAPCHECK_LIB=$to/lib python3 python/build_wheel.py "$to"
-git ls-files -z README.md CHANGELOG.md CONTRIBUTING.md docs examples conformance bench web/README.md web/PASTING.md web/capcheck.html include judge/heap.c recorder/recorder.c |
+git ls-files -z README.md CHANGELOG.md CONTRIBUTING.md INTERNALS.md PROMISES.md docs examples conformance bench web/README.md web/PASTING.md web/capcheck.html include judge/heap.c recorder/recorder.c |
     tar --null -T - -cf - | tar -C "$to" -xf -
 rt version > "$to/KIT"
 needed=$(objdump -p "$to"/bin/* "$to"/lib/*.so.1 | sed -n 's/^ *NEEDED *//p' | grep -v '^libcapcheck_' | sort -u)

@@ -4,6 +4,8 @@
     python3 conformance/mutants.py              makes each mutant, asks the corpus, and compares what it finds with two tables
     python3 conformance/mutants.py --write      writes conformance/CLAUSES.tsv too; with names, the rows of these definitions
     python3 conformance/mutants.py NAME..       only the mutants of these definitions, and which file sees each
+    python3 conformance/mutants.py --runs [NAME..]   of the definitions of run logs, conformance/transcribed_runs.py, by the
+                                               run logs of the corpus and by its logs of version 2 as run logs
     python3 conformance/mutants.py --limits NAME..   asks the logs of conformance/limits.py alone, made for limits of 16 roots
                                                and 256 and 512 granules, which these mutants then have
 
@@ -11,21 +13,25 @@ A mutant has one comparison, operator, constant, condition or operand otherwise:
 `and` left out, two neighbours of a call or of a list of checks exchanged. A file of the corpus sees it if the answer is
 another, if a definition refuses the right answer or takes a wrong one, or if a relation and its closed form differ on it.
 conformance/mutants.tsv has a line for each mutant that lives: the definition, what is changed (`*` for all changes), and why no
-file can see it.
+file can see it; conformance/run_mutants.tsv has those of run logs.
 conformance/CLAUSES.tsv has one for each clause with mutants: how many, how many are seen, and the file that sees most. The
 status is 1 if another mutant lives, if one of those is seen, or if the second table has other counts."""
 import ast
 import collections
 import copy
+import importlib.machinery
+import importlib.util
 import os
 import re
 import signal
 import sys
+import tempfile
 import types
 
 import transcription
 
 PATH, LISTED, CLAUSES = "conformance/transcribed.py", "conformance/mutants.tsv", "conformance/CLAUSES.tsv"
+RUN_PATH, RUN_LISTED = "conformance/transcribed_runs.py", "conformance/run_mutants.tsv"
 COMPARED = {ast.Lt: ast.LtE, ast.LtE: ast.Lt, ast.Gt: ast.GtE, ast.GtE: ast.Gt, ast.Eq: ast.NotEq, ast.NotEq: ast.Eq,
             ast.In: ast.NotIn, ast.NotIn: ast.In, ast.Is: ast.IsNot, ast.IsNot: ast.Is}
 OPERATED = {ast.Add: ast.Sub, ast.Sub: ast.Add, ast.Mult: ast.FloorDiv, ast.FloorDiv: ast.Mult, ast.Mod: ast.FloorDiv, ast.Pow: ast.Mult,
@@ -71,7 +77,7 @@ def places(tree):
     """Each node that may be changed, as the path to it, with the name of the definition in which it stands."""
     for top in tree.body:
         if isinstance(top, (ast.FunctionDef, ast.Assign, ast.ClassDef)):
-            name = top.targets[0].id if isinstance(top, ast.Assign) else top.name
+            name = ast.unparse(top.targets[0]) if isinstance(top, ast.Assign) else top.name
             left = [(top, ())]
             while left:
                 node, path = left.pop()
@@ -124,12 +130,28 @@ def mutants(tree):
             yield name, key + (f" ({seen[name, key]})" if seen[name, key] > 1 else ""), top, made
 
 
+def run_files():
+    """The run logs of the corpus and its logs of version 2 as run logs, each with options and what is printed."""
+    loader = importlib.machinery.SourceFileLoader("corpus_runner", "conformance/run")
+    corpus = importlib.util.module_from_spec(importlib.util.spec_from_loader("corpus_runner", loader))
+    loader.exec_module(corpus)
+    for name, options, answer in corpus.run_rows():
+        with open(f"conformance/runs/{name}", "rb") as it:
+            yield f"runs/{name} {options}", it.read(), options.split(), answer.split(" / ")
+    with tempfile.TemporaryDirectory() as made:
+        for name, path, answer in corpus.as_run_logs(made):
+            with open(path, "rb") as it:
+                yield f"{name} as a run log", it.read(), [], [answer]
+
+
 class Files:
     """The files of the corpus, each as questions that these definitions are asked, with the definitions that it reaches."""
 
-    def __init__(self, space, with_limits):
+    def __init__(self, space, with_limits, with_runs=False):
         self.asked, self.count = [], collections.Counter()
-        for name, answer, origins in transcription.index() if not with_limits else []:
+        if with_runs:
+            self.asked = [(name, is_same_run_log, given, SECONDS) for name, *given in run_files()]
+        for name, answer, origins in transcription.index() if not with_limits and not with_runs else []:
             if name.startswith(("accepted/", "rejected/")):
                 with open(f"conformance/{name}", "rb") as it:
                     self.asked.append((name, is_same_log, (it.read(), [answer, *(f"origin {it.replace('=', ' ')}" for it in origins)]), SECONDS))
@@ -257,11 +279,17 @@ def is_same_verdict(space, data, wanted):
     return space["verdict_line"](verdict) == wanted and space["IsVerdict"](data, verdict, beginning) and is_refused_longer(space, data, beginning)
 
 
-def namespace(tree):
+def is_same_run_log(space, data, words, wanted):
+    """Whether definitions of run logs give what the corpus has, and its status."""
+    text, status = space["judged"](data, words)
+    return (text.splitlines(), status) == (wanted, 0 if wanted[0].startswith("yes") else 1)
+
+
+def namespace(tree, with_runs=False):
     """What the definitions of a tree give, with the questions of transcription.py over them."""
     space = {"__name__": "transcribed"}
     exec(compile(tree, PATH, "exec"), space)
-    for name in ("judged", "line_of"):
+    for name in ("judged", "line_of") if not with_runs else ():
         function = getattr(transcription, name)
         space[name] = types.FunctionType(function.__code__, space, name)
     return space
@@ -278,8 +306,8 @@ def lowered(tree):
     return tree
 
 
-def listed():
-    with open(LISTED, encoding="utf-8") as it:
+def listed(path):
+    with open(path, encoding="utf-8") as it:
         return {tuple(line.split("\t")[:2]): line.split("\t")[2] for line in it.read().splitlines()[1:]}
 
 
@@ -307,19 +335,20 @@ def table(found):
 
 def main(words):
     signal.signal(signal.SIGVTALRM, late)
-    with open(PATH, encoding="utf-8") as it:
+    with_runs = "--runs" in words
+    with open(RUN_PATH if with_runs else PATH, encoding="utf-8") as it:
         tree = ast.parse(it.read())
     names = {it for it in words if not it.startswith("-")}
     if "--limits" in words:
         tree = lowered(tree)
-    files = Files(namespace(tree), "--limits" in words)
-    alive, found, known = [], collections.defaultdict(list), listed()
+    files = Files(namespace(tree, with_runs), "--limits" in words, with_runs)
+    alive, found, known = [], collections.defaultdict(list), listed(RUN_LISTED if with_runs else LISTED)
     for name, key, top, made in mutants(tree):
         if names and name not in names:
             continue
         body = [made if it is top else it for it in tree.body]
         try:
-            space = namespace(ast.fix_missing_locations(ast.Module(body, [])))
+            space = namespace(ast.fix_missing_locations(ast.Module(body, [])), with_runs)
             file = files.seen_by(space, name if isinstance(top, ast.FunctionDef) else None)
         except Exception:  # noqa: BLE001
             file = "accepted/10.1-each-kind-of-step-v1.log"
@@ -334,6 +363,7 @@ def main(words):
     bad = [f"alive: {name}: {key}" for name, key in alive if not {(name, key), (name, "*")} & {*known}]
     if "--limits" not in words:
         bad += [f"listed, but seen: {name}: {key}" for name, key in known if name in found and not {(name, key), (name, "*")} & {*alive, *((it, "*") for it, _ in alive)}]
+    if "--limits" not in words and not with_runs:
         text = table(found)
         if "--write" in words:
             with open(CLAUSES, "w", encoding="utf-8") as it:

@@ -148,7 +148,7 @@ def is_present(run, number): return run.objects[number].freed is None or owned_b
 
 def stepped(run):
     run.steps += 1
-    for number in [it for it in run.objects if run.objects[it].freed is not None and not owned_by(run, it)]:
+    for number in [it for it in run.objects if not is_present(run, it)]:
         del run.objects[number]
 
 

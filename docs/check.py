@@ -42,8 +42,8 @@ ROOT = os.getcwd()
 sys.path.insert(0, f"{ROOT}/gdb")
 from sessions import PROMPT, agrees, is_installed, tell_left_out, transcript  # noqa: E402
 
-PAGES = ["README.md", "CONTRIBUTING.md", "docs/FIRST_HOUR.md", "docs/FORMAT.md", "docs/WORDS.md", "docs/MACHINE.md", "docs/RECORDING.md", "docs/RUNS.md", "docs/REFUSED.md"]
-PAGES += ["docs/PYTHON.md", "docs/TRACES.md", "docs/MANY.md", "docs/GDB.md", "docs/ALLOCATORS.md", "docs/STANDARD.md", "docs/STANDARD-RUNS.md", "docs/STANDARD-ALLOCATORS.md", "docs/STANDARD-PROGRAMS.md", "docs/STANDARD-INDEX.md", "docs/C.md", "docs/GLOSSARY.md", "docs/PROOFS.md", "docs/TESTING.md", "docs/COMPARISON.md", "docs/DECISIONS.md", "docs/INTERNALS.md", "CHANGELOG.md", "examples/README.md", "examples/objects/README.md", "examples/qemu/README.md", "conformance/README.md", "web/README.md", "web/PASTING.md", "bench/README.md", "bench/units.md"]
+PAGES = ["README.md", "CONTRIBUTING.md", "docs/FIRST_HOUR.md", "docs/FORMAT.md", "docs/STEPS.md", "docs/RUNS.md", "docs/HEAPS.md", "docs/WORDS.md", "docs/MACHINE.md", "docs/RECORDING.md", "docs/REFUSED.md"]
+PAGES += ["docs/PYTHON.md", "docs/TRACES.md", "docs/MANY.md", "docs/GDB.md", "docs/ALLOCATORS.md", "docs/STANDARD.md", "docs/STANDARD-RUNS.md", "docs/STANDARD-ALLOCATORS.md", "docs/STANDARD-PROGRAMS.md", "docs/STANDARD-INDEX.md", "docs/C.md", "docs/GLOSSARY.md", "docs/PROOFS.md", "PROMISES.md", "docs/TESTING.md", "docs/FAULTS.md", "docs/COMPARISON.md", "docs/DECISIONS.md", "INTERNALS.md", "CHANGELOG.md", "examples/README.md", "examples/objects/README.md", "examples/qemu/README.md", "conformance/README.md", "web/README.md", "web/PASTING.md", "bench/README.md", "bench/units.md"]
 
 # Commands that no session runs, and where they are run.
 ELSEWHERE = {
@@ -66,6 +66,7 @@ ELSEWHERE = {
     "cc -ffreestanding -Iinclude program.c crates/capcheck_freestanding/out/libcapcheck_freestanding.a -o program": "examples/emulator/check.sh, with another program",
     "cc -shared -fPIC -I ~/.local/include recorder.c ~/.local/lib/libcapcheck_judge.a ~/.local/lib/libcapcheck_c.a -Wl,--exclude-libs,ALL -o recorder.so": "by hand, as examples/qemu/README.md has it",
     "cc -std=c11 -shared -fPIC -O2 -Iinclude -I/path/to/qemu/include/qemu examples/qemu/recorder.c judge/out/libcapcheck_judge.a crates/capcheck_c/out/libcapcheck_c.a -Wl,--exclude-libs,ALL -o recorder.so": "by hand, where QEMU is",
+    """capdiag why --json logs/*.log | jq -r 'select(.verdict == "no") | "::error file=\\(.file),line=\\(.line)::\\(.name): \\(.says // .hint // .expected)"'""": "by hand, where jq is",
     "sh web/build.sh --keep": "by hand, after a change; web/check.sh builds the modules",
     "sh web/build.sh --page": "by hand, after a change of a script or the style",
     "sh web/sources.sh --compare": "the gate",
@@ -109,6 +110,8 @@ TERMS = {
     r"the bounds of the objects cost": "what exact bounds would cost",
     r"from (?:0x)?[\d,]+ (?:bytes )?on": "from that number up",
     r"beside": "next to, with, or at the same time as",
+    r"other logs of a machine|(?:the|of|for|in) other logs": "logs of steps",
+    r"hand(?:s|ed)? out": "allocate",
 }
 # What TERMS are looked for in, and figures, except those of bench/ itself. The wording of the theorems is fixed.
 MANUALS = ["docs/capcheck.1", "docs/capdiag.1"]

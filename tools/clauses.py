@@ -2,7 +2,7 @@
 """The clauses of each public function and each method of a public trait, in crates/*/src.
 
     python3 tools/clauses.py [CRATE..]      prints a line for each clause without a name, and nothing where all have one
-    python3 tools/clauses.py --since REV    prints each `ensures` of REV, and each definition that its docs/PROOFS.md
+    python3 tools/clauses.py --since REV    prints each `ensures` of REV, and each definition that its PROMISES.md
                                             lists, whose text is another now or that is gone; each `requires` that is
                                             new; and the functions of REV that are gone
 
@@ -77,8 +77,8 @@ def defined(revision):
 
 
 def listed(revision):
-    """The names of the definitions that docs/PROOFS.md lists, by name or by file."""
-    page = "".join(text for _, text in sources(revision, r"docs/PROOFS\.md$"))
+    """The names of the definitions that PROMISES.md lists, by name or by file; once it was docs/PROOFS.md."""
+    page = "".join(text for _, text in sources(revision, r"(?:PROMISES|docs/PROOFS)\.md$"))
     names, excepted, files = set(NAME.findall(page)), set(), {}
     for crate, section in re.findall(r"(?ms)^## (\w+): (.*?)(?=^## )", page) if "(except `" in page else []:
         text = "\n".join(line for line in section.split("\n") if "need no belief" not in line)

@@ -1,7 +1,7 @@
 #!/usr/bin/env python3
 """What a reader has to believe: the definitions of crates/*/specs that contracts of public functions reach.
 
-    python3 tools/definitions.py              what docs/PROOFS.md lists for each crate, compared with what is reached
+    python3 tools/definitions.py              what PROMISES.md lists for each crate, compared with what is reached
     python3 tools/definitions.py NAME..       how many definitions, lines, characters and words these names reach
 
 A definition reaches those that its text names, by the `use` lines of its file. Lines are counted without comments
@@ -164,7 +164,7 @@ def listed(crate, section, specs):
 
 
 def compare():
-    page, bad = read("docs/PROOFS.md"), 0
+    page, bad = read("PROMISES.md") + read("docs/PROOFS.md"), 0
     reached = set()
     for crate in sorted(os.listdir("crates")):
         for text, names, aliases in clauses(crate):

@@ -63,13 +63,13 @@ def anchored(number):
     return f'<a id="c{number}"></a>'
 
 
-def fenced(blocks):
+def fenced(blocks, long):
     """Definitions in blocks that are not long, each below what links to its clauses lead to. Between short definitions that
     follow each other there is no line."""
     out, left = [], list(blocks)
     while left:
         numbers, lines = [], []
-        while left and (not lines or len(lines) + len(left[0][1]) <= LONG):
+        while left and (not lines or len(lines) + len(left[0][1]) <= (long if numbers or left[0][0] else LONG)):
             number, block = left.pop(0)
             if lines and max(len(block), last) > SHORT:
                 lines.append("")
@@ -169,11 +169,12 @@ class Page:
 
     def __init__(self, old):
         self.old, self.parts, self.block, self.run, self.at, self.types, self.gone = old, [], [], [], {}, [], {}
+        self.file = PAGE
 
     def flush(self):
         self.settle()
         if self.block:
-            self.parts.append(fenced(self.block))
+            self.parts.append(fenced(self.block, LONG if self.file == PAGE else 0))
             self.block = []
 
     def settle(self):
@@ -250,6 +251,7 @@ class Page:
 
     def part(self, words):
         self.flush()
+        self.file = words[0]
         self.parts.append("@part " + words[0])
 
     def moved(self, words):

@@ -197,7 +197,7 @@ class RunVerdict(NamedTuple):
 
 
 class Object(NamedTuple):
-    """An object: its extent, the line that handed it out, whether it is live, and how many places hold it."""
+    """An object: its extent, the line that allocated it, whether it is live, and how many places hold it."""
     number: int
     line: int
     base: int
@@ -296,7 +296,7 @@ class RunJudge(_Steps):
         return self._pass(name, line)
 
     def _step(self, name: str, *values: Any) -> bool:
-        """A step of other logs, as the calls of `Judge` pass it."""
+        """A step of a log of steps, as the calls of `Judge` pass it."""
         return self._pass(name, RunLine(Kind[name.upper()], tuple(_capability(it) if isinstance(it, _abi.Cap) else it for it in values)))
 
     def _pass(self, name: str, line: RunLine) -> bool:
@@ -331,7 +331,7 @@ class RunJudge(_Steps):
 
     @property
     def expected(self) -> Capability | int | None:
-        """After WRONG_RESULT of a step of other logs: what the rules give, a capability or the number that is loaded. Otherwise
+        """After WRONG_RESULT of one of the twelve steps of logs of steps: what the rules give, a capability or the number that is loaded. Otherwise
         None."""
         return _expected(_c.capcheck_run_judge_expected(self._open))
 
@@ -355,7 +355,7 @@ class RunJudge(_Steps):
         return _c.capcheck_run_judge_owner(self._open, _place(place)) or None
 
     def object(self, number: int) -> Object | None:
-        """The object with a number; None if none was handed out, or if it was freed and no place holds it."""
+        """The object with a number; None if none was allocated, or if it was freed and no place holds it."""
         if not 0 <= index(number) < 2**32:
             raise ValueError(f"object {number} isn't from 0 to 2**32 - 1")
         found = _c.capcheck_run_judge_object(self._open, number)
@@ -364,7 +364,7 @@ class RunJudge(_Steps):
         return Object(number, found.line, found.base, int(found.top), found.state == _LIVE, found.held)
 
     def objects(self) -> Iterator[Object]:
-        """The objects that are live or held, by their numbers."""
+        """The present objects, by their numbers."""
         number = 0
         while number < 2**32 - 1 and (number := _c.capcheck_run_judge_next_object(self._open, number + 1)):
             if (found := self.object(number)) is not None:

@@ -23,8 +23,8 @@ def shorten(log: Any, seconds: float = 5, replayable: bool = False, *, freed: st
     bytes, another buffer, or a binary file. ValueError if it is accepted. A run log is judged as `capdiag run` judges it, with
     its options `freed` and `owned`, and its lines are the log's own.
 
-    The lines of other logs are the log's own if no fewer lines do; otherwise others give the refused line its operands. With `replayable`
-    they are the log's own in any case. Replayed on the machine that the log is from, a short log needn't show the same bug:
+    The lines of a log of steps are the log's own if no fewer lines do; otherwise others give the refused line its operands.
+    With `replayable` they are the log's own in any case. Replayed on the machine that the log is from, a short log needn't show the same bug:
     the machine may need steps that the judge doesn't."""
     data, until = _bytes(log), time.monotonic() + seconds
     if data.startswith(b"run 1\n"):

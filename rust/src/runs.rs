@@ -53,7 +53,7 @@ impl fmt::Display for RunPlace {
 /// 31, and those that are written at least 1.
 #[derive(Clone, Copy, Debug, PartialEq, Eq, Hash)]
 pub enum RunLine {
-    /// A line that the other logs have, too: a mode, a root in a register or in memory, one of their steps, the end.
+    /// A line that logs of steps have, too: a mode, a root in a register or in memory, one of their steps, the end.
     Usual(Line),
     /// The first line, `run 1`.
     Version,
@@ -206,7 +206,7 @@ impl RunLine {
 /// What is asked of freed objects, and of authorities that no object owns. The default is what `capdiag run` asks by itself.
 #[derive(Clone, Copy, Debug, PartialEq, Eq, Hash)]
 pub struct Asks {
-    /// No memory is handed out again while a capability of a freed object reaches it.
+    /// No memory is allocated again while a capability of a freed object reaches it.
     pub held: bool,
     /// No access goes through a capability of a freed object.
     pub used: bool,
@@ -235,7 +235,7 @@ pub enum RunVerdict {
         steps: u32,
         /// The number of root lines.
         roots: u32,
-        /// How many objects were handed out.
+        /// How many objects were allocated.
         objects: u32,
     },
     /// The log is rejected.
@@ -259,7 +259,7 @@ impl fmt::Display for RunVerdict {
 /// An object that is live, or of which a place still holds a capability. It is displayed as `capdiag run --owners` prints it.
 #[derive(Clone, Copy, Debug, PartialEq, Eq, Hash)]
 pub struct Object {
-    /// Its number: objects are numbered from 1 in the order in which they are handed out.
+    /// Its number: objects are numbered from 1 in the order in which they are allocated.
     pub number: u32,
     /// Its first address.
     pub base: u64,
@@ -385,7 +385,7 @@ impl RunJudge {
         (number != 0).then_some(number)
     }
 
-    /// The object with a number; none if it was never handed out, or is freed and no place holds it.
+    /// The object with a number; none if it was never allocated, or is freed and no place holds it.
     pub fn object(&self, number: u32) -> Option<Object> {
         let found = unsafe { abi::capcheck_run_judge_object(self.judge.get(), number) };
         let top = u128::from(found.top.high) << 64 | u128::from(found.top.low);
