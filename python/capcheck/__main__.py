@@ -70,7 +70,7 @@ def _failed(status: int, why_it_failed: object) -> int:
 
 def main() -> int:
     """The statuses of `capcheck` and `capdiag`. 0: all is printed, and a log that was to be judged is accepted. 1: it is
-    rejected; for `shorten`, accepted. 2: an argument is wrong. 3: reading, writing or an allocation failed."""
+    rejected; for `shorten`, accepted. 2: an argument is wrong. 3: reading, writing or an allocation failed. 130: an interrupt."""
     given = _arguments()
     try:
         if given.command == "explain":
@@ -85,6 +85,8 @@ def main() -> int:
         return _failed(1 if given.command == "shorten" else 2, wrong)
     except MemoryError:
         return _failed(3, "no memory")
+    except KeyboardInterrupt:
+        return _failed(130, "interrupted")
     except importing.WriteFault as fault:
         return _failed(3, f"write fault: {fault}")
     except OSError as fault:
