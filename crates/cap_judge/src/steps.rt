@@ -9,7 +9,7 @@ ghost use Rattle.cap_judge.specs.Readings.{EndsBytes, IsFullAt, MakesSteps, Take
 
 use cap_log::{Head, Part};
 use cap_machine::{
-    ByKind, Derived, Instruction, MOST_BYTES, Machine, Making, ROOM_BEHIND_HEAD, StepEnd, by_head,
+    ByKind, Derived, Instruction, MOST_BYTES, Machine, Making, ROOM_AFTER_HEAD, StepEnd, by_head,
     glance,
 };
 use tagmem::TaggedStore;
@@ -82,7 +82,7 @@ impl<'a, M: TaggedStore> ByKind<'a, Machine<M>> for Usual {
         machine: &mut Machine<M>,
         operands: &'a [u8],
     ) -> Result<Option<&'a [u8]>, StepEnd> {
-        if operands.len() < ROOM_BEHIND_HEAD {
+        if operands.len() < ROOM_AFTER_HEAD {
             return Ok(None);
         }
         let Some((glanced, rest)) = glance::<M, D, 0>(machine, operands) else {
@@ -172,7 +172,7 @@ fn take_kind<'a, M: TaggedStore, I: Instruction, const APART: bool>(
 ) -> Result<Option<&'a [u8]>, StepEnd>
     ensures { TakesOne machine.old (head_spelling I.HEAD ++ 32 ∷ operands.now) result machine.new }
 {
-    if operands.len() < ROOM_BEHIND_HEAD {
+    if operands.len() < ROOM_AFTER_HEAD {
         return Ok(None);
     }
     let Some((step, rest)) = I::take(operands) else {

@@ -15,8 +15,8 @@ use cap_streams::LINE_LIMIT;
 /// The most bytes that a line has, with its line feed.
 pub const MOST_BYTES: usize = LINE_LIMIT + 1;
 
-/// So many bytes at least are left behind a head and its space, where a line of any length has room: a head has 14 at most.
-pub const ROOM_BEHIND_HEAD: usize = MOST_BYTES - 15;
+/// So many bytes at least follow a head and its space, where a line of any length has room: a head has 14 at most.
+pub const ROOM_AFTER_HEAD: usize = MOST_BYTES - 15;
 
 /// What is done with the operands of a step, whatever its kind, to something.
 pub trait ByKind<'a, T> {

@@ -20,7 +20,7 @@ mod recorded;
 mod rules;
 mod shown;
 
-pub use crate::by_kind::{ByKind, MOST_BYTES, ROOM_BEHIND_HEAD, by_head};
+pub use crate::by_kind::{ByKind, MOST_BYTES, ROOM_AFTER_HEAD, by_head};
 pub use crate::ends::StepEnd;
 pub use crate::instructions::{
     Derivation, Instruction, Making, OfKind, Operation, OperationParts, WithStep, by_step,

@@ -9,7 +9,7 @@ use crate::ends::RunEnd;
 use crate::run_machine::RunMachine;
 use cap_log::{Head, Part};
 use cap_machine::{
-    ByKind, Derived, Instruction, MOST_BYTES, OfKind, ROOM_BEHIND_HEAD, by_head, glance,
+    ByKind, Derived, Instruction, MOST_BYTES, OfKind, ROOM_AFTER_HEAD, by_head, glance,
 };
 use tagmem::TaggedStore;
 
@@ -98,7 +98,7 @@ impl<M: TaggedStore> RunMachine<M> {
             (head_spelling I.HEAD ++ 32 ∷ operands.now) result
             self.new.asks (run_in self.new) }
     {
-        if operands.len() < ROOM_BEHIND_HEAD {
+        if operands.len() < ROOM_AFTER_HEAD {
             return None;
         }
         self.take_kind::<I>(operands)
