@@ -140,7 +140,7 @@ class Timeline:
         return _c.capcheck_run_judge_object(self._pointer, number)
 
     def _hand_out(self, number: int) -> None:
-        """The last line handed out an object, or widened the extent of one."""
+        """The last line allocated an object, or widened the extent of one."""
         found = self._told(number or len(self._objects) + 1)
         if number:
             it = self._objects[number - 1]
