@@ -176,8 +176,8 @@ function verdictSaid() {
     const { state, line, refusal, steps, roots } = log.judged;
     const { isRun, isHeap, objects } = log.judged;
     const heapSays = isHeap ? heapVerdict(log.judged) : null;
-    const handedOut = isRun ? `, with ${counted(objects, "object")} handed out` : "";
-    if (state === 1) return heapSays ?? ["Yes: a run of the machine.", `${counted(steps, "step")} from ${counted(roots, "root")}${handedOut}.`];
+    const allocated = isRun ? `, with ${counted(objects, "object")} allocated` : "";
+    if (state === 1) return heapSays ?? ["Yes: a run of the machine.", `${counted(steps, "step")} from ${counted(roots, "root")}${allocated}.`];
     if (state !== 2) return ["No verdict.", "There wasn't memory enough."];
     return [`No: line ${decimal(line)} is refused: ${refusal} ${log.report.refusal}.`, faultSentence(log.report, log.faulty)];
 }
@@ -279,7 +279,7 @@ function reportShown(report) {
     return shown;
 }
 
-/** The kind of bar for a capability: what a refused `object` line asks for is red, and so is who holds a freed object. */
+/** The kind of bar for a capability: what a refused `object` line asks for is red, and who holds a freed object has that one's colour. */
 function kindOfCap(name, { bounds, tag }, { spans: { extent }, object }) {
     if (tag !== "1") return "untagged";
     if (name === "register" && extent && bounds[0] === extent.base && bounds[1] === extent.top) return "refused-extent";

@@ -21,7 +21,7 @@ function listenToAsks() {
 const stateOf = ({ isLive, held }) => (isLive ? "live" : held ? "freed, still held" : "freed");
 const atFault = () => log.line === log.judged.line;
 
-/** An object's extent, and who holds it and when it was handed out. */
+/** An object's extent, and who holds it and when it was allocated. */
 function objectSaid(it) {
     const { base, top, line, freed, held, holder } = it;
     const extent = `${span({ base, top })}, ${counted(top - base, "byte")}`;
@@ -29,7 +29,7 @@ function objectSaid(it) {
     const holders = held === 0 ? "no place holds it" : `${counted(held, "place")} ${held === 1 ? "holds" : "hold"} it${holder ? `, first ${holder}` : ""}`;
     return [
         extent,
-        make("span", {}, `${stateOf(it)}; ${holders}; handed out by `, lineButton(line, undefined, `object ${it.number}`),
+        make("span", {}, `${stateOf(it)}; ${holders}; allocated by `, lineButton(line, undefined, `object ${it.number}`),
             ...(freed ? [", freed by ", lineButton(freed, undefined, `freed ${it.number}`)] : [])),
     ];
 }
@@ -98,14 +98,14 @@ function extentsDrawing(objects, about, asked, asks, width) {
     const axis = scaled(from - room, end - from + 2n * room, 12, width - 12);
     const rows = [
         ["live", "bounds", objects.filter(({ isLive }) => isLive)],
-        ["freed, still held", "outside", objects.filter(({ isLive }) => !isLive)],
+        ["freed, still held", "freed", objects.filter(({ isLive }) => !isLive)],
         [asks, "refused-extent", asked ? [asked] : []],
     ].filter(([, , extents]) => extents.length);
     const nodes = rows.flatMap(([title, kind, extents], row) => [
         words(0, row * 44 + 13, title, "note", "start"),
         ...extents.flatMap(({ base, top }) => {
             const [left, right] = [axis.cut(base), axis.cut(top)];
-            return [bar(left, right, row * 44 + 18, 18, kind), ...(kind === "outside" ? [hatched(left, right, row * 44 + 18, 18)] : [])];
+            return [bar(left, right, row * 44 + 18, 18, kind), ...(kind === "freed" ? [hatched(left, right, row * 44 + 18, 18)] : [])];
         }),
     ]);
     const y = rows.length * 44;

@@ -1,6 +1,6 @@
 "use strict";
-// The objects of a run log over time, in a worker beside the page: when each was handed out, when it was freed, how long a place
-// held it afterwards, and how many bytes are live or held. All of it is what the judge's module answers; the lines that hand out
+// The objects of a run log over time, in a worker beside the page: when each was allocated, when it was freed, how long a place
+// held it afterwards, and how many bytes are live or held. All of it is what the judge's module answers; the lines that allocate
 // and free are found by their first letters.
 
 const SAMPLES = 1000; // so many times it is asked which freed objects are held, if the log has as many lines
@@ -30,8 +30,8 @@ class Timeline {
         return this.judge.call("owner", this.judge.stepped, number, BigInt(kind)) >>> 0;
     }
 
-    /** A line handed out an object, or widened the extent of one. */
-    handOut(line, number) {
+    /** A line allocated an object, or widened the extent of one. */
+    allocate(line, number) {
         const it = this.told(number || this.objects.length + 1);
         if (number) {
             const found = this.objects[number - 1];
@@ -67,13 +67,13 @@ class Timeline {
         return line + Math.max(this.every, this.held.size);
     }
 
-    /** The judge takes a line that hands out or frees. */
+    /** The judge takes a line that allocates or frees. */
     take(line, isFree) {
         const { lines } = this;
         const [, first, second] = lines.text(line).split(" ");
         if (!isFree) {
             lines.before(line + 1);
-            return this.handOut(line, Number(second ?? 0));
+            return this.allocate(line, Number(second ?? 0));
         }
         lines.before(line);
         const number = first.startsWith("c") ? this.owner(first) : Number(first);

@@ -123,7 +123,7 @@ const drawn = async (line) => {
     for (let k = 0; k < 500 && log.objects?.line !== (line || log.line); k++) await new Promise((done) => setTimeout(done, 10));
     return {
         says: seen("objects-say"), rows: [...document.querySelectorAll("#object-rows tr")].map((it) => it.innerText.replace(/\s+/g, " ").trim()),
-        bars: [".bounds", ".outside", ".refused-extent"].map((kind) => document.querySelectorAll(`#extents ${kind}`).length),
+        bars: [".bounds", ".freed", ".refused-extent"].map((kind) => document.querySelectorAll(`#extents ${kind}`).length),
         hatches: document.querySelectorAll("#extents .hatch").length, label: byId("extents").getAttribute("aria-label"),
         held: [...document.querySelectorAll("#held tr")].map((it) => it.innerText.replace(/\s+/g, " ").trim()),
     };
@@ -136,7 +136,7 @@ export async function objectsAreDrawn(page) {
     const at = await page.run(drawn, 0);
     const refused = Number(printed(CAPDIAG, ["run"], HELD).split(" ")[1]);
     check(at.says.includes("1 object freed that some place still holds") && at.bars[1] === 1 && at.bars[2] === 1 && at.hatches === 1, JSON.stringify(at));
-    check(at.rows.some((it) => /^object 2 0x1010 up to 0x1020, 16 bytes freed, still held; 1 place holds it, first c3; handed out by line 9/.test(it)),
+    check(at.rows.some((it) => /^object 2 0x1010 up to 0x1020, 16 bytes freed, still held; 1 place holds it, first c3; allocated by line 9/.test(it)),
         JSON.stringify(at.rows));
     check(at.held.some((it) => it.startsWith("c3") && it.includes("owned by object 2")), `c3's owner: ${at.held}`);
     const lines = HELD.split("\n");
@@ -146,7 +146,7 @@ export async function objectsAreDrawn(page) {
         const owners = printed(CAPDIAG, ["run", "--owners"], before).split("\n").filter((it) => it.startsWith("object "));
         const wanted = owners.map((it) => it.split(" ")).map(([, number, made, , , state, held]) => [number, made, state, held]);
         const got = shown.rows.map((it) => [
-            it.match(/^object (\d+)/)[1], it.match(/handed out by line (\d+)/)[1], it.includes("bytes live") ? "live" : "freed",
+            it.match(/^object (\d+)/)[1], it.match(/allocated by line (\d+)/)[1], it.includes("bytes live") ? "live" : "freed",
             it.match(/; (no|\d+) places? holds? it/)[1].replace("no", "0"),
         ]);
         same(got.sort(), wanted.sort(), `objects before line ${line}`);
@@ -163,7 +163,7 @@ async function revokerIsDrawn(page) {
     const log = execFileSync(made, ["skips"]).toString();
     await page.run((it) => dropped(bytesOf8(it), "skips.log"), log);
     const at = await page.run(drawn, 0);
-    check(at.rows[0].startsWith("object 17 0x100180 up to 0x1001c0, 64 bytes freed, still held; 1 place holds it, first scr3; handed out by line 115"),
+    check(at.rows[0].startsWith("object 17 0x100180 up to 0x1001c0, 64 bytes freed, still held; 1 place holds it, first scr3; allocated by line 115"),
         at.rows[0]);
     check(at.bars[2] === 1 && at.bars[1] >= 1, `extents: ${at.bars}`);
     check(at.held.some((it) => it.startsWith("scr3") && it.includes("owned by object 17")), "scr3's owner");
