@@ -48,6 +48,7 @@ async function openLog(blob, name) {
     const plain = /^[\n -~]+$/.test(text) ? text : null;
     byId("text").value = plain ?? "";
     byId("line").value = "";
+    byId("given-text").open = false;
     Object.assign(chosen, { packed: "", marks: "" });
     judgeLog(blob, name, plain);
     if (view === "log") changed();
@@ -61,7 +62,7 @@ function judgeLog(blob, name, text, packed = "") {
     log.beside = new Beside(blob, toldOfLog, asksChosen());
     tellWork("Reading", 0);
     tellWay("");
-    byId("log").querySelector(".results").hidden = true;
+    showResults(false);
 }
 
 /** Opens the log that this file has in it, unless a link has another, at its picture. */
@@ -78,13 +79,18 @@ async function openGiven() {
 async function openPacked(packed) {
     log.beside?.end();
     Object.assign(log, closed, { packed });
-    byId("log").querySelector(".results").hidden = true;
+    byId("given-text").open = false;
+    showResults(false);
     try {
         const blob = await unpackedLog(packed);
         if (log.packed === packed) judgeLog(blob, "", null, packed);
     } catch (problem) {
         byId("said").textContent = `The link's log can't be unpacked: ${problem.message.replace(/\.$/, "")}. Was the link cut?`;
     }
+}
+
+function showResults(isShown) {
+    for (const results of byId("log").querySelectorAll(".results")) results.hidden = !isShown;
 }
 
 function tellWork(what, read) {
@@ -119,13 +125,15 @@ function showLog() {
     if (typed !== (log.text ?? "")) {
         if (typed !== "") {
             chosen.packed = "";
+            byId("given-text").open = document.activeElement === byId("text");
             return judgeLog(new Blob([typed]), "", typed);
         }
         log.beside?.end();
         Object.assign(log, closed);
+        byId("given-text").open = true;
     }
     if (chosen.packed !== "" && chosen.packed !== log.packed) return void openPacked(chosen.packed);
-    byId("log").querySelector(".results").hidden = log.judged === null;
+    showResults(log.judged !== null);
     showAsks();
     if (log.judged === null) return;
     if (log.judged.isRun && log.asks !== asksText()) {
