@@ -35,7 +35,7 @@ class Beside {
 // of it.
 const closed = {
     beside: null, name: "", blob: null, text: null, size: 0, packed: "", judged: null, report: null, faulty: "", origins: null,
-    made: null, line: 0, at: null, granule: null, wrote: null, evened: null, objects: null, timeline: null, asks: "", shown: "", isAnew: false, isGiven: false, isPictured: false,
+    made: null, line: 0, at: null, granule: null, wrote: null, evened: null, objects: null, timeline: null, others: null, asks: "", shown: "", isAnew: false, isGiven: false, isPictured: false,
 };
 const log = { ...closed, wait: 0 };
 
@@ -59,7 +59,7 @@ function judgeLog(blob, name, text, packed = "") {
     log.beside?.end();
     byId("find-shortest").removeAttribute("aria-disabled");
     Object.assign(log, closed, { name, blob, text, packed, size: blob.size, asks: asksText() });
-    log.beside = new Beside(blob, toldOfLog, asksChosen());
+    log.beside = new Beside(blob, toldOfLog, asksOf(chosen));
     tellWork("Reading", 0);
     tellWay("");
     showResults(false);
@@ -115,6 +115,7 @@ function toldOfLog(told) {
     const asked = log.isAnew && log.judged.line && typed > log.judged.line ? 0 : typed;
     const last = Math.max(log.judged.count, log.judged.line);
     stepTo(asked || log.judged.line || log.judged.count, asked > last ? `There is no line ${decimal(asked)}: this is the last.` : "");
+    askOthers();
     offerPicture();
     if (FORMLESS.includes(log.judged.refusal)) askEvened();
 }
@@ -172,6 +173,7 @@ function showVerdict() {
     byId("log").querySelector(".gloss").hidden = state !== 2 || FORMLESS.includes(refusal);
     byId("origins").hidden = state !== 1 || isOther;
     byId("before").hidden = Boolean(isHeap);
+    showOthers();
     showPicture();
     showEvened();
     showWrote();

@@ -25,11 +25,6 @@ class Timeline {
         return { base: field(fields.base), top: field([top + high[0]]) << 64n | field([top + low[0]]), held: Number(field(fields.held)) };
     }
 
-    owner(name) {
-        const { kind, number } = placeNamed(name);
-        return this.judge.call("owner", this.judge.stepped, number, BigInt(kind)) >>> 0;
-    }
-
     /** A line allocated an object, or widened the extent of one. */
     allocate(line, number) {
         const it = this.told(number || this.objects.length + 1);
@@ -76,7 +71,7 @@ class Timeline {
             return this.allocate(line, Number(second ?? 0));
         }
         lines.before(line);
-        const number = first.startsWith("c") ? this.owner(first) : Number(first);
+        const number = first.startsWith("c") ? this.judge.owner(first) : Number(first);
         lines.before(line + 1);
         this.free(line, number);
     }
@@ -107,8 +102,8 @@ class Timeline {
         const number = said.state === 2 ? Number(said.text.match(/^object (\d+) /m)?.[1] ?? 0) : 0;
         if (!number) return [];
         const registers = ["c", "scr"].flatMap((kind) => [...Array(32).keys()].map((at) => `${kind}${at}`)).slice(1);
-        const found = registers.filter((name) => this.owner(name) === number);
-        const first = nameOf(this.judge.asked("place", "holder", this.judge.stepped, number));
+        const found = registers.filter((name) => this.judge.owner(name) === number);
+        const first = this.judge.holder(number);
         return first && !found.includes(first) ? [...found, first] : found;
     }
 }
