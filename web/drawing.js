@@ -199,8 +199,8 @@ function requestDrawing({ base, length, rounded, lost }, width) {
     const nodes = [
         words(x(rounded.base), 14, "requested", "note", "start"), bar(x(base), x(base + length), 20, 28, "asked"),
         words(x(rounded.base), 66, "rounded", "note", "start"), bar(x(rounded.base), x(rounded.top), 72, 28, "bounds"),
-        ...(lost.below ? [bar(x(rounded.base), x(base), 72, 28, "excess")] : []),
-        ...(lost.above ? [bar(x(base + length), x(rounded.top), 72, 28, "excess")] : []),
+        ...(lost.below ? [bar(x(rounded.base), x(base), 72, 28, "padding")] : []),
+        ...(lost.above ? [bar(x(base + length), x(rounded.top), 72, 28, "padding")] : []),
         line(0, low, width, low, "axis"),
     ];
     const points = [

@@ -107,6 +107,7 @@ export async function runsHaveOptions(page) {
     check(new Set(found[0]).size > 1, `options differ: ${found[0]}`);
     const parts = new URLSearchParams(found[1].slice(1));
     same([parts.get("freed"), parts.get("owned"), parts.get("text")], ["both", "1", log], "the link has the options");
+    await othersAreAsked(page, log);
     await page.go(address + found[1]);
     await page.run(tools);
     await page.run(settled);
@@ -114,6 +115,36 @@ export async function runsHaveOptions(page) {
         await globalThis.settled();
         return [byId("freed").value, byId("owned").checked, log.judged.text.split("\n")[0]];
     }), ["both", true, printed(CAPDIAG, ["run", "--freed", "both", "--owned"], log).trim()], "the link restores them");
+}
+
+/** What the log is by the questions that aren't asked, beside what the program says by them; a button asks one. */
+async function othersAreAsked(page, log) {
+    const asked = async (freed, owned) => {
+        await page.go(address + hash({ show: "log", text: log, line: "", freed, owned }));
+        await page.run(tools);
+        await page.run(settled);
+        return page.run(async () => {
+            await globalThis.settled();
+            for (let k = 0; k < 500 && log.others === null; k++) await new Promise((done) => setTimeout(done, 10));
+            return visible(byId("asked")) ? seen("asked").replace(/ ?Ask this/g, "").trim() : "";
+        });
+    };
+    const under = (...words) => {
+        const [state, line, number, refusal] = printed(CAPDIAG, ["run", ...words], log).trim().split(" ");
+        return state === "yes" ? "" : `: line ${line}, ${number} ${refusal}`;
+    };
+    const used = under("--freed", "used");
+    check(used !== "" && under() === "" && under("--owned") === "", "the log is refused by the use of a freed object alone");
+    same(await asked("", ""), `Refused under --freed used${used}. Accepted under --owned.`, "the questions that aren't asked");
+    same(await asked("used", ""), "Accepted under --freed held.", "a refusal that is shown isn't said again");
+    same(await asked("both", "1"), "", "all is asked");
+    await asked("", "");
+    same(await page.run(async () => {
+        byId("asked").querySelector("button").click();
+        await new Promise((done) => setTimeout(done, 30));
+        await globalThis.settled();
+        return [byId("freed").value, log.line, log.judged.text.split("\n")[0]];
+    }), ["used", Number(used.match(/line (\d+)/)[1]), printed(CAPDIAG, ["run", "--freed", "used"], log).trim()], "the button asks it and leads to its line");
 }
 
 /** Waits until the objects of the line are shown. */
@@ -153,6 +184,34 @@ export async function objectsAreDrawn(page) {
         same(shown.bars[0] + shown.bars[1], wanted.length, `extents before line ${line}`);
     }
     await revokerIsDrawn(page);
+    await nearestAreDrawn(page);
+}
+
+/** A run log that allocates objects one above the other. */
+const logOfObjects = (count) => {
+    const root = { word: read("007d1ffffc0000020000000000100000"), tag: 1 };
+    const lines = ["run 1", "mode strict", `root c1 ${c.textOf(root.word)}`];
+    for (let k = 0; k < count; k++) {
+        const at = c.setAddrClear(root, BigInt(0x100000 + 4 * k));
+        const made = c.setBoundsClear(at, 4n, false);
+        lines.push(`setaddr c2 c1 ${hex(0x100000 + 4 * k, 16)} = 1 ${c.textOf(at.word)}`, `setbounds c3 c2 ${hex(4, 16)} = 1 ${c.textOf(made.word)}`);
+        lines.push("derive c2 c0 = 0 00001ffffc0180040000000000000000", "object c3");
+    }
+    return [...lines, `end ${4 * count}`, ""].join("\n");
+};
+
+/** Of many objects those are drawn and listed that lie around the line's. */
+async function nearestAreDrawn(page) {
+    const log = await page.run(logOfObjects, 3000);
+    check(printed(CAPDIAG, ["run"], log).startsWith("yes"), `a log of many objects: ${printed(CAPDIAG, ["run", "--why"], log).slice(0, 300)}`);
+    await page.run((it) => dropped(bytesOf8(it), "many.log"), log);
+    for (const number of [2, 1500, 2900]) {
+        const at = await page.run(drawn, 4 * number + 3);
+        const listed = at.rows.map((it) => Number(it.match(/^object (\d+)/)[1]));
+        check(listed.includes(number - 1) && listed.every((it) => number - it <= 100 && it < number), `objects listed before that which allocates object ${number}: ${listed}`);
+        const [first] = at.label.match(/\d+/);
+        check(number - Number(first) <= 1000 && at.says.startsWith(number > 1000 ? "Of the nearest 1,000: " : "1 object live"), `${at.says} ${first}`);
+    }
 }
 
 /** The log of the example revoker that misses a place. */
