@@ -289,17 +289,19 @@ function reportShown(report) {
     return shown;
 }
 
-/** The kind of bar for a capability: what a refused `object` line asks for is red, and who holds a freed object has that one's colour. */
+/** The kind of bar for a capability: what a refused `object` line asks for is red, and what goes by a freed object has
+ * that one's colour: who holds it, an authority of it, and a register that would free it again. */
 function kindOfCap(name, { bounds, tag }, { spans: { extent }, object }) {
     if (tag !== "1") return "untagged";
     if (name === "register" && extent && bounds[0] === extent.base && bounds[1] === extent.top) return "refused-extent";
-    return name === "holder" && object && !object.isLive ? "freed" : "bounds";
+    const isOfObject = name === "holder" || name === "authority" || (name === "register" && !extent);
+    return isOfObject && object && !object.isLive ? "freed" : "bounds";
 }
 
 /** The ranges of a report, in order, with what goes beyond the source's or the authority's bounds. */
 function barsOf(report, isLoad) {
     const { caps, spans, object } = report;
-    const kindOfSpan = (name) => (name === "extent" ? "refused-extent" : /^(representable|live)/.test(name) ? "range" : "asked");
+    const kindOfSpan = (name) => (name === "extent" || (name === "access" && object) ? "refused-extent" : /^(representable|live)/.test(name) ? "range" : "asked");
     const bars = [
         ...Object.entries(caps).filter(([, cap]) => !isData(cap, isLoad)).map(([name, cap]) =>
             ({ name, base: cap.bounds[0], top: cap.bounds[1], kind: kindOfCap(name, cap, report) })),

@@ -53,6 +53,7 @@ function showOthers() {
 
 function refusedUnder({ option, freed, owned, verdict }) {
     const [, line, number, refusal] = verdict.split(" ");
+    if (refusal === "Truncated") return ["No line is refused under ", make("code", {}, option), ": the log only lacks its end line. "];
     const button = make("button", { type: "button", class: "small" }, "Ask this");
     button.addEventListener("click", () => {
         Object.assign(chosen, { freed, owned });
@@ -65,9 +66,10 @@ function refusedUnder({ option, freed, owned, verdict }) {
 const stateOf = ({ isLive, held }) => (isLive ? "live" : held ? "freed, still held" : "freed");
 const atFault = () => log.line === log.judged.line;
 
-/** An object's extent, and who holds it and when it was allocated. */
+/** An object's extent, and who holds it and which lines allocated and freed it: the latter is in a report, and in the picture. */
 function objectSaid(it) {
-    const { base, top, line, freed, held, holder } = it;
+    const { base, top, line, held, holder } = it;
+    const freed = it.freed ?? (it.isLive ? 0 : log.timeline?.objects[it.number - 1]?.freed);
     const extent = `${span({ base, top })}, ${counted(top - base, "byte")}`;
     if (log.judged.isHeap) return [extent, make("span", {}, "allocated by ", lineButton(line, undefined, `object ${it.number}`))];
     const holders = held === 0 ? "no place holds it" : `${counted(held, "place")} ${held === 1 ? "holds" : "hold"} it${holder ? `, first ${holder}` : ""}`;

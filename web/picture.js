@@ -18,6 +18,7 @@ async function askPicture() {
     if (log.beside !== beside || !log.judged) return;
     log.timeline = timeline;
     showPicture();
+    showObjects();
     if (log.isGiven) byId("picture").scrollIntoView();
     log.isGiven = false;
 }
