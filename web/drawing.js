@@ -199,8 +199,8 @@ function requestDrawing({ base, length, rounded, lost }, width) {
     const nodes = [
         words(x(rounded.base), 14, "requested", "note", "start"), bar(x(base), x(base + length), 20, 28, "asked"),
         words(x(rounded.base), 66, "rounded", "note", "start"), bar(x(rounded.base), x(rounded.top), 72, 28, "bounds"),
-        ...(lost.below ? [bar(x(rounded.base), x(base), 72, 28, "excess")] : []),
-        ...(lost.above ? [bar(x(base + length), x(rounded.top), 72, 28, "excess")] : []),
+        ...(lost.below ? [bar(x(rounded.base), x(base), 72, 28, "padding")] : []),
+        ...(lost.above ? [bar(x(base + length), x(rounded.top), 72, 28, "padding")] : []),
         line(0, low, width, low, "axis"),
     ];
     const points = [
@@ -251,16 +251,20 @@ function hatched(left, right, y, height) {
     return shape("path", { d: path, class: "hatch" });
 }
 
+const NEAR_ENDS = 16n; // an end is near ranges if it is at most so many times their size away
+const extremes = (all) => all.reduce(([least, most], at) => [at < least ? at : least, at > most ? at : most], [all[0], all[0]]);
+
 /** Ranges one below the other on one axis, each below its names; equal ones are drawn once. What goes beyond others is
- * red, what has no tag or was freed hatched. Where some are far smaller than others, the axis is for those, and an arrow says that a
- * range goes on. */
+ * red, what has no tag or was freed hatched. Where some are far smaller than others, the axis is for those and for the
+ * ends near them, and an arrow says that a range goes on. */
 function axisDrawing(bars, width) {
     const rows = alike(bars);
     const sizes = rows.map(({ base, top }) => top - base).filter((size) => size > 0n);
     const least = sizes.reduce((one, other) => (other < one ? other : one), sizes[0] ?? 1n);
     const near = rows.filter(({ base, top }) => top - base <= least << 12n);
-    const from = near.reduce((least, { base }) => (base < least ? base : least), near[0].base);
-    const end = near.reduce((greatest, { top }) => (top > greatest ? top : greatest), near[0].top);
+    const all = rows.flatMap(({ base, top }) => [base, top]);
+    const [low, high] = extremes(near.flatMap(({ base, top }) => [base, top]));
+    const [from, end] = extremes(all.filter((at) => at >= low - NEAR_ENDS * (high - low) && at <= high + NEAR_ENDS * (high - low)));
     const room = (end - from) / 8n + 1n;
     const axis = scaled(from - room, end - from + 2n * room, 12, width - 12);
     let y = 0;
@@ -269,8 +273,8 @@ function axisDrawing(bars, width) {
         y += height;
         return nodes;
     });
-    const ends = rows.flatMap(({ base, top }) => [base, top]).filter((at) => axis.x(at) >= axis.left && axis.x(at) <= axis.right);
-    const points = [...new Set(ends)].map((at) => ({ x: axis.x(at), number: hex(at), note: "" }));
+    const seen = all.filter((at) => axis.x(at) >= axis.left && axis.x(at) <= axis.right);
+    const points = [...new Set(seen)].map((at) => ({ x: axis.x(at), number: hex(at), note: "" }));
     const below = labels(points, width, y + 8);
     const guides = points.map(({ x }) => line(x, 4, x, y, "leader"));
     return canvas(width, y + 12 + below.height, ...guides, ...nodes, line(axis.left, y, axis.right, y, "axis"), ...below.nodes);

@@ -55,7 +55,7 @@ class HeapLines extends Lines {
         }
     }
 
-    /** The objects that are live before a line, those that lie nearest to the address that the line names. */
+    /** The objects that are live before a line, those that lie nearest to the address that the line names first. */
     objects(line) {
         this.before(line);
         const here = line > this.count ? null : addressIn(this.text(line).split(" ")[1]);
@@ -64,8 +64,8 @@ class HeapLines extends Lines {
         const far = least[MOST_NEAR] ?? Infinity;
         const objects = [...this.live].filter(([address]) => apart.get(address) < far).map(([address, { number, line: at, length }]) => {
             const base = BigInt(`0x${address}`);
-            return { number, line: at, base, top: base + BigInt(`0x${length}`), isLive: true };
+            return { number, line: at, base, top: base + BigInt(`0x${length}`), isLive: true, apart: apart.get(address) };
         });
-        return { line, here, isAll: least.length <= MOST_NEAR, objects: objects.sort((one, other) => one.number - other.number) };
+        return { line, here, isAll: least.length <= MOST_NEAR, objects: objects.sort((one, other) => one.apart - other.apart) };
     }
 }

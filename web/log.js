@@ -35,7 +35,7 @@ class Beside {
 // of it.
 const closed = {
     beside: null, name: "", blob: null, text: null, size: 0, packed: "", judged: null, report: null, faulty: "", origins: null,
-    made: null, line: 0, at: null, granule: null, wrote: null, evened: null, objects: null, timeline: null, asks: "", shown: "", isAnew: false, isGiven: false, isPictured: false,
+    made: null, line: 0, at: null, granule: null, wrote: null, evened: null, objects: null, timeline: null, others: null, asks: "", shown: "", isAnew: false, isGiven: false, isPictured: false,
 };
 const log = { ...closed, wait: 0 };
 
@@ -48,6 +48,7 @@ async function openLog(blob, name) {
     const plain = /^[\n -~]+$/.test(text) ? text : null;
     byId("text").value = plain ?? "";
     byId("line").value = "";
+    byId("given-text").open = false;
     Object.assign(chosen, { packed: "", marks: "" });
     judgeLog(blob, name, plain);
     if (view === "log") changed();
@@ -58,10 +59,10 @@ function judgeLog(blob, name, text, packed = "") {
     log.beside?.end();
     byId("find-shortest").removeAttribute("aria-disabled");
     Object.assign(log, closed, { name, blob, text, packed, size: blob.size, asks: asksText() });
-    log.beside = new Beside(blob, toldOfLog, asksChosen());
+    log.beside = new Beside(blob, toldOfLog, asksOf(chosen));
     tellWork("Reading", 0);
     tellWay("");
-    byId("log").querySelector(".results").hidden = true;
+    showResults(false);
 }
 
 /** Opens the log that this file has in it, unless a link has another, at its picture. */
@@ -78,13 +79,18 @@ async function openGiven() {
 async function openPacked(packed) {
     log.beside?.end();
     Object.assign(log, closed, { packed });
-    byId("log").querySelector(".results").hidden = true;
+    byId("given-text").open = false;
+    showResults(false);
     try {
         const blob = await unpackedLog(packed);
         if (log.packed === packed) judgeLog(blob, "", null, packed);
     } catch (problem) {
         byId("said").textContent = `The link's log can't be unpacked: ${problem.message.replace(/\.$/, "")}. Was the link cut?`;
     }
+}
+
+function showResults(isShown) {
+    for (const results of byId("log").querySelectorAll(".results")) results.hidden = !isShown;
 }
 
 function tellWork(what, read) {
@@ -109,6 +115,7 @@ function toldOfLog(told) {
     const asked = log.isAnew && log.judged.line && typed > log.judged.line ? 0 : typed;
     const last = Math.max(log.judged.count, log.judged.line);
     stepTo(asked || log.judged.line || log.judged.count, asked > last ? `There is no line ${decimal(asked)}: this is the last.` : "");
+    askOthers();
     offerPicture();
     if (FORMLESS.includes(log.judged.refusal)) askEvened();
 }
@@ -119,13 +126,15 @@ function showLog() {
     if (typed !== (log.text ?? "")) {
         if (typed !== "") {
             chosen.packed = "";
+            byId("given-text").open = document.activeElement === byId("text");
             return judgeLog(new Blob([typed]), "", typed);
         }
         log.beside?.end();
         Object.assign(log, closed);
+        byId("given-text").open = true;
     }
     if (chosen.packed !== "" && chosen.packed !== log.packed) return void openPacked(chosen.packed);
-    byId("log").querySelector(".results").hidden = log.judged === null;
+    showResults(log.judged !== null);
     showAsks();
     if (log.judged === null) return;
     if (log.judged.isRun && log.asks !== asksText()) {
@@ -164,6 +173,7 @@ function showVerdict() {
     byId("log").querySelector(".gloss").hidden = state !== 2 || FORMLESS.includes(refusal);
     byId("origins").hidden = state !== 1 || isOther;
     byId("before").hidden = Boolean(isHeap);
+    showOthers();
     showPicture();
     showEvened();
     showWrote();
@@ -176,8 +186,8 @@ function verdictSaid() {
     const { state, line, refusal, steps, roots } = log.judged;
     const { isRun, isHeap, objects } = log.judged;
     const heapSays = isHeap ? heapVerdict(log.judged) : null;
-    const handedOut = isRun ? `, with ${counted(objects, "object")} handed out` : "";
-    if (state === 1) return heapSays ?? ["Yes: a run of the machine.", `${counted(steps, "step")} from ${counted(roots, "root")}${handedOut}.`];
+    const allocated = isRun ? `, with ${counted(objects, "object")} allocated` : "";
+    if (state === 1) return heapSays ?? ["Yes: a run of the machine.", `${counted(steps, "step")} from ${counted(roots, "root")}${allocated}.`];
     if (state !== 2) return ["No verdict.", "There wasn't memory enough."];
     return [`No: line ${decimal(line)} is refused: ${refusal} ${log.report.refusal}.`, faultSentence(log.report, log.faulty)];
 }
@@ -279,17 +289,19 @@ function reportShown(report) {
     return shown;
 }
 
-/** The kind of bar for a capability: what a refused `object` line asks for is red, and so is who holds a freed object. */
+/** The kind of bar for a capability: what a refused `object` line asks for is red, and what goes by a freed object has
+ * that one's colour: who holds it, an authority of it, and a register that would free it again. */
 function kindOfCap(name, { bounds, tag }, { spans: { extent }, object }) {
     if (tag !== "1") return "untagged";
     if (name === "register" && extent && bounds[0] === extent.base && bounds[1] === extent.top) return "refused-extent";
-    return name === "holder" && object && !object.isLive ? "freed" : "bounds";
+    const isOfObject = name === "holder" || name === "authority" || (name === "register" && !extent);
+    return isOfObject && object && !object.isLive ? "freed" : "bounds";
 }
 
 /** The ranges of a report, in order, with what goes beyond the source's or the authority's bounds. */
 function barsOf(report, isLoad) {
     const { caps, spans, object } = report;
-    const kindOfSpan = (name) => (name === "extent" ? "refused-extent" : /^(representable|live)/.test(name) ? "range" : "asked");
+    const kindOfSpan = (name) => (name === "extent" || (name === "access" && object) ? "refused-extent" : /^(representable|live)/.test(name) ? "range" : "asked");
     const bars = [
         ...Object.entries(caps).filter(([, cap]) => !isData(cap, isLoad)).map(([name, cap]) =>
             ({ name, base: cap.bounds[0], top: cap.bounds[1], kind: kindOfCap(name, cap, report) })),

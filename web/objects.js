@@ -5,7 +5,7 @@ const LISTED = 100; // objects in the list
 const DRAWN_GAP = 8n; // a gap of so many times what is drawn parts objects that are drawn from others
 
 const asksText = () => `${chosen.freed} ${chosen.owned}`;
-const asksChosen = () => ({ held: chosen.freed !== "used", used: chosen.freed !== "", owned: chosen.owned === "1" });
+const asksOf = ({ freed, owned }) => ({ held: freed !== "used", used: freed !== "", owned: owned === "1" });
 
 function showAsks() {
     byId("asks").hidden = !log.judged?.isRun;
@@ -18,18 +18,64 @@ function listenToAsks() {
     byId("owned").addEventListener("input", () => { chosen.owned = byId("owned").checked ? "1" : ""; changed(); });
 }
 
+/** The choices that ask what the chosen ones don't. */
+function otherChoices() {
+    const { freed, owned } = chosen;
+    const other = freed === "used" ? { option: "--freed held", freed: "", owned } : { option: "--freed used", freed: "used", owned };
+    return [...(freed === "both" ? [] : [other]), ...(owned ? [] : [{ option: "--owned", freed, owned: "1" }])];
+}
+
+/** The other choices cost a judging of the log each: for a long log they are asked for by a button. */
+async function askOthers(isWanted = log.judged.count <= PICTURED) {
+    if (!log.judged.isRun) return;
+    const { beside } = log;
+    const choices = otherChoices();
+    const found = isWanted && choices.length ? await beside.ask({ ask: "under", asks: choices.map(asksOf) }) : [];
+    if (log.beside !== beside || !log.judged) return;
+    log.others = choices.map((it, k) => ({ ...it, verdict: found[k] ?? null }));
+    showOthers();
+}
+
+/** What the log is under the other choices. A refusal that is shown already isn't said again. */
+function showOthers() {
+    const others = (log.others ?? []).filter(({ verdict }) => verdict !== log.judged.text.split("\n")[0] || log.judged.state === 1);
+    const accepted = others.filter(({ verdict }) => verdict?.startsWith("yes")).map(({ option }) => make("code", {}, option));
+    const refused = others.filter(({ verdict }) => verdict?.startsWith("no "));
+    const parts = [...refused.flatMap(refusedUnder), ...(accepted.length ? ["Accepted under ", ...accepted.flatMap((it, k) => [...(k ? [" and "] : []), it]), "."] : [])];
+    if (others.some(({ verdict }) => verdict === null)) {
+        const button = make("button", { type: "button", class: "small" }, "Ask the other questions too");
+        button.addEventListener("click", () => askOthers(true));
+        parts.push(button);
+    }
+    byId("asked").hidden = parts.length === 0;
+    byId("asked").replaceChildren(...parts);
+}
+
+function refusedUnder({ option, freed, owned, verdict }) {
+    const [, line, number, refusal] = verdict.split(" ");
+    if (refusal === "Truncated") return ["No line is refused under ", make("code", {}, option), ": the log only lacks its end line. "];
+    const button = make("button", { type: "button", class: "small" }, "Ask this");
+    button.addEventListener("click", () => {
+        Object.assign(chosen, { freed, owned });
+        byId("line").value = "";
+        changed();
+    });
+    return ["Refused under ", make("code", {}, option), `: line ${decimal(line)}, ${number} ${refusal}. `, button, " "];
+}
+
 const stateOf = ({ isLive, held }) => (isLive ? "live" : held ? "freed, still held" : "freed");
 const atFault = () => log.line === log.judged.line;
 
-/** An object's extent, and who holds it and when it was handed out. */
+/** An object's extent, and who holds it and which lines allocated and freed it: the latter is in a report, and in the picture. */
 function objectSaid(it) {
-    const { base, top, line, freed, held, holder } = it;
+    const { base, top, line, held, holder } = it;
+    const freed = it.freed ?? (it.isLive ? 0 : log.timeline?.objects[it.number - 1]?.freed);
     const extent = `${span({ base, top })}, ${counted(top - base, "byte")}`;
     if (log.judged.isHeap) return [extent, make("span", {}, "allocated by ", lineButton(line, undefined, `object ${it.number}`))];
     const holders = held === 0 ? "no place holds it" : `${counted(held, "place")} ${held === 1 ? "holds" : "hold"} it${holder ? `, first ${holder}` : ""}`;
     return [
         extent,
-        make("span", {}, `${stateOf(it)}; ${holders}; handed out by `, lineButton(line, undefined, `object ${it.number}`),
+        make("span", {}, `${stateOf(it)}; ${holders}; allocated by `, lineButton(line, undefined, `object ${it.number}`),
             ...(freed ? [", freed by ", lineButton(freed, undefined, `freed ${it.number}`)] : [])),
     ];
 }
@@ -39,8 +85,7 @@ async function askObjects(line, passed) {
     if (passed() || !log.judged.isRun && !log.judged.isHeap) return;
     const { beside } = log;
     const about = log.judged.isRun && log.judged.state === 2 ? reportOf(log.judged.text).object : null;
-    const numbers = about ? [about.number] : [];
-    const objects = await beside.ask({ ask: "objects", line, numbers });
+    const objects = await beside.ask({ ask: "objects", line, met: about?.number ?? 0, listed: LISTED });
     if (passed()) return;
     log.objects = objects;
     showStep();
@@ -54,24 +99,24 @@ function showObjects() {
     const asked = atFault() ? log.report?.spans[isHeap ? "rounded" : "extent"] : null;
     const about = objects.find(({ number }) => atFault() && number === log.report?.object?.number) ?? null;
     const count = (wanted) => counted(objects.filter(wanted).length, "object");
-    const some = isAll ? "" : `Of the ${isHeap ? "nearest" : "first"} ${decimal(objects.length)}: `;
+    const some = isAll ? "" : `Of the nearest ${decimal(objects.length)}: `;
     const none = isHeap ? "No object is live." : "No object is live, and none that was freed is held.";
     const freed = isHeap ? "." : `; ${count(({ isLive }) => !isLive)} freed that some place still holds.`;
     byId("objects-say").textContent = objects.length === 0 ? none : `${some}${count(({ isLive }) => isLive)} live${freed}`;
-    const near = nearObjects(objects, about ?? asked ?? (here ? { base: here } : objects.at(-1)));
+    const near = nearObjects(objects, about ?? asked ?? (here === null ? objects[0] : { base: here }));
     byId("extents").hidden = objects.length === 0;
     const asks = isHeap ? "the bounds of the refused request" : "what the refused line asks for";
     byId("extents").replaceChildren(...(objects.length ? [extentsDrawing(near, about, asked, asks, widthOf("objects"))] : []));
     const away = objects.length - near.length;
     if (away) byId("objects-say").append(` ${counted(away, "object")} ${away === 1 ? "lies" : "lie"} far from those that are drawn.`);
     byId("extents").setAttribute("aria-label", near.slice(0, LISTED).map((it) => `object ${it.number} ${span(it)}, ${stateOf(it)}`).join("; "));
-    const first = [...objects].sort((one, other) => (other === about) - (one === about)).slice(0, LISTED);
-    byId("object-rows").tBodies[0].replaceChildren(...first.map((it) => {
+    const nearest = objects.slice(0, LISTED).sort((one, other) => (other === about) - (one === about) || one.number - other.number);
+    byId("object-rows").tBodies[0].replaceChildren(...nearest.map((it) => {
         const made = row([`object ${it.number}`, ...objectSaid(it)]);
         if (it === about) made.className = "read";
         return made;
     }));
-    if (objects.length > LISTED) byId("objects-say").append(` The list has the first ${LISTED}.`);
+    if (objects.length > LISTED) byId("objects-say").append(` The list has the nearest ${LISTED}.`);
 }
 
 /** The objects that lie near one: no gap between them is far greater than what they take. */
@@ -98,21 +143,21 @@ function extentsDrawing(objects, about, asked, asks, width) {
     const axis = scaled(from - room, end - from + 2n * room, 12, width - 12);
     const rows = [
         ["live", "bounds", objects.filter(({ isLive }) => isLive)],
-        ["freed, still held", "outside", objects.filter(({ isLive }) => !isLive)],
+        ["freed, still held", "freed", objects.filter(({ isLive }) => !isLive)],
         [asks, "refused-extent", asked ? [asked] : []],
     ].filter(([, , extents]) => extents.length);
     const nodes = rows.flatMap(([title, kind, extents], row) => [
         words(0, row * 44 + 13, title, "note", "start"),
         ...extents.flatMap(({ base, top }) => {
             const [left, right] = [axis.cut(base), axis.cut(top)];
-            return [bar(left, right, row * 44 + 18, 18, kind), ...(kind === "outside" ? [hatched(left, right, row * 44 + 18, 18)] : [])];
+            return [bar(left, right, row * 44 + 18, 18, kind), ...(kind === "freed" ? [hatched(left, right, row * 44 + 18, 18)] : [])];
         }),
     ]);
     const y = rows.length * 44;
     const named = about ? [about] : objects.length <= 6 ? objects : [];
     const points = [
-        ...named.map(({ number, base }) => ({ x: axis.cut(base), number: `object ${number}`, note: `from ${hex(base)}` })),
-        ...(named.length < 2 ? [from, end].map((at) => ({ x: axis.x(at), number: hex(at), note: at === from ? "least base" : "greatest top" })) : []),
+        ...named.map(({ number, base }) => ({ x: axis.cut(base), number: hex(base), note: `object ${number}` })),
+        ...[from, end].map((at) => ({ x: axis.x(at), number: hex(at), note: at === from ? "least base" : "greatest top" })),
     ];
     const below = labels(points, width, y + 8);
     return canvas(width, y + 12 + below.height, ...nodes, line(axis.left, y, axis.right, y, "axis"), ...below.nodes);

@@ -1,5 +1,5 @@
 "use strict";
-// The picture of a run log: time along, addresses up, an object's bar from the line that hands it out to the one that frees it, and
+// The picture of a run log: time along, addresses up, an object's bar from the line that allocates it to the one that frees it, and
 // hatched from there on as long as some place holds it. Below it curves, by the same lines.
 
 const PICTURED = 100000; // lines of a log whose picture is drawn without being asked for
@@ -18,6 +18,7 @@ async function askPicture() {
     if (log.beside !== beside || !log.judged) return;
     log.timeline = timeline;
     showPicture();
+    showObjects();
     if (log.isGiven) byId("picture").scrollIntoView();
     log.isGiven = false;
 }
@@ -142,7 +143,7 @@ function pictureDrawing({ objects, samples, last }, asked, width) {
         live.add(x(line), x(freed || end), low, high);
         if (freed && gone !== freed) held.add(x(freed), x(gone || end), low, high);
     }
-    const nodes = [hatching(), live.drawn("bounds"), held.drawn("outside"), held.drawn("hatching", { fill: "url(#hatching)" })];
+    const nodes = [hatching(), live.drawn("bounds"), held.drawn("freed"), held.drawn("hatching", { fill: "url(#hatching)" })];
     for (const { low, high, from, to } of scale.ranges) {
         nodes.push(line(left, low, right, low, "leader"), words(left - 4, low - 1, ox(from), "number", "end"));
         if (low - high > 40) nodes.push(words(left - 4, high + 11, ox(to), "number", "end"));

@@ -31,7 +31,7 @@ const SPANS = {
 };
 const ORDER = [...CAPABILITIES.slice(0, -2), ...Object.keys(SPANS), "object", "gives", "recorded"];
 const COUNTS = {
-    objects: "handed out before it", roots: "accepted before it", steps: "accepted before it", granules: "named before it", length: "of the root, in bytes" };
+    objects: "allocated before it", roots: "accepted before it", steps: "accepted before it", granules: "named before it", length: "of the root, in bytes" };
 
 /** A report by the names of its lines. */
 function reportOf(text) {

@@ -3,7 +3,8 @@
 // the machine holds before a line. It has no rule of the machine: what it says is the module's.
 
 const PLACE_KINDS = { c: 1, "@": 2, scr: 3 };
-const MOST_OBJECTS = 1000; // as many are looked up
+const LOOKED_UP = 10000; // objects of which it is asked where they lie
+const MOST_OBJECTS = 1000; // as many of them are told
 
 /** Whether a log is a run log, or nearly one. */
 const isRun = (start) => /^(\xef\xbb\xbf)?run\s+\d/i.test(start);
@@ -76,6 +77,16 @@ class RunJudge {
         return { ...answer, line: Number(answer.line), text: latin.decode(this.bytes(this.text, length)), isRun: true };
     }
 
+    /** The verdict under other options, or nothing where memory doesn't suffice. */
+    under(asks) {
+        try {
+            return Object.assign(Object.create(RunJudge.prototype), this, { asks }).why().text.split("\n")[0];
+        } catch (problem) {
+            if (!(problem instanceof RangeError)) throw problem;
+            return "";
+        }
+    }
+
     /** Has the second judge take the lines before a byte, at which a line begins. */
     before(at) {
         if (this.taken === null || this.taken > at) {
@@ -91,18 +102,43 @@ class RunJudge {
         const { cap, present } = this.asked("optional_cap", "held", this.stepped, number, BigInt(kind));
         if (!present) return null;
         const digits = (half) => half.toString(16).padStart(16, "0");
-        const owner = this.call("owner", this.stepped, number, BigInt(kind)) >>> 0;
-        return { place: nameOf({ kind, number }), tag: cap.tag, word: digits(cap.word.high) + digits(cap.word.low), owner };
+        return { place: nameOf({ kind, number }), tag: cap.tag, word: digits(cap.word.high) + digits(cap.word.low), owner: this.owner(name) };
     }
 
-    object(number) {
-        const found = this.asked("object", "object", this.stepped, number);
-        if (!found.state) return null;
-        const holder = nameOf(this.asked("place", "holder", this.stepped, number));
-        return { number, ...found, held: Number(found.held), line: Number(found.line), isLive: found.state === 1, holder };
+    /** The number of the object that owns what a place holds, 0 for none. */
+    owner(name) {
+        const { kind, number } = placeNamed(name);
+        return this.call("owner", this.stepped, number, BigInt(kind)) >>> 0;
+    }
+
+    /** The objects that are live or held, from a number on, at most so many. */
+    objectsFrom(first, most) {
+        const found = [];
+        for (let number = first; found.length < most && (number = this.call("next_object", this.stepped, number) >>> 0); number++) {
+            found.push({ number, ...this.asked("object", "object", this.stepped, number) });
+        }
+        return found;
+    }
+
+    /** The greatest number of an object that is live or held. */
+    lastObject() {
+        let [last, above] = [0, 2 ** 31];
+        while (above - last > 1) {
+            const middle = Math.floor((last + above) / 2);
+            if (this.call("next_object", this.stepped, middle) >>> 0) last = middle;
+            else above = middle;
+        }
+        return last;
+    }
+
+    /** The first place that an object owns: it costs a look at all places. */
+    holder(number) {
+        return nameOf(this.asked("place", "holder", this.stepped, number));
     }
 }
 
+// The register that says where: of an access the authority, and that of an allocation or of a free.
+const FIRST_REGISTERS = /^(?:(?:lc|sc) \S+ (c\d{1,2})|(?:load|store|object|free) (c\d{1,2}))\b/;
 const NULL_WORD = "00001ffffc0180040000000000000000";
 
 /** A run log in a judge's memory, by its lines. */
@@ -119,30 +155,46 @@ class RunLines extends Lines {
             .filter(({ tag, word }) => tag || word !== NULL_WORD);
     }
 
-    /** What the granule holds before a line that the line names or reaches. */
-    granule(line) {
-        const parts = partsOf(this.text(line), RUN_FORMS);
-        this.before(line);
-        if (parts?.place?.startsWith("@")) return this.judge.held(parts.place);
-        if (!parts?.offset) return null;
-        const authority = this.judge.held(parts.authority);
-        if (!authority) return null;
-        const address = BigInt.asUintN(64, BigInt(`0x${authority.word.slice(16)}`) + BigInt(parts.offset));
-        return this.judge.held(`@${address.toString(16)}`);
+    /** The register by which a line accesses, allocates or frees; nothing where it names none. */
+    authority(line) {
+        const [name] = this.text(line).match(FIRST_REGISTERS)?.slice(1).filter((it) => it) ?? [];
+        return name ?? null;
     }
 
-    /** The objects before a line that are live or held, the first of them by number and those that are asked for. */
-    objects(line, numbers) {
+    /** The address that a line names or accesses, or at which it allocates or frees. */
+    address(line) {
+        const named = this.text(line).match(/^[a-z]+ @([0-9a-f]{1,16})\b/)?.[1];
+        if (named) return BigInt(`0x${named}`);
+        const held = this.authority(line) && this.judge.held(this.authority(line));
+        const offset = partsOf(this.text(line), RUN_FORMS)?.offset ?? "0";
+        return held && /^-?\d+$/.test(offset) ? BigInt.asUintN(64, BigInt(`0x${held.word.slice(16)}`) + BigInt(offset)) : null;
+    }
+
+    /** What the granule holds before a line that the line names or reaches. */
+    granule(line) {
         this.before(line);
-        const found = new Map();
-        let next = 1;
-        while (found.size < MOST_OBJECTS && (next = this.judge.call("next_object", this.judge.stepped, next) >>> 0)) {
-            found.set(next, this.judge.object(next));
-            next++;
-        }
-        const isAll = next === 0;
-        for (const number of numbers) if (!found.has(number) && this.judge.object(number)) found.set(number, this.judge.object(number));
-        return { line, isAll, objects: [...found.values()].sort((one, other) => one.number - other.number) };
+        const address = /^(object|free) /.test(this.text(line)) ? null : this.address(line);
+        return address === null ? null : this.judge.held(`@${address.toString(16)}`);
+    }
+
+    /** The objects before a line that are live or held, those that lie nearest to its address first, or where it has none the
+     * last ones. Where there are many, those are looked up whose numbers are near to that of the object which the line meets or
+     * by which it accesses. A holder is told of those that are listed. */
+    objects(line, met, listed) {
+        this.before(line);
+        const { judge } = this;
+        const here = this.address(line);
+        const name = this.authority(line);
+        const number = met || name && judge.owner(name) || judge.lastObject();
+        const first = Math.max(1, number - LOOKED_UP / 2);
+        const later = judge.objectsFrom(first, LOOKED_UP);
+        const earlier = judge.objectsFrom(1, LOOKED_UP - later.length + 1).filter((it) => it.number < first);
+        const apart = ({ number, base }) => (number === met ? -Infinity : here === null ? -number : Math.abs(Number(base - here)));
+        const found = [...earlier, ...later].map((it) => ({ ...it, apart: apart(it) })).sort((one, other) => one.apart - other.apart);
+        const objects = found.slice(0, MOST_OBJECTS).map((it, k) => ({
+            ...it, held: Number(it.held), line: Number(it.line), isLive: it.state === 1, holder: k < listed && it.held ? judge.holder(it.number) : "",
+        }));
+        return { line, here, isAll: found.length === objects.length, objects };
     }
 
     /** The next line that names a place. */

@@ -56,6 +56,7 @@ const GROUPS = {
     notesAreFresh: ease.notesAreFresh,
     forcedColours: ease.forcedColours,
     largeText: ease.largeText,
+    verdictIsInView: shown.verdictIsInView,
     excessIsDrawn: shown.excessIsDrawn,
     offsetsAreInRange: shown.offsetsAreInRange,
     requestsAreMadeExact: shown.requestsAreMadeExact,

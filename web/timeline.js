@@ -1,6 +1,6 @@
 "use strict";
-// The objects of a run log over time, in a worker beside the page: when each was handed out, when it was freed, how long a place
-// held it afterwards, and how many bytes are live or held. All of it is what the judge's module answers; the lines that hand out
+// The objects of a run log over time, in a worker beside the page: when each was allocated, when it was freed, how long a place
+// held it afterwards, and how many bytes are live or held. All of it is what the judge's module answers; the lines that allocate
 // and free are found by their first letters.
 
 const SAMPLES = 1000; // so many times it is asked which freed objects are held, if the log has as many lines
@@ -25,13 +25,8 @@ class Timeline {
         return { base: field(fields.base), top: field([top + high[0]]) << 64n | field([top + low[0]]), held: Number(field(fields.held)) };
     }
 
-    owner(name) {
-        const { kind, number } = placeNamed(name);
-        return this.judge.call("owner", this.judge.stepped, number, BigInt(kind)) >>> 0;
-    }
-
-    /** A line handed out an object, or widened the extent of one. */
-    handOut(line, number) {
+    /** A line allocated an object, or widened the extent of one. */
+    allocate(line, number) {
         const it = this.told(number || this.objects.length + 1);
         if (number) {
             const found = this.objects[number - 1];
@@ -67,16 +62,16 @@ class Timeline {
         return line + Math.max(this.every, this.held.size);
     }
 
-    /** The judge takes a line that hands out or frees. */
+    /** The judge takes a line that allocates or frees. */
     take(line, isFree) {
         const { lines } = this;
         const [, first, second] = lines.text(line).split(" ");
         if (!isFree) {
             lines.before(line + 1);
-            return this.handOut(line, Number(second ?? 0));
+            return this.allocate(line, Number(second ?? 0));
         }
         lines.before(line);
-        const number = first.startsWith("c") ? this.owner(first) : Number(first);
+        const number = first.startsWith("c") ? this.judge.owner(first) : Number(first);
         lines.before(line + 1);
         this.free(line, number);
     }
@@ -107,8 +102,8 @@ class Timeline {
         const number = said.state === 2 ? Number(said.text.match(/^object (\d+) /m)?.[1] ?? 0) : 0;
         if (!number) return [];
         const registers = ["c", "scr"].flatMap((kind) => [...Array(32).keys()].map((at) => `${kind}${at}`)).slice(1);
-        const found = registers.filter((name) => this.owner(name) === number);
-        const first = nameOf(this.judge.asked("place", "holder", this.judge.stepped, number));
+        const found = registers.filter((name) => this.judge.owner(name) === number);
+        const first = this.judge.holder(number);
         return first && !found.includes(first) ? [...found, first] : found;
     }
 }

@@ -26,7 +26,7 @@ const pictured = async () => {
     const count = (kind) => Number(document.querySelector(`#pictured path.${kind}`)?.dataset.count ?? 0);
     return {
         ...plain(log.timeline), says: seen("picture-says"), label: byId("pictured").getAttribute("aria-label"),
-        live: count("bounds"), held: count("outside"), across: document.querySelectorAll("#pictured .asked-across").length,
+        live: count("bounds"), held: count("freed"), across: document.querySelectorAll("#pictured .asked-across").length,
         named: [...document.querySelectorAll("#pictured text.lost")].map((it) => it.textContent),
         curves: document.querySelectorAll("#pictured path.curve").length,
     };

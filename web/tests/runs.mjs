@@ -107,6 +107,7 @@ export async function runsHaveOptions(page) {
     check(new Set(found[0]).size > 1, `options differ: ${found[0]}`);
     const parts = new URLSearchParams(found[1].slice(1));
     same([parts.get("freed"), parts.get("owned"), parts.get("text")], ["both", "1", log], "the link has the options");
+    await othersAreAsked(page, log);
     await page.go(address + found[1]);
     await page.run(tools);
     await page.run(settled);
@@ -116,6 +117,36 @@ export async function runsHaveOptions(page) {
     }), ["both", true, printed(CAPDIAG, ["run", "--freed", "both", "--owned"], log).trim()], "the link restores them");
 }
 
+/** What the log is by the questions that aren't asked, beside what the program says by them; a button asks one. */
+async function othersAreAsked(page, log) {
+    const asked = async (freed, owned) => {
+        await page.go(address + hash({ show: "log", text: log, line: "", freed, owned }));
+        await page.run(tools);
+        await page.run(settled);
+        return page.run(async () => {
+            await globalThis.settled();
+            for (let k = 0; k < 500 && log.others === null; k++) await new Promise((done) => setTimeout(done, 10));
+            return visible(byId("asked")) ? seen("asked").replace(/ ?Ask this/g, "").trim() : "";
+        });
+    };
+    const under = (...words) => {
+        const [state, line, number, refusal] = printed(CAPDIAG, ["run", ...words], log).trim().split(" ");
+        return state === "yes" ? "" : `: line ${line}, ${number} ${refusal}`;
+    };
+    const used = under("--freed", "used");
+    check(used !== "" && under() === "" && under("--owned") === "", "the log is refused by the use of a freed object alone");
+    same(await asked("", ""), `Refused under --freed used${used}. Accepted under --owned.`, "the questions that aren't asked");
+    same(await asked("used", ""), "Accepted under --freed held.", "a refusal that is shown isn't said again");
+    same(await asked("both", "1"), "", "all is asked");
+    await asked("", "");
+    same(await page.run(async () => {
+        byId("asked").querySelector("button").click();
+        await new Promise((done) => setTimeout(done, 30));
+        await globalThis.settled();
+        return [byId("freed").value, log.line, log.judged.text.split("\n")[0]];
+    }), ["used", Number(used.match(/line (\d+)/)[1]), printed(CAPDIAG, ["run", "--freed", "used"], log).trim()], "the button asks it and leads to its line");
+}
+
 /** Waits until the objects of the line are shown. */
 const drawn = async (line) => {
     await globalThis.settled();
@@ -123,7 +154,7 @@ const drawn = async (line) => {
     for (let k = 0; k < 500 && log.objects?.line !== (line || log.line); k++) await new Promise((done) => setTimeout(done, 10));
     return {
         says: seen("objects-say"), rows: [...document.querySelectorAll("#object-rows tr")].map((it) => it.innerText.replace(/\s+/g, " ").trim()),
-        bars: [".bounds", ".outside", ".refused-extent"].map((kind) => document.querySelectorAll(`#extents ${kind}`).length),
+        bars: [".bounds", ".freed", ".refused-extent"].map((kind) => document.querySelectorAll(`#extents ${kind}`).length),
         hatches: document.querySelectorAll("#extents .hatch").length, label: byId("extents").getAttribute("aria-label"),
         held: [...document.querySelectorAll("#held tr")].map((it) => it.innerText.replace(/\s+/g, " ").trim()),
     };
@@ -136,7 +167,7 @@ export async function objectsAreDrawn(page) {
     const at = await page.run(drawn, 0);
     const refused = Number(printed(CAPDIAG, ["run"], HELD).split(" ")[1]);
     check(at.says.includes("1 object freed that some place still holds") && at.bars[1] === 1 && at.bars[2] === 1 && at.hatches === 1, JSON.stringify(at));
-    check(at.rows.some((it) => /^object 2 0x1010 up to 0x1020, 16 bytes freed, still held; 1 place holds it, first c3; handed out by line 9/.test(it)),
+    check(at.rows.some((it) => /^object 2 0x1010 up to 0x1020, 16 bytes freed, still held; 1 place holds it, first c3; allocated by line 9/.test(it)),
         JSON.stringify(at.rows));
     check(at.held.some((it) => it.startsWith("c3") && it.includes("owned by object 2")), `c3's owner: ${at.held}`);
     const lines = HELD.split("\n");
@@ -146,13 +177,41 @@ export async function objectsAreDrawn(page) {
         const owners = printed(CAPDIAG, ["run", "--owners"], before).split("\n").filter((it) => it.startsWith("object "));
         const wanted = owners.map((it) => it.split(" ")).map(([, number, made, , , state, held]) => [number, made, state, held]);
         const got = shown.rows.map((it) => [
-            it.match(/^object (\d+)/)[1], it.match(/handed out by line (\d+)/)[1], it.includes("bytes live") ? "live" : "freed",
+            it.match(/^object (\d+)/)[1], it.match(/allocated by line (\d+)/)[1], it.includes("bytes live") ? "live" : "freed",
             it.match(/; (no|\d+) places? holds? it/)[1].replace("no", "0"),
         ]);
         same(got.sort(), wanted.sort(), `objects before line ${line}`);
         same(shown.bars[0] + shown.bars[1], wanted.length, `extents before line ${line}`);
     }
     await revokerIsDrawn(page);
+    await nearestAreDrawn(page);
+}
+
+/** A run log that allocates objects one above the other. */
+const logOfObjects = (count) => {
+    const root = { word: read("007d1ffffc0000020000000000100000"), tag: 1 };
+    const lines = ["run 1", "mode strict", `root c1 ${c.textOf(root.word)}`];
+    for (let k = 0; k < count; k++) {
+        const at = c.setAddrClear(root, BigInt(0x100000 + 4 * k));
+        const made = c.setBoundsClear(at, 4n, false);
+        lines.push(`setaddr c2 c1 ${hex(0x100000 + 4 * k, 16)} = 1 ${c.textOf(at.word)}`, `setbounds c3 c2 ${hex(4, 16)} = 1 ${c.textOf(made.word)}`);
+        lines.push("derive c2 c0 = 0 00001ffffc0180040000000000000000", "object c3");
+    }
+    return [...lines, `end ${4 * count}`, ""].join("\n");
+};
+
+/** Of many objects those are drawn and listed that lie around the line's. */
+async function nearestAreDrawn(page) {
+    const log = await page.run(logOfObjects, 3000);
+    check(printed(CAPDIAG, ["run"], log).startsWith("yes"), `a log of many objects: ${printed(CAPDIAG, ["run", "--why"], log).slice(0, 300)}`);
+    await page.run((it) => dropped(bytesOf8(it), "many.log"), log);
+    for (const number of [2, 1500, 2900]) {
+        const at = await page.run(drawn, 4 * number + 3);
+        const listed = at.rows.map((it) => Number(it.match(/^object (\d+)/)[1]));
+        check(listed.includes(number - 1) && listed.every((it) => number - it <= 100 && it < number), `objects listed before that which allocates object ${number}: ${listed}`);
+        const [first] = at.label.match(/\d+/);
+        check(number - Number(first) <= 1000 && at.says.startsWith(number > 1000 ? "Of the nearest 1,000: " : "1 object live"), `${at.says} ${first}`);
+    }
 }
 
 /** The log of the example revoker that misses a place. */
@@ -163,7 +222,7 @@ async function revokerIsDrawn(page) {
     const log = execFileSync(made, ["skips"]).toString();
     await page.run((it) => dropped(bytesOf8(it), "skips.log"), log);
     const at = await page.run(drawn, 0);
-    check(at.rows[0].startsWith("object 17 0x100180 up to 0x1001c0, 64 bytes freed, still held; 1 place holds it, first scr3; handed out by line 115"),
+    check(at.rows[0].startsWith("object 17 0x100180 up to 0x1001c0, 64 bytes freed, still held; 1 place holds it, first scr3; allocated by line 115"),
         at.rows[0]);
     check(at.bars[2] === 1 && at.bars[1] >= 1, `extents: ${at.bars}`);
     check(at.held.some((it) => it.startsWith("scr3") && it.includes("owned by object 17")), "scr3's owner");

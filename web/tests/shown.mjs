@@ -23,6 +23,38 @@ const drawing = (where) => [
     document.querySelectorAll(`${where} path.hatch`).length,
 ];
 
+/** The verdict of a log is seen without scrolling; the text of a log folds away unless it is being typed. */
+export async function verdictIsInView(page) {
+    const logs = ["examples/kept_tag.log", "examples/memory.log", "conformance/runs/36-of-the-second.log",
+        "conformance/heaps/24.41-28-by-rounding-of-the-new-object.log"];
+    for (const width of [360, 400, 1280]) {
+        await page.size(width, 800, width < 500);
+        for (const name of logs) {
+            await at(page, hash({ show: "log", text: text(name), line: "" }));
+            const [bottom, scrolled, isOpen] = await page.run(() => [byId("verdict").getBoundingClientRect().bottom, scrollY, byId("given-text").open]);
+            check(bottom > 0 && bottom < 800 && scrolled === 0 && !isOpen, `${name} at ${width}: the verdict ends at ${bottom}`);
+        }
+    }
+    await page.size(1000, 1200);
+    await page.go(address + hash({ show: "log", text: "", line: "" }));
+    await page.run(tools);
+    await page.run(settled);
+    const open = await page.run(async (log) => {
+        const before = byId("given-text").open;
+        byId("text").focus();
+        type("text", log);
+        await new Promise((done) => setTimeout(done, 30));
+        await globalThis.settled();
+        const typed = byId("given-text").open;
+        await dropped(bytesOf8(log), "given.log");
+        const opened = byId("given-text").open;
+        byId("text").blur();
+        type("text", "");
+        return [before, typed, opened, byId("given-text").open];
+    }, text("examples/moves.log"));
+    same(open, [true, true, false, true], "the text of a log is open until one is opened");
+}
+
 /** The excess is red and has its size, what has no tag is hatched, and what is the same is drawn once. */
 export async function excessIsDrawn(page) {
     const logs = [
