@@ -5,7 +5,7 @@
  *
  * A log is judged in memory by one call; piece by piece, cut at every 1, 7 and 4096 bytes; line by line; and by lines whose
  * steps are passed by their numbers: each way must get the same verdict. Of the owners of granules it prints those below
- * 0x20000. Without words, it tries what the calls answer of places, owners and objects. Status: 0 if each log got a verdict
+ * 0x20000 and that of the last granule. Without words, it tries what the calls answer of places, owners and objects. Status: 0 if each log got a verdict
  * and all ways agree. It is C and C++.
  */
 #include <capcheck_judge.h>
@@ -110,6 +110,7 @@ static void print_owners(const capcheck_run_judge *judge, uint32_t objects) {
         print_owner(judge, CAPCHECK_SPECIAL, place);
     for (place = 0; place < 0x20000; place += 16)
         print_owner(judge, CAPCHECK_GRANULE, place);
+    print_owner(judge, CAPCHECK_GRANULE, UINT64_MAX - 15);
 }
 
 /* Passes a log in one piece, and prints the owners at its end. */
