@@ -366,7 +366,7 @@ export async function changedJudges(page) {
     const at = bytes.indexOf("WrongResult");
     check(at > 0, "the names are in the module's data");
     const [renamed, seenThen] = await shownWith(at, "V".charCodeAt(0));
-    check(renamed.includes("23 VrongResult") && seenThen === 1, `a name comes from the module's data: ${renamed}`);
+    check(renamed.includes("23 VrongResult") && seenThen === 2, `a name comes from the module's data: ${renamed}`);
     const [, none, fault] = await shownWith(8, 0x7f);
     same([none, fault], [0, true], "a module that is none is refused");
     fs.rmSync(changed);
