@@ -18,11 +18,13 @@ use Rattle.cap_machine.proofs.{EscapeLemmas.never_wrong, StepLemmas.is_recorded}
 use Rattle.cap_judge.specs.declared.verdict.Expected.{Expected, TheVariants.{Capability, Number}}
 use Rattle.cap_judge.specs.declared.verdict.Verdict.TheVariants.{No}
 use Rattle.cap_judge.specs.Expectations.{Expects, ExpectsAt, IsExpected, GivesFor, GivesForText, expected_of, given_in}
-use Rattle.cap_judge.specs.{Judgings.{IsBehind, IsLastFront, account_before}, Logs.{Beginning, Body, Whole, Refuses}}
+use Rattle.cap_judge.specs.{Judgings.{IsBehind, account_before}, Logs.{Beginning, Body, Whole, Refuses}}
 use Rattle.cap_judge.specs.Logs.{account_after, body_lines, IsAccepted, RunsBy, lines_of, text_of}
-use Rattle.cap_judge.specs.{Readings.{IsAtFault, IsReached, IsRest}, Turns.{Due, Refused, Stage}}
+use Rattle.cap_judge.specs.{Readings.{IsReached, IsRest}, Turns.Stage}
 use Rattle.cap_judge.proofs.{EscapeLaws.{is_of_step, is_step, never_front}, OneVerdict.one_verdict}
 use Rattle.cap_judge.proofs.TurnLaws.{begins, fault_stands, nothing_left, some_bytes}
+use Rattle.cap_turns.specs.Verdicts.{IsLastFront}
+use Rattle.cap_turns.specs.Turns.{Due, IsAtFault, Refused}
 
 other_recorded : (recorded limit : Bool) → first_of ((not recorded, WrongResult) ∷ (limit, LimitPassed) ∷ [])
     ≡ Some WrongResult → recorded ≡ false
@@ -193,14 +195,14 @@ by_beginning account_is beginning rest bytes text result account is accepted ref
     absurd (never_front rest WrongResult _ refl (λ text whole. ap is_of_step whole.1) refused)
 
 wrong_result : (bytes : List ℕ) (stage : Stage) (line : ℕ) (text : List ℕ) (result : Option Expected) → IsReached stage bytes
-    → stage.due ≡ Refused line WrongResult text → GivesForText stage.account text result → Expects bytes result
+    → stage.due ≡ Refused line WrongResult text → GivesForText stage.state text result → Expects bytes result
 wrong_result bytes stage line text result is due gives =
-    let found = subst (λ (d : Due). IsRest d is.beginning is.rest) due is.rest_is in
-    by_beginning stage.account is.beginning is.rest bytes text result is.account is.behind.bytes_are is.behind.accepted
+    let found = subst (λ (d : Due Refusal). IsRest d is.beginning is.rest) due is.rest_is in
+    by_beginning stage.state is.beginning is.rest bytes text result is.account is.behind.bytes_are is.behind.accepted
     (subst (λ (r : List ℕ). Refuses is.beginning r WrongResult) (append-nil is.rest) (found.2 [])) found.1 gives
 
-pub expects : (bytes : List ℕ) (account_is : Account) (due : Due) (result : Option Expected)
-    → IsReached (record { account = account_is; due = due }) bytes → ExpectsAt account_is due result → Expects bytes result
+pub expects : (bytes : List ℕ) (account_is : Account) (due : Due Refusal) (result : Option Expected)
+    → IsReached (record { state = account_is; due = due }) bytes → ExpectsAt account_is due result → Expects bytes result
 expects bytes account (Refused line WrongResult text) result is told = wrong_result bytes _ line text result is refl (told.0 refl)
 expects bytes account (Refused line refusal text) result is told =
     subst (Expects bytes) (sym (told.1 (λ e. cc))) (other_fault bytes _ line refusal text is refl (λ e. cc))

@@ -8,9 +8,12 @@ use Rattle.cap_streams.specs.Front.{IsFrontText}
 use Rattle.cap_streams.proofs.FrontLemmas.{IsLine-more, IsTooLong-more}
 use Rattle.cap_machine.specs.{Accounts.Account, Helds.{Held, account_of}}
 use Rattle.cap_judge.specs.{declared.verdict.Verdict.TheVariants.No, Judgings.{IsBehind, IsVerdictOf, account_before}}
-use Rattle.cap_judge.specs.{Judgings.{IsLastFront, StopsBefore}, Logs.{Beginning, lines_of, text_of, IsFirstFault}}
+use Rattle.cap_judge.specs.{Judgings.StopsBefore, Logs.{Beginning, lines_of, text_of, IsFirstFault}}
 use Rattle.cap_judge.proofs.{InTurn.same_beginning, JudgeLemmas.behind_more, LogLemmas.accepted_in_range}
-use Rattle.cap_judge.proofs.{OneVerdict.{text_cons, same_front}, SourceLemmas.whole_verdict}
+use Rattle.cap_judge.proofs.{SourceLemmas.whole_verdict, TurnLemmas.log_spelled}
+use Rattle.cap_judge.specs.Turns.{log_turns}
+use Rattle.cap_turns.proofs.OneEnd.{text_cons, same_front}
+use Rattle.cap_turns.specs.Verdicts.{IsLastFront}
 
 -- as many lines at the front of the same bytes are the same
 same_lines : (lines lines' : List Line) (rest rest' : List ℕ) → AllByRecursion IsInRange lines → AllByRecursion IsInRange lines'
@@ -19,7 +22,8 @@ same_lines [] [] rest rest' range range' long same = (refl, same)
 same_lines [] (line ∷ lines) rest rest' range range' long same = absurd (omega (arith, long))
 same_lines (line ∷ lines) [] rest rest' range range' long same = absurd (omega (arith, long))
 same_lines (line ∷ lines) (other ∷ lines') rest rest' range range' long same =
-    let first = same_front line other _ _ range.0 range'.0 (sym (text_cons line lines rest) ∙ same ∙ text_cons other lines' rest') in
+    let first = same_front log_turns log_spelled line other _ _ range.0 range'.0
+    (sym (text_cons log_turns line lines rest) ∙ same ∙ text_cons log_turns other lines' rest') in
     let all = same_lines lines lines' rest rest' range.1 range'.1 (omega (arith, long)) first.1 in
     (ap (λ (l : Line). l ∷ lines) first.0 ∙ ap (λ (ls : List Line). other ∷ ls) all.0, all.1)
 

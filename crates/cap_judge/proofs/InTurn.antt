@@ -6,7 +6,7 @@ use Rattle.std.proofs.{Common.{lt-ltb, eqb-true, if◌then◌else◌}, lemmas.Bo
 use Rattle.std.proofs.lemmas.{Bool.{false_from_ne_true, not-false, Decides.eqb_tells}, Option.none-some}
 use Rattle.cap_word.specs.declared.word.{Cap.Cap, Word.Word}
 use Rattle.cap_bounds.specs.Bounds.{is_sound}
-use Rattle.cap_ops.specs.{declared.refusal.Refusal.TheVariants.{BadLine, Misplaced}, Checks.first_of}
+use Rattle.cap_ops.specs.{declared.refusal.Refusal.{Refusal, TheVariants.{BadLine, Misplaced}}, Checks.first_of}
 use Rattle.cap_ops.proofs.TestLemmas.{none_hold}
 use Rattle.cap_log.specs.declared.lines.Line.{Line, TheVariants.{Root, Step, End, Version, Mode}}
 use Rattle.cap_log.specs.{declared.lines.{Mode.TheVariants.{Strict, Clear}, Place.Place}, Lines.IsInRange}
@@ -20,10 +20,13 @@ use Rattle.cap_machine.proofs.AccountLemmas.{with_step-grows, after_roots-grows,
 use Rattle.cap_machine.proofs.{AccountLemmas.{step_free, after_steps}, OriginLemmas.{keys, IsFree, roots_start}}
 use Rattle.cap_judge.specs.{Judgings.account_before, Logs.{Beginning, Empty, NoMode, Body, Whole, header_lines}}
 use Rattle.cap_judge.specs.Logs.{body_lines, lines_of, account_after, RunsBy, IsAccepted, has_form, line_checks}
-use Rattle.cap_judge.specs.Turns.{Allows, Body as BodyDue, Due, Ended, First, Reads, Second, Stage, behind, rules_of}
+use Rattle.cap_judge.specs.Turns.{Stage, rules_of}
 use Rattle.cap_judge.specs.Turns.{unread}
 use Rattle.cap_judge.proofs.LogLemmas.{after_roots-push, after_steps-push, steps_push, roots_push, accepted_in_range}
-use Rattle.cap_judge.proofs.{LogLemmas.{step_runs, root_runs, no_roots}, TurnLemmas.{Reads-append, body, by_checks}}
+use Rattle.cap_judge.proofs.{LogLemmas.{step_runs, root_runs, no_roots}, TurnLemmas.{body, by_checks}}
+use Rattle.cap_turns.specs.Turns.{Allows, Body as BodyDue, Due, Ended, First, Reads, Second, next_stage}
+use Rattle.cap_turns.proofs.TurnLemmas.{Reads-append}
+use Rattle.cap_judge.specs.Turns.{log_turns}
 
 -- Distinct roots
 
@@ -49,7 +52,7 @@ roots_read : (rules_are : Rules) (account : Account) (roots : List DeclaredRoot)
     → IsDistinct nat_eq (keys roots) → AreFree account.state roots → AllByRecursion
     (λ (root : DeclaredRoot). IsTrue (is_sound root.word.0)) roots
     → account.roots + length roots ≤ most_roots → (after_roots account roots).granules ≤ most_granules rules_are
-    → Reads (body account) (map (λ (root : DeclaredRoot). Root root.place root.word) roots) (body (after_roots account roots))
+    → Reads log_turns (body account) (map (λ (root : DeclaredRoot). Root root.place root.word) roots) (body (after_roots account roots))
 unfolding IsDistinct
 roots_read rules_are account [] same none distinct free sound few_roots few_granules = refl
 roots_read rules_are account (root ∷ roots) same none distinct free sound few_roots few_granules =
@@ -70,7 +73,7 @@ roots_read rules_are account (root ∷ roots) same none distinct free sound few_
 steps_read : (rules_are : Rules) (account : Account) (steps : List steps_module.Step) (states : List State) → account.rules ≡ rules_are → account.limits ≡ limits_of rules_are
     → IsRun rules_are account.state steps states → account.steps + length steps ≤ most_steps
     → (after_steps account steps).granules ≤ most_granules rules_are
-    → Reads (body account) (map Step steps) (body (after_steps account steps))
+    → Reads log_turns (body account) (map Step steps) (body (after_steps account steps))
 steps_read rules_are account [] states same within run few_steps few_granules = refl
 steps_read rules_are account (step ∷ steps) [] same within run few_steps few_granules = absurd run
 steps_read rules_are account (step ∷ steps) (next ∷ states) same within run few_steps few_granules =
@@ -84,13 +87,13 @@ steps_read rules_are account (step ∷ steps) (next ∷ states) same within run 
       steps_read rules_are after steps states (one.rules_stay ∙ same) (one.limits_stay ∙ within) later (omega arith) few_granules,
     )
 
-header_read : (rules_are : Rules) → Reads unread (header_lines rules_are) (body (no_account rules_are (limits_of rules_are)))
+header_read : (rules_are : Rules) → Reads log_turns unread (header_lines rules_are) (body (no_account rules_are (limits_of rules_are)))
 header_read One = (refl, refl)
 header_read TwoStrict = (refl, (refl, refl))
 header_read TwoClear = (refl, (refl, refl))
 
 body_read : (rules_are : Rules) (roots : List DeclaredRoot) (steps : List steps_module.Step) → RunsBy rules_are roots steps
-    → Reads unread (body_lines rules_are roots steps) (body (account_after rules_are roots steps))
+    → Reads log_turns unread (body_lines rules_are roots steps) (body (account_after rules_are roots steps))
 body_read rules_are roots steps runs =
     let first = no_account rules_are (limits_of rules_are) in
     let rooted = after_roots first roots in
@@ -105,20 +108,20 @@ body_read rules_are roots steps runs =
     let free = λ (key : ℕ) (held : IsTrue (start [] key).tag). absurd (false≢true held) in
     let roots_are = roots_read rules_are first roots refl refl runs.distinct free runs.sound (omega arith) (omega arith) in
     let steps_are = steps_read rules_are rooted steps runs.run.0 by_roots.rules_stay by_roots.limits_stay run (omega arith) few_granules in
-    Reads-append unread (body first) (body last) (header_lines rules_are) _ (header_read rules_are)
-    (Reads-append (body first) (body rooted) (body last) _ (map Step steps) roots_are steps_are)
+    Reads-append log_turns unread (body first) (body last) (header_lines rules_are) _ (header_read rules_are)
+    (Reads-append log_turns (body first) (body rooted) (body last) _ (map Step steps) roots_are steps_are)
 
 -- the stage after a beginning
-abbrev pub due_after : Beginning → Due
+abbrev pub due_after : Beginning → Due Refusal
 due_after Empty = First
 due_after NoMode = Second
 due_after (Body rules_are roots steps) = BodyDue
 due_after (Whole rules_are roots steps) = Ended
 
 abbrev pub stage_after : Beginning → Stage
-stage_after beginning = record { account = account_before beginning; due = due_after beginning }
+stage_after beginning = record { state = account_before beginning; due = due_after beginning }
 
-pub accepted_read : (beginning : Beginning) → IsAccepted beginning → Reads unread (lines_of beginning) (stage_after beginning)
+pub accepted_read : (beginning : Beginning) → IsAccepted beginning → Reads log_turns unread (lines_of beginning) (stage_after beginning)
 accepted_read Empty accepted = refl
 accepted_read NoMode accepted = (refl, refl)
 accepted_read (Body rules_are roots steps) runs = body_read rules_are roots steps runs
@@ -127,7 +130,7 @@ accepted_read (Whole rules_are roots steps) runs =
     let end = End (length steps) in
     let counts = account_after-grows rules_are roots steps in
     let free = first_of-none (line_checks last end) (ap not (eq-eqb (length steps) last.steps (omega arith)), tt) in
-    Reads-append unread (body last) (stage_after (Whole rules_are roots steps)) (body_lines rules_are roots steps) (end ∷ [])
+    Reads-append log_turns unread (body last) (stage_after (Whole rules_are roots steps)) (body_lines rules_are roots steps) (end ∷ [])
     (body_read rules_are roots steps runs) (by_checks last end refl ∙ free, refl)
 
 -- A line that is allowed makes the beginning longer
@@ -145,7 +148,7 @@ with_line beginning line = beginning
 pub record Longer (beginning : Beginning) (line : Line) : Type 0 where
   pub accepted : IsAccepted (with_line beginning line)
   pub lines_are : lines_of (with_line beginning line) ≡ lines_of beginning ++ line ∷ []
-  pub stage_is : stage_after (with_line beginning line) ≡ behind (stage_after beginning) line
+  pub stage_is : stage_after (with_line beginning line) ≡ next_stage log_turns (stage_after beginning) line
 
 -- a root is declared before the first step
 no_root : (rules_are : Rules) (roots : List DeclaredRoot) (step : steps_module.Step) (steps : List steps_module.Step) (place : Place)
@@ -164,7 +167,7 @@ end_counts rules_are roots steps count free =
     let is = eqb-true count account.steps (not-false _ (none_hold (line_checks account (End count)) free).0) in
     omega (arith, is)
 
-pub longer : (beginning : Beginning) (line : Line) → IsAccepted beginning → IsInRange line → Allows (stage_after beginning) line
+pub longer : (beginning : Beginning) (line : Line) → IsAccepted beginning → IsInRange line → Allows log_turns (stage_after beginning) line
     → Longer beginning line
 longer Empty (Version version) accepted (inl is) allowed =
     subst (λ (v : ℕ). Longer Empty (Version v)) (sym is) (record { accepted = no_roots One; lines_are = refl; stage_is = refl })
@@ -208,13 +211,13 @@ with_lines beginning [] = beginning
 with_lines beginning (line ∷ lines) = with_lines (with_line beginning line) lines
 
 pub all_longer : (beginning : Beginning) (lines : List Line) (to : Stage) → IsAccepted beginning → AllByRecursion IsInRange lines
-    → Reads (stage_after beginning) lines to
+    → Reads log_turns (stage_after beginning) lines to
     → (let last = with_lines beginning lines in IsAccepted last × (lines_of last ≡ lines_of beginning ++ lines) × (stage_after last ≡ to))
 all_longer beginning [] to accepted range reads = (accepted, sym (append-nil (lines_of beginning)), reads)
 all_longer beginning (line ∷ lines) to accepted range reads =
     let one = longer beginning line accepted range.0 reads.0 in
     let all = all_longer (with_line beginning line) lines to one.accepted range.1
-    (subst (λ (s : Stage). Reads s lines to) (sym one.stage_is) reads.1) in
+    (subst (λ (s : Stage). Reads log_turns s lines to) (sym one.stage_is) reads.1) in
     (all.0, all.1 ∙ ap (λ ls. ls ++ lines) one.lines_are ∙ append_assoc (lines_of beginning) (line ∷ []) lines, all.2)
 
 roots_back : (rules_are : Rules) (before roots : List DeclaredRoot) (lines : List Line)
@@ -251,7 +254,7 @@ lines_back (Body rules_are roots steps) =
 lines_back (Whole rules_are roots steps) = body_back rules_are roots steps (End (length steps) ∷ [])
 
 pub accepted_in_turn : (beginning : Beginning)
-    → IsAccepted beginning ↔ (AllByRecursion IsInRange (lines_of beginning) × ((stage : Stage) × Reads unread (lines_of beginning) stage))
+    → IsAccepted beginning ↔ (AllByRecursion IsInRange (lines_of beginning) × ((stage : Stage) × Reads log_turns unread (lines_of beginning) stage))
 accepted_in_turn beginning = (
   λ accepted. (accepted_in_range beginning accepted, (stage_after beginning, accepted_read beginning accepted)),
   λ h. subst IsAccepted (lines_back beginning) (all_longer Empty (lines_of beginning) h.1.0 tt h.0 h.1.1).0,

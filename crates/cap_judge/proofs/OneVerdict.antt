@@ -1,5 +1,4 @@
 -- Bytes have one reading, a line at a time, that stops, and no two verdicts: each comes from such a reading.
-use Rattle.std.specs.List.{AllByRecursion}
 use Rattle.std.proofs.Common.{◌≡◌, ℕ, inl, inr, List, [], ◌∷◌, ◌++◌, refl, sym, ap, subst, ◌∙◌, append_assoc, ◌+◌}
 use Rattle.std.proofs.{Common.{length, append-nil}, lemmas.Option.{none-some, same_Some}}
 use Rattle.cap_ops.specs.{declared.refusal.Refusal.Refusal, Checks.first_of}
@@ -9,14 +8,11 @@ use Rattle.cap_streams.proofs.FrontLemmas.{IsLine-same, IsLine-not_too_long, IsL
 use Rattle.cap_log.proofs.SpellingLemmas.{one_spelling, IsLine-spelling}
 use Rattle.cap_judge.specs.{declared.verdict.Verdict.{Verdict, TheVariants.{Yes, No}}, Judgings.IsBehind}
 use Rattle.cap_judge.specs.Logs.{Beginning, Empty, NoMode, Body, Whole, account_after, lines_of, text_of, line_checks}
-use Rattle.cap_judge.specs.{Logs.{Refuses, RefusesWhole}, Turns.{Allows, Reads, Stage, behind, unread}}
+use Rattle.cap_judge.specs.{Logs.{Refuses, RefusesWhole}, Turns.{log_turns, unread}}
 use Rattle.cap_judge.specs.Verdicts.{IsVerdict}
 use Rattle.cap_judge.proofs.{InTurn.{accepted_read, same_beginning, stage_after}, JudgeLemmas.RefusesFront}
-use Rattle.cap_judge.proofs.{LogLemmas.accepted_in_range, TurnLemmas.allowed_form}
-
--- no line that is allowed stands at the front of the bytes
-abbrev pub Stops : Stage → List ℕ → Type 0
-Stops stage rest = (line : Line) (more : List ℕ) → IsInRange line → Allows stage line → rest ≡ spelling line ++ 10 ∷ more → ⊥
+use Rattle.cap_judge.proofs.{LogLemmas.accepted_in_range, TurnLemmas.{allowed_form, log_spelled}}
+use Rattle.cap_turns.{specs.Turns.Allows, proofs.OneEnd.{Stops, one_reading}}
 
 -- the verdict on what follows a beginning
 abbrev pub IsAnswerFor : Beginning → List ℕ → Verdict → Type 0
@@ -24,37 +20,6 @@ IsAnswerFor (Whole rules roots steps) rest (Yes step_count root_count) =
     (rest ≡ []) × (step_count ≡ length steps) × (root_count ≡ length roots)
 IsAnswerFor beginning rest (Yes steps roots) = ⊥
 IsAnswerFor beginning rest (No line refusal) = (line ≡ length (lines_of beginning) + 1) × Refuses beginning rest refusal
-
--- the first line of a text
-pub text_cons : (line : Line) (lines : List Line) (rest : List ℕ)
-    → text_of (line ∷ lines) ++ rest ≡ spelling line ++ 10 ∷ (text_of lines ++ rest)
-text_cons line lines rest = simp (append_assoc)
-
--- texts that begin with lines in range begin with the same line, and go on alike
-pub same_front : (line other : Line) (more rest : List ℕ) → IsInRange line → IsInRange other
-    → spelling line ++ 10 ∷ more ≡ spelling other ++ 10 ∷ rest → (line ≡ other) × (more ≡ rest)
-same_front line other more rest range range' same =
-    let both = IsLine-same _ (spelling line) more (spelling other) rest (IsLine-spelling line range more)
-    (subst (λ (bytes : List ℕ). IsLine bytes (spelling other) rest) (sym same) (IsLine-spelling other range' rest)) in
-    (one_spelling (spelling line) line other (range, refl) (range', both.0), both.1)
-
--- two readings of the same bytes that stop are one
-pub one_reading : (from to to' : Stage) (lines lines' : List Line) (rest rest' : List ℕ)
-    → AllByRecursion IsInRange lines → AllByRecursion IsInRange lines' → Reads from lines to → Reads from lines' to'
-    → Stops to rest → Stops to' rest' → text_of lines ++ rest ≡ text_of lines' ++ rest'
-    → (lines ≡ lines') × (rest ≡ rest')
-one_reading from to to' [] [] rest rest' range range' reads reads' stops stops' same = (refl, same)
-one_reading from to to' [] (line ∷ lines) rest rest' range range' reads reads' stops stops' same =
-    let allowed = subst (λ (stage : Stage). Allows stage line) reads reads'.0 in
-    absurd (stops line (text_of lines ++ rest') range'.0 allowed (same ∙ text_cons line lines rest'))
-one_reading from to to' (line ∷ lines) [] rest rest' range range' reads reads' stops stops' same =
-    let allowed = subst (λ (stage : Stage). Allows stage line) reads' reads.0 in
-    absurd (stops' line (text_of lines ++ rest) range.0 allowed (sym same ∙ text_cons line lines rest))
-one_reading from to to' (line ∷ lines) (other ∷ lines') rest rest' range range' reads reads' stops stops' same =
-    let first = same_front line other _ _ range.0 range'.0 (sym (text_cons line lines rest) ∙ same ∙ text_cons other lines' rest') in
-    let moved = subst (λ (l : Line). Reads (behind from l) lines' to') (sym first.0) reads'.1 in
-    let all = one_reading (behind from line) to to' lines lines' rest rest' range.1 range'.1 reads.1 moved stops stops' first.1 in
-    (ap (λ (l : Line). l ∷ lines) first.0 ∙ ap (λ (ls : List Line). other ∷ ls) all.0, all.1)
 
 -- what refuses bytes that begin with a whole line refuses this line
 front_refused : (beginning : Beginning) (rest text more : List ℕ) (refusal : Refusal) → IsLine rest text more
@@ -65,7 +30,7 @@ front_refused beginning rest text more refusal whole (inr (inr h)) =
     subst (λ (t : List ℕ). RefusesWhole beginning t refusal) (IsLine-same rest h.0 h.1 text more h.2 whole).0 h.3
 
 -- a line that is allowed is not refused
-not_refused : (beginning : Beginning) (line : Line) (refusal : Refusal) → IsInRange line → Allows (stage_after beginning) line
+not_refused : (beginning : Beginning) (line : Line) (refusal : Refusal) → IsInRange line → Allows log_turns (stage_after beginning) line
     → RefusesWhole beginning (spelling line) refusal → ⊥
 not_refused Empty (Version version) refusal range allowed refused = refused.0 version (range, refl)
 not_refused NoMode (Mode mode) refusal range allowed refused = refused.0 mode (range, refl)
@@ -81,13 +46,13 @@ not_refused beginning line refusal range allowed refused = none-some _ (sym allo
 
 -- so where there is a verdict, the reading stops
 refused_stops : (beginning : Beginning) (rest : List ℕ) (refusal : Refusal) → RefusesFront beginning rest refusal
-    → Stops (stage_after beginning) rest
+    → Stops log_turns (stage_after beginning) rest
 refused_stops beginning rest refusal refused line more range allowed is =
     let whole = subst (λ (bytes : List ℕ). IsLine bytes (spelling line) more) (sym is) (IsLine-spelling line range more) in
     not_refused beginning line refusal range allowed (front_refused beginning rest (spelling line) more refusal whole refused)
 
 pub answer_stops : (beginning : Beginning) (rest : List ℕ) (verdict : Verdict) → IsAnswerFor beginning rest verdict
-    → Stops (stage_after beginning) rest
+    → Stops log_turns (stage_after beginning) rest
 answer_stops (Whole rules_are roots steps) rest verdict answers = λ line more range allowed is. none-some _ (sym allowed)
 answer_stops beginning rest (Yes steps roots) answers = absurd answers
 answer_stops beginning rest (No line refusal) answers = refused_stops beginning rest refusal answers.1
@@ -145,7 +110,7 @@ pub one_verdict : (bytes : List ℕ) (a b : Verdict) → IsVerdict bytes a → I
 one_verdict bytes a b is_a is_b =
     let (first, rest, here, answers) = read bytes a is_a in
     let (second, rest', there, answers') = read bytes b is_b in
-    let same = one_reading unread (stage_after first) (stage_after second) (lines_of first) (lines_of second) rest rest'
+    let same = one_reading log_turns log_spelled unread (stage_after first) (stage_after second) (lines_of first) (lines_of second) rest rest'
     (accepted_in_range first here.accepted) (accepted_in_range second there.accepted)
     (accepted_read first here.accepted) (accepted_read second there.accepted)
     (answer_stops first rest a answers) (answer_stops second rest' b answers') (sym here.bytes_are ∙ there.bytes_are) in

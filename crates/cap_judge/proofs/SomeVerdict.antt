@@ -7,9 +7,11 @@ use Rattle.cap_streams.specs.Front.{IsLine}
 use Rattle.cap_log.proofs.DecidedLines.{line_decided, front_decided}
 use Rattle.cap_judge.specs.{declared.verdict.Verdict.{Verdict, TheVariants.{Yes, No}}, Judgings.IsBehind}
 use Rattle.cap_judge.specs.Logs.{Beginning, Empty, Whole, lines_of, text_of, IsAccepted, RefusesWhole, Refuses}
-use Rattle.cap_judge.specs.{Turns.{Allows, refusal_at}, Verdicts.IsVerdict}
+use Rattle.cap_judge.specs.Verdicts.{IsVerdict}
 use Rattle.cap_judge.proofs.{InTurn.{longer, stage_after, with_line}, JudgeLemmas.{IsUnended, fault_behind}}
 use Rattle.cap_judge.proofs.{JudgeLemmas.{front_refused, text_push, yes_of}, TurnLaws.refuses_text}
+use Rattle.cap_turns.specs.Turns.{Allows, refusal_by}
+use Rattle.cap_judge.specs.Turns.{log_turns}
 
 -- Each line is refused or allowed
 
@@ -17,10 +19,10 @@ use Rattle.cap_judge.proofs.{JudgeLemmas.{front_refused, text_push, yes_of}, Tur
 abbrev pub Turn : Beginning → List ℕ → Type 0
 Turn beginning text =
     ((refusal : Refusal) × RefusesWhole beginning text refusal)
-    ⊎ ((line : Line) × Spells text line × Allows (stage_after beginning) line)
+    ⊎ ((line : Line) × Spells text line × Allows log_turns (stage_after beginning) line)
 
 by_refusal : (beginning : Beginning) → IsUnended beginning → (text : List ℕ) (line : Option Line) → Spelled IsInRange spelling text line
-    → (refusal : Option Refusal) → refusal_at (stage_after beginning).account (stage_after beginning).due line ≡ refusal
+    → (refusal : Option Refusal) → refusal_by log_turns (stage_after beginning).state (stage_after beginning).due line ≡ refusal
     → Turn beginning text
 by_refusal beginning goes text line is (Some refusal) refused = inl (refusal, refuses_text beginning text line refusal goes is refused)
 by_refusal beginning goes text (Some line) is None allowed = inr (line, is, allowed)

@@ -3,13 +3,14 @@ use Rattle.std.proofs.Common.{◌≡◌, ◌≢◌, ℕ, ◌+◌, ◌≤◌, Boo
 use Rattle.std.proofs.Common.{subst, ◌∙◌, append-nil, append_assoc, arith, Result, Ok, Err, IfOk, IfErr, ◌-◌, ◌*◌, ◌<◌}
 use Rattle.std.proofs.Common.{length-append}
 use Rattle.cap_streams.specs.{declared.judging.judge_faults.JudgeFault.{JudgeFault, TheVariants.{Pull, NoMemory}}, Front.IsCut}
-use Rattle.cap_log.specs.declared.lines.Line.{Line}
 use Rattle.cap_machine.specs.Helds.{Held}
 use Rattle.cap_judge.specs.declared.{faults.RefusedLine.RefusedLine, verdict.Verdict.{Verdict, TheVariants.{Yes, No}}}
 use Rattle.cap_judge.specs.{Judgings.{IsVerdictOf, BeginsLog, IsAnswerOf, JudgedBy, JudgedAll}, Logs.MayLackMemory}
-use Rattle.cap_judge.specs.{Logs.text_of, Readings.{AnswerAtEnd, VerdictAtEnd, VerdictWith, Goes, IsAnswered, lines_read}}
+use Rattle.cap_judge.specs.{Logs.text_of, Readings.{AnswerAtEnd, VerdictAtEnd, VerdictWith, IsAnswered}}
 use Rattle.cap_judge.specs.{Turns.{Stage, unread}, Verdicts.{IsVerdict, NoVerdictIn}}
-use Rattle.cap_judge.proofs.{JudgeLemmas.{guarded, no_lack}, TurnLaws.{begun, count_read}, TurnLemmas.goes_on}
+use Rattle.cap_judge.proofs.{JudgeLemmas.{guarded, no_lack}, TurnLaws.begun}
+use Rattle.cap_turns.specs.Turns.{Goes}
+use Rattle.cap_judge.specs.Turns.{log_turns}
 
 -- a verdict, want of memory, and a fault of the source
 pub answer_ok : (given : List ℕ) (ended : Bool) (verdict : Verdict) → IsVerdictOf given ended verdict → IsAnswerOf given ended (Ok verdict)
@@ -115,7 +116,7 @@ module _ {S : Type 0} (gave : S → S → List ℕ → Type 0) (ended : S → Bo
   }
 
   -- a source that failed behind lines that begin a log, and less than a line
-  pub pull_judged : (stage : Stage) (taken rest : List ℕ) → Goes unread taken stage → IsCut rest → given ≡ taken ++ rest
+  pub pull_judged : (stage : Stage) (taken rest : List ℕ) → Goes log_turns unread taken stage → IsCut rest → given ≡ taken ++ rest
       → gave old new given → JudgedBy gave ended old new (Err JudgeFault.Pull) held text
   pull_judged stage taken rest goes cut are gives =
       let b = begun taken stage goes in
@@ -136,26 +137,6 @@ module _ {S : Type 0} (gave : S → S → List ℕ → Type 0) (ended : S → Bo
         leads = tt;
         stops = tt;
       }
-
--- lines were read, or what is left grows
-by_lines : (lines : List Line) (front rest kept more : List ℕ) (old new : ℕ) → front ≡ text_of lines → kept ++ more ≡ front ++ rest
-    → length kept ≤ 95 → length rest ≤ 95 → length more ≢ 0 → new ≡ old + length lines → new ≤ 4294971394
-    → 96 * (4294971400 - new) + 96 - length rest < 96 * (4294971400 - old) + 96 - length kept
-by_lines [] front rest kept more old new are split cut left some is few =
-    let long = ap length split ∙ ap (λ (f : List ℕ). length (f ++ rest)) are in
-    omega (arith, long, length-append kept more, some, is, few)
-by_lines (line ∷ lines) front rest kept more old new are split cut left some is few = omega (arith, cut, left, is, few)
-
-pub closer : (old new : Stage) (taken front kept more rest : List ℕ) → Goes unread taken old → Goes old front new
-    → kept ++ more ≡ front ++ rest → IsCut kept → IsCut rest → length more ≢ 0
-    → 96 * (4294971400 - lines_read new.account new.due) + 96 - length rest
-    < 96 * (4294971400 - lines_read old.account old.due) + 96 - length kept
-unfolding goes_on
-closer old new taken front kept more rest was on split cut left some =
-    let before = count_read taken old was in
-    let after = count_read (taken ++ front) new (goes_on unread old new taken front was on) in
-    by_lines on.lines front rest kept more _ _ on.bytes_are split cut.0 left.0 some
-    (after.0 ∙ length-append was.lines on.lines ∙ ap (λ (n : ℕ). n + length on.lines) (sym before.0)) (omega (arith, after.0, after.1))
 
 -- Bytes that are judged at once
 

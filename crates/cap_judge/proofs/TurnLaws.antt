@@ -1,5 +1,5 @@
 -- From stages to logs and their first faults: a stage that is reached is that of a beginning.
-use Rattle.std.proofs.Common.{◌≡◌, ◌≢◌, ℕ, ◌+◌, ◌≤◌, inl, inr, Bool, true, false, List, [], ◌∷◌, ◌++◌, length, map}
+use Rattle.std.proofs.Common.{◌≡◌, ◌≢◌, ℕ, ◌+◌, ◌≤◌, ◌==◌, if◌then◌else◌, inl, inr, Bool, true, false, IsTrue, List, [], ◌∷◌, ◌++◌, length, map}
 use Rattle.std.proofs.Common.{refl, sym, ap, subst, ◌∙◌, append-nil, append_assoc, arith, not, None, Some, Option}
 use Rattle.std.proofs.{Common.length-append, lemmas.{Bool.{false≢true}, List.length-map, Option.{none-some, same_Some}}}
 use Rattle.cap_ops.specs.declared.refusal.Refusal.{Refusal, TheVariants.{BadLine, LineTooLong, Misplaced, Truncated}}
@@ -9,26 +9,29 @@ use Rattle.cap_log.specs.Parts.{ReadsAs as Spelled}
 use Rattle.cap_streams.specs.Front.{IsCut}
 use Rattle.cap_streams.proofs.FrontLemmas.{IsLine-more, IsTooLong-more}
 use Rattle.cap_log.proofs.SpellingLemmas.{one_spelling}
-use Rattle.cap_machine.specs.{declared.rules.Rules.{Rules, TheVariants.One}, Accounts.Account, Helds.{Held, account_of}}
+use Rattle.cap_machine.specs.{declared.rules.Rules.{Rules, TheVariants.One}, Accounts.{Account, is_new}, Helds.{Held, account_of}}
 use Rattle.cap_machine.specs.States.{DeclaredRoot}
 use Rattle.cap_machine.proofs.AccountLemmas.{account_after-grows}
+use Rattle.cap_turns.specs.Turns.{AreTurns, Body, Due, Ended, First, Goes, IsAtFault, Refused, Second, lines_by, refusal_by}
+use Rattle.cap_turns.specs.Verdicts.{IsLastFront, Lacks, long_refusal}
+use Rattle.cap_turns.specs.Readings.{Faults, Follows, RefusesNext, due_at_end, refused_by}
+use Rattle.cap_turns.proofs.{FollowLemmas.{clear_goes, faults_at, follows_more, refused_in}, LineLemmas.ended_front, OneEnd.one_reading}
 use Rattle.cap_judge.specs.declared.verdict.Verdict.{Verdict, TheVariants.{Yes, No}}
-use Rattle.cap_judge.specs.Judgings.{IsBehind, IsLastFront, IsVerdictOf, account_before}
+use Rattle.cap_judge.specs.Judgings.{IsBehind, IsVerdictOf, account_before}
 use Rattle.cap_judge.specs.Logs.{Beginning, Empty, NoMode, Body as BodyOf, Whole, body_lines, header_lines, lines_of}
 use Rattle.cap_judge.specs.Logs.{text_of, account_after, IsAccepted, IsFirstFault, LacksRoom, MayLackMemory, Refuses, RefusesLine}
-use Rattle.cap_judge.specs.{Logs.{RefusesWhole, RunsBy, has_form, line_checks}, Readings.{BeginsWhole, VerdictAtEnd}}
-use Rattle.cap_judge.specs.Readings.{VerdictWith, Faults, Follows, Goes, IsAtFault, IsReached, IsRest, Lacks, RefusesNext}
-use Rattle.cap_judge.specs.Readings.{Stands, due_at_end, lines_read, long_refusal, refused_at, verdict_so_far}
-use Rattle.cap_judge.specs.Turns.{Body, Due, Ended, Refused, Stage, refusal_at, unread}
+use Rattle.cap_judge.specs.{Logs.{RefusesWhole, RunsBy, has_form, line_checks, named_by_line}, Readings.{BeginsWhole, VerdictAtEnd}}
+use Rattle.cap_judge.specs.Readings.{IsReached, IsRest, Stands, VerdictWith, verdict_so_far}
+use Rattle.cap_judge.specs.Turns.{Stage, log_turns, unread}
 use Rattle.cap_judge.proofs.InTurn.{accepted_read, all_longer, due_after, stage_after, with_lines}
 use Rattle.cap_judge.proofs.JudgeLemmas.{no_form, IsUnended, behind_more, fault_behind, front_refused}
-use Rattle.cap_judge.proofs.{LogLemmas.accepted_in_range, OneVerdict.{IsAnswerFor, answer_stops, one_reading}}
-use Rattle.cap_judge.proofs.TurnLemmas.{faults_at, follows_more, allowed_form}
+use Rattle.cap_judge.proofs.{LogLemmas.accepted_in_range, OneVerdict.{IsAnswerFor, answer_stops}}
+use Rattle.cap_judge.proofs.TurnLemmas.{allowed_form, log_spelled}
 
 -- What a stage says of a beginning
 
 -- lines that are read lead to a beginning
-pub begun : (bytes : List ℕ) (new : Stage) → (goes : Goes unread bytes new)
+pub begun : (bytes : List ℕ) (new : Stage) → (goes : Goes log_turns unread bytes new)
     → (beginning : Beginning) × IsAccepted beginning × (lines_of beginning ≡ goes.lines) × (stage_after beginning ≡ new)
 begun bytes new goes =
     let all = all_longer Empty goes.lines new tt goes.in_range goes.reads in (with_lines Empty goes.lines, all.0, all.1, all.2)
@@ -55,7 +58,7 @@ body_count rules_are roots steps =
     )
 
 body_counted : (rules_are : Rules) (roots : List DeclaredRoot) (steps : List Step)
-    → lines_read (account_after rules_are roots steps) Body ≡ length (body_lines rules_are roots steps)
+    → lines_by log_turns (account_after rules_are roots steps) Body ≡ length (body_lines rules_are roots steps)
 body_counted rules_are roots steps =
     let grown = account_after-grows rules_are roots steps in
     omega (
@@ -71,7 +74,7 @@ end_count : (rules_are : Rules) (roots : List DeclaredRoot) (steps : List Step)
 end_count rules_are roots steps = length-append (body_lines rules_are roots steps) (Line.End (length steps) ∷ [])
 
 counted : (beginning : Beginning)
-    → (let stage = stage_after beginning in lines_read stage.account stage.due ≡ length (lines_of beginning))
+    → (let stage = stage_after beginning in lines_by log_turns stage.state stage.due ≡ length (lines_of beginning))
 counted (BodyOf rules_are roots steps) = body_counted rules_are roots steps
 counted (Whole rules_are roots steps) = omega (arith, body_counted rules_are roots steps, end_count rules_are roots steps)
 counted beginning = refl
@@ -89,13 +92,32 @@ few_lines (Whole rules_are roots steps) runs =
     omega (arith, runs.few_roots, runs.few_steps, few_header rules_are, body, end_count rules_are roots steps)
 few_lines beginning accepted = omega arith
 
-pub count_read : (bytes : List ℕ) (new : Stage) → (goes : Goes unread bytes new)
-    → (lines_read new.account new.due ≡ length goes.lines) × (length goes.lines ≤ 4294971394)
+pub count_read : (bytes : List ℕ) (new : Stage) → (goes : Goes log_turns unread bytes new)
+    → (lines_by log_turns new.state new.due ≡ length goes.lines) × (length goes.lines ≤ 4294971394)
 count_read bytes new goes =
     let b = begun bytes new goes in (
-      subst (λ (s : Stage). lines_read s.account s.due ≡ length goes.lines) b.3 (counted b.0 ∙ ap length b.2),
+      subst (λ (s : Stage). lines_by log_turns s.state s.due ≡ length goes.lines) b.3 (counted b.0 ∙ ap length b.2),
       subst (λ (ls : List Line). length ls ≤ 4294971394) b.2 (few_lines b.0 b.1),
     )
+
+-- no line leads to a faulty one
+next_clear : (line : Line) → IsAtFault (log_turns.next line) → ⊥
+next_clear (Line.Version version) is = by_version (version == 1) is
+  where
+    by_version : (one : Bool) → IsAtFault {Refusal = Refusal} (if one then Body else Second) → ⊥
+    by_version true is = is
+    by_version false is = is
+next_clear (Line.End count) is = is
+next_clear line is = is
+
+-- how lines are read
+pub log_lawful : AreTurns log_turns unread
+log_lawful = record {
+  spelled = log_spelled;
+  clear = next_clear;
+  begun = λ is. is;
+  counted = λ bytes stage goes. (count_read bytes stage goes).0;
+}
 
 -- A line that is refused at a stage is refused after its beginning, whatever follows it
 
@@ -107,7 +129,7 @@ body_refuses account text line false refusal spells is refused =
     inl (no_form account.rules text line spells is, sym (same_Some BadLine refusal refused))
 
 pub refuses_text : (beginning : Beginning) (text : List ℕ) (line : Option Line) (refusal : Refusal) → IsUnended beginning
-    → Spelled IsInRange spelling text line → refusal_at (stage_after beginning).account (stage_after beginning).due line ≡ Some refusal
+    → Spelled IsInRange spelling text line → refusal_by log_turns (stage_after beginning).state (stage_after beginning).due line ≡ Some refusal
     → RefusesWhole beginning text refusal
 refuses_text Empty text (Some (Line.Version version)) refusal goes is refused = absurd (none-some _ refused)
 refuses_text Empty text (Some line) refusal goes is refused =
@@ -123,40 +145,40 @@ refuses_text (BodyOf rules_are roots steps) text None refusal goes none refused 
     inl (λ line by. none line by.0.0 by.0.1, sym (same_Some _ _ refused))
 refuses_text (Whole rules_are roots steps) text line refusal goes is refused = absurd goes
 
-long_is : (beginning : Beginning) → IsUnended beginning → long_refusal (stage_after beginning).due ≡ LineTooLong
+long_is : (beginning : Beginning) → IsUnended beginning → long_refusal log_turns (stage_after beginning).due ≡ LineTooLong
 long_is (Whole rules_are roots steps) goes = absurd goes
 long_is beginning goes = refl
 
 -- such bytes are some
-some_next : (stage : Stage) (bytes after : List ℕ) (refusal : Refusal) → RefusesNext stage bytes refusal → bytes ++ after ≢ []
-some_next stage bytes after refusal (inl (text, more, line, whole, is, refused)) = λ none.
+some_next : (stage : Stage) (bytes after : List ℕ) (refusal : Refusal) → RefusesNext log_turns stage bytes refusal → bytes ++ after ≢ []
+some_next stage bytes after refusal (inl (text, more, whole, refused)) = λ none.
     omega (arith, ap length (sym (IsLine-more bytes text more after whole).whole ∙ none), length-append text (10 ∷ more ++ after))
 some_next stage bytes after refusal (inr long) = λ none. omega (arith, long.0.0, ap length none, length-append bytes after)
 
 unended_refuses : (beginning : Beginning) (rest : List ℕ) (refusal : Refusal) → IsUnended beginning
-    → RefusesNext (stage_after beginning) rest refusal → (after : List ℕ) → Refuses beginning (rest ++ after) refusal
-unended_refuses beginning rest refusal goes (inl (text, more, line, whole, is, refused)) after =
+    → RefusesNext log_turns (stage_after beginning) rest refusal → (after : List ℕ) → Refuses beginning (rest ++ after) refusal
+unended_refuses beginning rest refusal goes (inl (text, more, whole, (line, is, refused))) after =
     front_refused beginning (rest ++ after) refusal goes
     (inr (inr (text, more ++ after, IsLine-more rest text more after whole, refuses_text beginning text line refusal goes is refused)))
 unended_refuses beginning rest refusal goes (inr long) after =
     front_refused beginning (rest ++ after) refusal goes (inl (IsTooLong-more rest after long.0, long.1 ∙ long_is beginning goes))
 
 ended_refuses : (account : Account) (rest : List ℕ) (refusal : Refusal)
-    → RefusesNext (record { account = account; due = Ended }) rest refusal → refusal ≡ Misplaced
-ended_refuses account rest refusal (inl (text, more, line, whole, is, refused)) = sym (same_Some Misplaced refusal refused)
+    → RefusesNext log_turns (record { state = account; due = Ended }) rest refusal → refusal ≡ Misplaced
+ended_refuses account rest refusal (inl (text, more, whole, (line, is, refused))) = sym (same_Some Misplaced refusal refused)
 ended_refuses account rest refusal (inr long) = long.1
 
-refuses : (beginning : Beginning) (rest : List ℕ) (refusal : Refusal) → RefusesNext (stage_after beginning) rest refusal
+refuses : (beginning : Beginning) (rest : List ℕ) (refusal : Refusal) → RefusesNext log_turns (stage_after beginning) rest refusal
     → (after : List ℕ) → Refuses beginning (rest ++ after) refusal
 refuses (Whole rules_are roots steps) rest refusal refused after =
     let stage = stage_after (Whole rules_are roots steps) in
-    (some_next stage rest after refusal refused, ended_refuses stage.account rest refusal refused)
+    (some_next stage rest after refusal refused, ended_refuses stage.state rest refusal refused)
 refuses beginning rest refusal refused after = unended_refuses beginning rest refusal tt refused after
 
 -- A stage that is reached
 
 -- what begins with the first faulty line stands after the lines before it
-pub fault_reached : (front rest : List ℕ) (middle new : Stage) → Goes unread front middle → Faults middle rest new
+pub fault_reached : (front rest : List ℕ) (middle new : Stage) → Goes log_turns unread front middle → Faults log_turns middle rest new
     → (is : IsReached new (front ++ rest)) × (is.rest ≡ rest)
 fault_reached front rest middle new goes (inl (at_fault, same)) =
     let b = begun front middle goes in absurd (not_fault b.0 (subst (λ (s : Stage). IsAtFault s.due) (sym b.3) at_fault))
@@ -166,36 +188,31 @@ fault_reached front rest middle new goes (inr (clear, refusal, text, refused, is
         beginning = b.0;
         rest = rest;
         behind = record { bytes_are = ap (λ (f : List ℕ). f ++ rest) (goes.bytes_are ∙ ap text_of (sym b.2)); accepted = b.1 };
-        account = ap (λ (s : Stage). s.account) new_is ∙ ap (λ (s : Stage). s.account) (sym b.3);
+        account = ap (λ (s : Stage). s.state) new_is ∙ ap (λ (s : Stage). s.state) (sym b.3);
         rest_is = subst (λ (s : Stage). IsRest s.due b.0 rest) (sym new_is) (
-          ap (λ (n : ℕ). n + 1) (subst (λ (s : Stage). lines_read s.account s.due ≡ length (lines_of b.0)) b.3 (counted b.0)),
+          ap (λ (n : ℕ). n + 1) (subst (λ (s : Stage). lines_by log_turns s.state s.due ≡ length (lines_of b.0)) b.3 (counted b.0)),
           is_front,
-          refuses b.0 rest refusal (subst (λ (s : Stage). RefusesNext s rest refusal) (sym b.3) refused),
+          refuses b.0 rest refusal (subst (λ (s : Stage). RefusesNext log_turns s rest refusal) (sym b.3) refused),
         );
       },
       refl,
     )
 
-pub reached : (bytes : List ℕ) (new : Stage) → Follows unread bytes new → IsReached new bytes
+pub reached : (bytes : List ℕ) (new : Stage) → Follows log_turns unread bytes new → IsReached new bytes
 reached bytes new (inl goes) =
     let b = begun bytes new goes in
     record {
       beginning = b.0;
       rest = [];
       behind = record { bytes_are = goes.bytes_are ∙ ap text_of (sym b.2) ∙ sym (append-nil _); accepted = b.1 };
-      account = ap (λ (s : Stage). s.account) (sym b.3);
+      account = ap (λ (s : Stage). s.state) (sym b.3);
       rest_is = subst (λ (s : Stage). IsRest s.due b.0 []) b.3 (no_rest b.0);
     }
 reached bytes new (inr (front, rest, are, middle, goes, faults)) =
     subst (IsReached new) (sym are) (fault_reached front rest middle new goes faults).0
 
--- which line is faulty
-pub fault_in : (due : Due) → IsAtFault due → (line : ℕ) × (refusal : Refusal) × (text : List ℕ) × (due ≡ Refused line refusal text)
-fault_in (Refused line refusal text) is = (line, refusal, text, refl)
-fault_in due is = absurd is
-
 -- where no line is faulty, all that was read begins a log
-all_read : (due : Due) (beginning : Beginning) (rest : List ℕ) → (IsAtFault due → ⊥) → IsRest due beginning rest → rest ≡ []
+all_read : (due : Due Refusal) (beginning : Beginning) (rest : List ℕ) → (IsAtFault due → ⊥) → IsRest due beginning rest → rest ≡ []
 all_read (Refused line refusal text) beginning rest clear is = absurd (clear tt)
 all_read due beginning rest clear is = is
 
@@ -207,17 +224,11 @@ begins bytes stage is clear = record {
   accepted = is.behind.accepted;
 }
 
--- the text of a front, whether the source has ended or not
-pub ended_front : (rest : List ℕ) (ended : Bool) (text : List ℕ) → IsLastFront rest false text → IsLastFront rest ended text
-ended_front rest ended text (inl long) = inl long
-ended_front rest ended text (inr (inl cut)) = absurd (false≢true cut.1.1)
-ended_front rest ended text (inr (inr line)) = inr (inr line)
-
 -- where one is, its no stands, whatever bytes follow
 module _ (bytes : List ℕ) (stage : Stage) (line : ℕ) (refusal : Refusal) (text : List ℕ) (is : IsReached stage bytes)
     (due : stage.due ≡ Refused line refusal text) where
   found : IsRest (Refused line refusal text) is.beginning is.rest
-  found = subst (λ (d : Due). IsRest d is.beginning is.rest) due is.rest_is
+  found = subst (λ (d : Due Refusal). IsRest d is.beginning is.rest) due is.rest_is
 
   first_fault : (more : List ℕ) → IsFirstFault (bytes ++ more) line refusal
   first_fault more =
@@ -230,7 +241,7 @@ module _ (bytes : List ℕ) (stage : Stage) (line : ℕ) (refusal : Refusal) (te
   fault_stands false = first_fault
 
   -- and the machine stands before it
-  pub fault_ends : (held : Held) → account_of held ≡ stage.account → (ended : Bool) → VerdictWith bytes ended held (No line refusal) text
+  pub fault_ends : (held : Held) → account_of held ≡ stage.state → (ended : Bool) → VerdictWith bytes ended held (No line refusal) text
   fault_ends held same ended = (
     fault_stands ended,
     tt,
@@ -244,7 +255,7 @@ module _ (bytes : List ℕ) (stage : Stage) (line : ℕ) (refusal : Refusal) (te
     },
   )
 
-pub stands_so_far : (bytes : List ℕ) (account_is : Account) (due : Due) → IsReached (record { account = account_is; due = due }) bytes
+pub stands_so_far : (bytes : List ℕ) (account_is : Account) (due : Due Refusal) → IsReached (record { state = account_is; due = due }) bytes
     → Stands bytes (verdict_so_far due)
 stands_so_far bytes account (Refused line refusal text) is = fault_stands bytes _ line refusal text is refl false
 stands_so_far bytes account due is = begins bytes _ is (λ f. f)
@@ -262,7 +273,7 @@ no_front text (inr (inr line)) = some_bytes line.0 line.1 line.2.whole
 pub nothing_left : (bytes : List ℕ) (beginning : Beginning) (rest : List ℕ) (verdict : Verdict) → BeginsWhole bytes
     → IsBehind bytes beginning rest → IsAnswerFor beginning rest verdict → [] ≡ rest
 nothing_left bytes beginning rest verdict whole here answers =
-    (one_reading unread (stage_after whole.beginning) (stage_after beginning) (lines_of whole.beginning) (lines_of beginning) [] rest
+    (one_reading log_turns log_spelled unread (stage_after whole.beginning) (stage_after beginning) (lines_of whole.beginning) (lines_of beginning) [] rest
     (accepted_in_range _ whole.accepted) (accepted_in_range _ here.accepted) (accepted_read _ whole.accepted) (accepted_read _ here.accepted)
     (λ line more range allowed front. some_bytes (spelling line) more front) (answer_stops beginning rest verdict answers)
     (append-nil _ ∙ sym whole.bytes_are ∙ here.bytes_are)).1
@@ -270,24 +281,37 @@ nothing_left bytes beginning rest verdict whole here answers =
 -- so no line of it is faulty
 pub never_faulty : (bytes : List ℕ) (stage : Stage) → IsReached stage bytes → BeginsWhole bytes → IsAtFault stage.due → ⊥
 never_faulty bytes stage is whole at_fault =
-    let (line, refusal, text, due) = fault_in stage.due at_fault in
-    let found = subst (λ (d : Due). IsRest d is.beginning is.rest) due is.rest_is in
+    let (line, refusal, text, due) = refused_in stage.due at_fault in
+    let found = subst (λ (d : Due Refusal). IsRest d is.beginning is.rest) due is.rest_is in
     let refused = subst (λ (r : List ℕ). Refuses is.beginning r refusal) (append-nil is.rest) (found.2 []) in
     let none = nothing_left bytes is.beginning is.rest (No line refusal) whole is.behind (found.0, refused) in
     no_front text (subst (λ (r : List ℕ). IsLastFront r false text) (sym none) found.1)
 
-pub none_so_far : (bytes : List ℕ) (account_is : Account) (due : Due) → IsReached (record { account = account_is; due = due }) bytes
+pub none_so_far : (bytes : List ℕ) (account_is : Account) (due : Due Refusal) → IsReached (record { state = account_is; due = due }) bytes
     → BeginsWhole bytes → verdict_so_far due ≡ None
 none_so_far bytes account (Refused line refusal text) is whole = absurd (never_faulty bytes _ is whole tt)
 none_so_far bytes account due is whole = refl
 
 -- Want of memory
 
-lacks_line : (beginning : Beginning) (rest more : List ℕ) → IsAccepted beginning → Lacks (stage_after beginning) rest more
+-- a line that may want it stands in a body
+in_body : (account : Account) (due : Due Refusal) (line : Line) → refusal_by log_turns account due (Some line) ≡ None
+    → IsTrue (is_new account (named_by_line account line)) → due ≡ Body
+in_body account Body line allowed wants = refl
+in_body account First (Line.Version version) allowed wants = absurd (false≢true wants)
+in_body account First line allowed wants = absurd (none-some _ (sym allowed))
+in_body account Second (Line.Mode mode) allowed wants = absurd (false≢true wants)
+in_body account Second line allowed wants = absurd (none-some _ (sym allowed))
+in_body account due line allowed wants = absurd (none-some _ (sym allowed))
+
+pub lacks_in_body : (stage : Stage) (rest more : List ℕ) → Lacks log_turns stage rest more → stage.due ≡ Body
+lacks_in_body stage rest more lacks = in_body stage.state stage.due lacks.line lacks.allowed lacks.wants
+
+lacks_line : (beginning : Beginning) (rest more : List ℕ) → IsAccepted beginning → Lacks log_turns (stage_after beginning) rest more
     → MayLackMemory (text_of (lines_of beginning) ++ rest) more
 lacks_line (BodyOf rules_are roots steps) rest more runs lacks =
     let line = lacks.line in
-    let allowed = allowed_form (account_after rules_are roots steps) line lacks.names.1 in
+    let allowed = allowed_form (account_after rules_are roots steps) line lacks.allowed in
     record {
       rules = rules_are;
       roots = roots;
@@ -302,39 +326,34 @@ lacks_line (BodyOf rules_are roots steps) rest more runs lacks =
         subst (λ (r : Rules). has_form r line ≡ true) (account_after-grows rules_are roots steps).rules_stay allowed.0,
       );
       free = allowed.1;
-      first = lacks.names.2;
+      first = lacks.wants;
     }
-lacks_line beginning rest more accepted lacks = let no : ⊥ = cc (lacks.names.0) in absurd no
+lacks_line beginning rest more accepted lacks = let no : ⊥ = cc (lacks_in_body (stage_after beginning) rest more lacks) in absurd no
 
--- where no line is faulty, all were read
-pub clear_goes : (old : Stage) (bytes : List ℕ) (new : Stage) → Follows old bytes new → (IsAtFault new.due → ⊥) → Goes old bytes new
-clear_goes old bytes new (inl goes) clear = goes
-clear_goes old bytes new (inr (front, rest, are, middle, goes, faults)) clear = absurd (clear (faults_at middle rest new faults))
-
-pub lacks_memory : (bytes rest more : List ℕ) (stage : Stage) → Follows unread bytes stage → Lacks stage rest more
+pub lacks_memory : (bytes rest more : List ℕ) (stage : Stage) → Follows log_turns unread bytes stage → Lacks log_turns stage rest more
     → MayLackMemory (bytes ++ rest) more
 lacks_memory bytes rest more stage follows lacks =
-    let goes = clear_goes unread bytes stage follows (λ at_fault. subst IsAtFault lacks.names.0 at_fault) in
+    let goes = clear_goes log_turns unread bytes stage follows (λ at_fault. subst IsAtFault (lacks_in_body stage rest more lacks) at_fault) in
     let b = begun bytes stage goes in
     subst (λ (t : List ℕ). MayLackMemory (t ++ rest) more) (ap text_of b.2 ∙ sym goes.bytes_are)
-    (lacks_line b.0 rest more b.1 (subst (λ (s : Stage). Lacks s rest more) (sym b.3) lacks))
+    (lacks_line b.0 rest more b.1 (subst (λ (s : Stage). Lacks log_turns s rest more) (sym b.3) lacks))
 
 -- where at least so many granules were named
 lacks_room_line : (room : ℕ) (beginning : Beginning) (rest more : List ℕ) → IsAccepted beginning
-    → Lacks (stage_after beginning) rest more → room ≤ (stage_after beginning).account.granules
+    → Lacks log_turns (stage_after beginning) rest more → room ≤ (stage_after beginning).state.granules
     → LacksRoom room (text_of (lines_of beginning) ++ rest)
 unfolding lacks_line
 lacks_room_line room (BodyOf rules_are roots steps) rest more runs lacks many =
     (more, lacks_line (BodyOf rules_are roots steps) rest more runs lacks, many)
-lacks_room_line room beginning rest more accepted lacks many = let no : ⊥ = cc (lacks.names.0) in absurd no
+lacks_room_line room beginning rest more accepted lacks many = let no : ⊥ = cc (lacks_in_body (stage_after beginning) rest more lacks) in absurd no
 
-pub lacks_room : (room : ℕ) (bytes rest more : List ℕ) (stage : Stage) → Goes unread bytes stage → Lacks stage rest more
-    → room ≤ stage.account.granules → LacksRoom room (bytes ++ rest)
+pub lacks_room : (room : ℕ) (bytes rest more : List ℕ) (stage : Stage) → Goes log_turns unread bytes stage → Lacks log_turns stage rest more
+    → room ≤ stage.state.granules → LacksRoom room (bytes ++ rest)
 lacks_room room bytes rest more stage goes lacks many =
     let b = begun bytes stage goes in
     subst (λ (t : List ℕ). LacksRoom room (t ++ rest)) (ap text_of b.2 ∙ sym goes.bytes_are)
-    (lacks_room_line room b.0 rest more b.1 (subst (λ (s : Stage). Lacks s rest more) (sym b.3) lacks)
-    (subst (λ (s : Stage). room ≤ s.account.granules) (sym b.3) many))
+    (lacks_room_line room b.0 rest more b.1 (subst (λ (s : Stage). Lacks log_turns s rest more) (sym b.3) lacks)
+    (subst (λ (s : Stage). room ≤ s.state.granules) (sym b.3) many))
 
 -- Where the bytes end
 
@@ -361,13 +380,13 @@ whole_told rules_are roots steps bytes held (No line refusal) text runs are acco
 -- a faulty line, cut or after the end line
 cut_told : (beginning : Beginning) (rest bytes : List ℕ) (held : Held) (refusal : Refusal) (verdict : Verdict) (text : List ℕ)
     → IsBehind bytes beginning rest → IsCut rest → Refuses beginning rest refusal → account_of held ≡ account_before beginning
-    → (let stage = stage_after beginning in due_at_end stage.account stage.due rest ≡ refused_at stage.account stage.due refusal rest)
+    → (let stage = stage_after beginning in due_at_end log_turns stage.state stage.due rest ≡ refused_by log_turns stage.state stage.due refusal rest)
     → VerdictAtEnd (stage_after beginning) rest verdict text → VerdictWith bytes true held verdict text
 cut_told beginning rest bytes held refusal (Yes steps roots) text here cut refused account is ends =
     let at = sym is ∙ ends.0 in let no : ⊥ = cc in absurd no
 cut_told beginning rest bytes held refusal (No line why) text here cut refused account is ends =
     let at = sym is ∙ ends in
-    let number : lines_read (stage_after beginning).account (stage_after beginning).due + 1 ≡ line = cc in
+    let number : lines_by log_turns (stage_after beginning).state (stage_after beginning).due + 1 ≡ line = cc in
     let same : refusal ≡ why = cc in
     let whole : rest ≡ text = cc in
     let line_is : line ≡ length (lines_of beginning) + 1 = sym number ∙ ap (λ (n : ℕ). n + 1) (counted beginning) in (
@@ -396,26 +415,26 @@ end_told beginning rest bytes held verdict text here cut account ends =
 
 -- after a faulty line
 pub refused_told : (bytes rest : List ℕ) (stage : Stage) (held : Held) (verdict : Verdict) (text : List ℕ) → IsReached stage bytes
-    → IsAtFault stage.due → account_of held ≡ stage.account → VerdictAtEnd stage rest verdict text → (ended : Bool)
+    → IsAtFault stage.due → account_of held ≡ stage.state → VerdictAtEnd stage rest verdict text → (ended : Bool)
     → VerdictWith bytes ended held verdict text
 refused_told bytes rest stage held (Yes steps roots) text is at_fault same ends ended =
-    let due = (fault_in stage.due at_fault).3 in
-    let at = subst (λ (d : Due). due_at_end stage.account d rest ≡ Ended) due ends.0 in let no : ⊥ = cc in absurd no
+    let due = (refused_in stage.due at_fault).3 in
+    let at = subst (λ (d : Due Refusal). due_at_end log_turns stage.state d rest ≡ Ended) due ends.0 in let no : ⊥ = cc in absurd no
 refused_told bytes rest stage held (No line refusal) text is at_fault same ends ended =
-    let due = (fault_in stage.due at_fault).3 in
-    let at = due ∙ subst (λ (d : Due). due_at_end stage.account d rest ≡ Refused line refusal text) due ends in
+    let due = (refused_in stage.due at_fault).3 in
+    let at = due ∙ subst (λ (d : Due Refusal). due_at_end log_turns stage.state d rest ≡ Refused line refusal text) due ends in
     fault_ends bytes stage line refusal text is at held same ended
 
-pub told : (bytes rest : List ℕ) (stage : Stage) (held : Held) (verdict : Verdict) (text : List ℕ) → Follows unread bytes stage
-    → account_of held ≡ stage.account → IsCut rest → VerdictAtEnd stage rest verdict text → VerdictWith (bytes ++ rest) true held verdict text
+pub told : (bytes rest : List ℕ) (stage : Stage) (held : Held) (verdict : Verdict) (text : List ℕ) → Follows log_turns unread bytes stage
+    → account_of held ≡ stage.state → IsCut rest → VerdictAtEnd stage rest verdict text → VerdictWith (bytes ++ rest) true held verdict text
 told bytes rest stage held verdict text (inl goes) same cut ends =
     let b = begun bytes stage goes in
     let here : IsBehind (bytes ++ rest) b.0 rest = record {
       bytes_are = ap (λ (t : List ℕ). t ++ rest) (goes.bytes_are ∙ ap text_of (sym b.2));
       accepted = b.1;
     } in
-    end_told b.0 rest (bytes ++ rest) held verdict text here cut (same ∙ ap (λ (s : Stage). s.account) (sym b.3))
+    end_told b.0 rest (bytes ++ rest) held verdict text here cut (same ∙ ap (λ (s : Stage). s.state) (sym b.3))
     (subst (λ (s : Stage). VerdictAtEnd s rest verdict text) (sym b.3) ends)
 told bytes rest stage held verdict text (inr faulty) same cut ends =
-    refused_told (bytes ++ rest) rest stage held verdict text (reached (bytes ++ rest) stage (follows_more unread bytes rest stage faulty))
-    (faults_at faulty.3 faulty.1 stage faulty.5) same ends true
+    refused_told (bytes ++ rest) rest stage held verdict text (reached (bytes ++ rest) stage (follows_more log_turns unread bytes rest stage faulty))
+    (faults_at log_turns faulty.3 faulty.1 stage faulty.5) same ends true

@@ -1,14 +1,15 @@
 -- What the rules give for the step at fault, where its line records another result (this profile's own).
 use Rattle.std.specs.Prelude.{◌≡◌, ◌≢◌, ℕ, List, ◌∷◌, ◌++◌, Option, Some, None}
 use Rattle.cap_word.specs.declared.word.Cap.{Cap}
-use Rattle.cap_ops.specs.{declared.refusal.Refusal.TheVariants.WrongResult, Checks.first_of}
+use Rattle.cap_ops.specs.{declared.refusal.Refusal.{Refusal, TheVariants.WrongResult}, Checks.first_of}
 use Rattle.cap_log.specs.{declared.{kinds.Step.Step, lines.Place.Place}, Lines.Spells}
 use Rattle.cap_log.specs.declared.lines.Line.TheVariants as lines
 use Rattle.cap_machine.specs.{declared.{rules.Rules.Rules, shown.Given.Given}, Accounts.{Account, row_in, step_checks}}
 use Rattle.cap_machine.specs.{States.DeclaredRoot, Steps.{Access, Recorded, Row, Written, ReadNumber}}
 use Rattle.cap_machine.specs.declared.shown.Given.TheVariants as givens
 use Rattle.cap_judge.specs.declared.verdict.Expected.{Expected, TheVariants.{Capability, Number}}
-use Rattle.cap_judge.specs.{Logs.{RunsBy, IsFirstFault, account_after, body_lines, text_of}, Turns.{Due, Refused}}
+use Rattle.cap_judge.specs.Logs.{RunsBy, IsFirstFault, account_after, body_lines, text_of}
+use Rattle.cap_turns.specs.Turns.{Due, Refused}
 
 -- what is written, or the number in memory, where a line records it
 abbrev pub given_for : Option (Place × Cap) → Recorded → Option Access → Option Expected
@@ -51,7 +52,7 @@ abbrev pub GivesForText : Account → List ℕ → Option Expected → Type 0
 GivesForText account text result = (step : Step) → Spells text (lines.Step step) → GivesFor account step result
 
 -- what is told of the faulty line: what the rules give for its step, if it is refused for its result, and else nothing
-abbrev pub ExpectsAt : Account → Due → Option Expected → Type 0
+abbrev pub ExpectsAt : Account → Due Refusal → Option Expected → Type 0
 ExpectsAt account (Refused line refusal text) result =
     (refusal ≡ WrongResult → GivesForText account text result) × (refusal ≢ WrongResult → result ≡ None)
 ExpectsAt account due result = result ≡ None

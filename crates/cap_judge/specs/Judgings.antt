@@ -1,7 +1,8 @@
 -- The answer on the bytes that a source gave (this profile's own, as are all below).
-use Rattle.std.specs.Prelude.{◌≡◌, ◌≢◌, ℕ, ◌+◌, Bool, true, false, List, ◌++◌, length, take, Result, Err, IfOk, IfErr}
+use Rattle.std.specs.Prelude.{◌≡◌, ◌≢◌, ℕ, ◌+◌, Bool, true, false, List, ◌++◌, length, Result, Err, IfOk, IfErr}
 use Rattle.cap_streams.specs.declared.judging.judge_faults.JudgeFault.{JudgeFault, TheVariants.{Pull, NoMemory}}
-use Rattle.cap_streams.specs.Front.{IsCut, FrontIs}
+use Rattle.cap_streams.specs.Front.{IsCut}
+use Rattle.cap_turns.specs.Verdicts.{IsLastFront}
 use Rattle.cap_log.specs.declared.kinds.Step.{Step}
 use Rattle.cap_machine.specs.{declared.rules.Rules.{Rules, TheVariants.One}, Accounts.{Account, limits_of, no_account}}
 use Rattle.cap_machine.specs.{Helds.{Held, account_of}, States.DeclaredRoot}
@@ -26,10 +27,6 @@ account_before Empty = no_account One (limits_of One)
 account_before NoMode = no_account One (limits_of One)
 account_before (Body rules roots steps) = account_after rules roots steps
 account_before (Whole rules roots steps) = account_after rules roots steps
-
--- the text is the front of these bytes, and where that is cut their source has ended
-abbrev pub IsLastFront : List ℕ → Bool → List ℕ → Type 0
-IsLastFront rest ended text = FrontIs rest (text ≡ take 96 rest) ((text ≡ rest) × (ended ≡ true)) (λ line. text ≡ line)
 
 -- the bytes are the text of a beginning that is accepted, whose account is that of what a machine holds, and the line
 -- of this number, whose text is this

@@ -1,23 +1,23 @@
 -- What a judge has read of the bytes that it was handed (this profile's own, as are all below).
-use Rattle.std.specs.Prelude.{◌≡◌, ◌≢◌, ◌⊎◌, ℕ, ◌+◌, Bool, false, IsTrue, List, [], ◌++◌, length, map, Option, None, Some}
-use Rattle.std.specs.{Prelude.{Result, Ok, Err}, Borrow.Bor, List.AllByRecursion}
-use Rattle.cap_ops.specs.declared.refusal.Refusal.{Refusal, TheVariants.{LineTooLong, Misplaced, Truncated}}
+use Rattle.std.specs.Prelude.{◌≡◌, ◌≢◌, ℕ, ◌+◌, Bool, false, List, [], ◌++◌, length, map, Option, None, Some}
+use Rattle.std.specs.{Prelude.{Result, Ok, Err}, Borrow.Bor}
+use Rattle.cap_ops.specs.declared.refusal.Refusal.{Refusal}
 use Rattle.cap_streams.specs.{declared.judging.judge_faults.JudgeFault.JudgeFault, FaultLines.bytes_of}
-use Rattle.cap_streams.specs.Front.{IsCut, IsLine, IsTooLong}
-use Rattle.cap_log.specs.{declared.{kinds.Step.Step, lines.Line.Line}, Lines.{IsInRange, Spells, spelling}}
-use Rattle.cap_log.specs.Parts.{Begins, ReadsAs as Spelled}
+use Rattle.cap_log.specs.{declared.{kinds.Step.Step, lines.Line.Line}, Lines.{IsInRange, Spells, spelling}, Parts.Begins}
 use Rattle.cap_log.specs.declared.lines.Line.TheVariants as lines
-use Rattle.cap_machine.specs.{declared.ends.StepEnd.StepEnd, Accounts.{Account, is_new}, Helds.{Held, IsFull, account_of}}
+use Rattle.cap_machine.specs.{declared.ends.StepEnd.StepEnd, Helds.{Held, IsFull, account_of}}
 use Rattle.cap_machine.specs.declared.ends.StepEnd.TheVariants as ends
-use Rattle.cap_judge.specs.declared.{judges.{Judge.Judge, Stop.Stop}, verdict.Verdict.{Verdict, TheVariants.{Yes, No}}}
-use Rattle.cap_judge.specs.Judgings.{IsBehind, IsLastFront, IsVerdictOf, LeadsAfter, StopsIn, account_before}
-use Rattle.cap_judge.specs.Logs.{Beginning, lines_of, text_of, IsAccepted, Refuses, header_lines, named_by_line}
-use Rattle.cap_judge.specs.Turns.{Allows, Body, Due, Ended, First, Reads, Refused, Second, Stage, behind, refusal_at}
-use Rattle.cap_judge.specs.Turns.{unread}
+use Rattle.cap_turns.specs.declared.stops.Stop.{Stop}
+use Rattle.cap_turns.specs.Turns.{Body, Due, Ended, First, Goes, IsAtFault, Refused, Second}
+use Rattle.cap_turns.specs.{Readings.{Follows, StopsAt, Takes, due_at_end}, Verdicts.{IsLastFront, RefusesWhole}}
+use Rattle.cap_turns.specs.Readings as turns
+use Rattle.cap_judge.specs.declared.{judges.Judge.Judge, verdict.Verdict.{Verdict, TheVariants.{Yes, No}}}
+use Rattle.cap_judge.specs.Judgings.{IsBehind, IsVerdictOf, LeadsAfter, StopsIn, account_before}
+use Rattle.cap_judge.specs.Logs.{Beginning, lines_of, text_of, IsAccepted, Refuses}
+use Rattle.cap_judge.specs.Turns.{Stage, log_turns, unread}
 use Rattle.cap_judge.specs.declared.faults.RefusedLine as faults
 use Rattle.cap_judge.specs.declared.judges.Due as code
 use Rattle.cap_judge.specs.declared.judges.Due.TheVariants as dues
-use Rattle.cap_judge.specs.declared.judges.Stop.TheVariants as stops
 
 -- what a judge knows: what its machine holds, and what the next line has to be
 pub record Known : Type 0 where
@@ -37,7 +37,7 @@ abbrev pub IsFullJudge : {M : Type 0} → Judge M → Type 0
 IsFullJudge judge = IsFull judge.machine
 
 -- what the code's stage says
-abbrev pub due_of : code.Due → Due
+abbrev pub due_of : code.Due → Due Refusal
 due_of dues.First = First
 due_of dues.Second = Second
 due_of dues.Body = Body
@@ -46,129 +46,63 @@ due_of (dues.Refused fault) = Refused fault.line fault.refusal (bytes_of fault.t
 
 -- how far a log is read, by what a machine holds and the code's stage
 abbrev pub at : code.Due → Held → Stage
-at stage held = record { account = account_of held; due = due_of stage }
+at stage held = record { state = account_of held; due = due_of stage }
 
 -- how far a judge has read
 abbrev pub stage_of : {M : Type 0} → Judge M → Stage
 stage_of judge = at judge.due judge.machine
 
--- a line is faulty
-abbrev pub IsAtFault : Due → Type 0
-IsAtFault (Refused line refusal text) = Unit {0}
-IsAtFault due = ⊥
+-- the refusal with which a line is not taken, or none where memory is wanted
+abbrev pub end_of : StepEnd → Option Refusal
+end_of (ends.Refused refusal) = Some refusal
+end_of ends.NoMemory = None
 
--- how many lines were read, where none is faulty
-abbrev pub lines_read : Account → Due → ℕ
-lines_read account First = 0
-lines_read account Second = 1
-lines_read account Body = length (header_lines account.rules) + account.roots + account.steps
-lines_read account due = length (header_lines account.rules) + account.roots + account.steps + 1
-
--- the next line as the faulty one
-abbrev pub refused_at : Account → Due → Refusal → List ℕ → Due
-refused_at account due refusal text = Refused (lines_read account due + 1) refusal text
-
--- why more bytes than a line has are refused
-abbrev pub long_refusal : Due → Refusal
-long_refusal First = LineTooLong
-long_refusal Second = LineTooLong
-long_refusal Body = LineTooLong
-long_refusal due = Misplaced
-
--- what the bytes begin with is refused at a stage, whatever follows them: a whole line, or more bytes than a line has
-abbrev pub RefusesNext : Stage → List ℕ → Refusal → Type 0
-RefusesNext stage bytes refusal =
-    ((text : List ℕ) × (more : List ℕ) × (line : Option Line) × IsLine bytes text more × Spelled IsInRange spelling text line
-    × (refusal_at stage.account stage.due line ≡ Some refusal))
-    ⊎ (IsTooLong bytes × (refusal ≡ long_refusal stage.due))
-
--- why a line is not taken: it is refused; or nothing refuses it, and it names a granule for the first time
+-- why a line is not taken
 abbrev pub EndsLine : Stage → Line → StepEnd → Type 0
-EndsLine stage line (ends.Refused refusal) = refusal_at stage.account stage.due (Some line) ≡ Some refusal
-EndsLine stage line ends.NoMemory =
-    (stage.due ≡ Body) × Allows stage line × IsTrue (is_new stage.account (named_by_line stage.account line))
-
--- the bytes begin with a line that names a granule so, before this rest
-pub record Lacks (stage : Stage) (bytes more : List ℕ) : Type 0 where
-  pub line : Line
-  pub begins : Begins IsInRange spelling 10 bytes line more
-  pub names : EndsLine stage line ends.NoMemory
+EndsLine stage line end = turns.EndsLine log_turns stage line (end_of end)
 
 -- why a line with this text is not taken
 abbrev pub EndsText : Stage → List ℕ → StepEnd → Type 0
-EndsText stage text (ends.Refused refusal) =
-    (line : Option Line) × Spelled IsInRange spelling text line × (refusal_at stage.account stage.due line ≡ Some refusal)
+EndsText stage text (ends.Refused refusal) = RefusesWhole log_turns stage text refusal
 EndsText stage text ends.NoMemory = (line : Line) × Spells text line × EndsLine stage line ends.NoMemory
 
 -- why what the bytes begin with is not taken
 abbrev pub EndsBytes : Stage → List ℕ → StepEnd → Type 0
-EndsBytes stage bytes (ends.Refused refusal) = RefusesNext stage bytes refusal
-EndsBytes stage bytes ends.NoMemory = (more : List ℕ) × Lacks stage bytes more
+EndsBytes stage bytes end = turns.EndsBytes log_turns stage bytes (end_of end)
 
 -- where memory is refused, at least as many granules were put as surely have room
 abbrev pub IsFullAt : StepEnd → Held → Type 0
 IsFullAt (ends.Refused refusal) held = Unit {0}
 IsFullAt ends.NoMemory held = IsFull held
 
--- a line that is allowed leads from a stage to a stage
-abbrev pub Takes : Stage → Line → Stage → Type 0
-Takes old line new = Allows old line × (new ≡ behind old line)
-
 -- a judge's answer to a line: it leads to what the judge knows then; or it isn't taken, for this reason, and nothing has
 -- changed
 abbrev pub AnswersLine : Known → Line → Result (Unit {0}) StepEnd → Known → Type 0
 AnswersLine old line (Ok done) new =
-    Takes (at old.due old.held) line (at new.due new.held) × (new.held.least_room ≡ old.held.least_room)
+    Takes log_turns (at old.due old.held) line (at new.due new.held) × (new.held.least_room ≡ old.held.least_room)
 AnswersLine old line (Err end) new = EndsLine (at old.due old.held) line end × (new ≡ old) × IsFullAt end old.held
-
--- the bytes are lines that lead from a stage to a stage
-pub record Goes (old : Stage) (bytes : List ℕ) (new : Stage) : Type 0 where
-  pub lines : List Line
-  pub in_range : AllByRecursion IsInRange lines
-  pub bytes_are : bytes ≡ text_of lines
-  pub reads : Reads old lines new
 
 -- the bytes are lines of steps, by which a machine goes from what it held to what it holds
 pub record MakesSteps (old : Held) (bytes : List ℕ) (new : Held) : Type 0 where
-  pub goes : Goes (at dues.Body old) bytes (at dues.Body new)
+  pub goes : Goes log_turns (at dues.Body old) bytes (at dues.Body new)
   pub steps : List Step
   pub lines_are : goes.lines ≡ map lines.Step steps
   pub same_room : new.least_room ≡ old.least_room
 
--- a line is faulty: one before the bytes, or the first is what they begin with
-abbrev pub Faults : Stage → List ℕ → Stage → Type 0
-Faults old bytes new =
-    (IsAtFault old.due × (new ≡ old))
-    ⊎ ((IsAtFault old.due → ⊥) × (refusal : Refusal) × (text : List ℕ) × RefusesNext old bytes refusal × IsLastFront bytes false text
-    × (new ≡ record { account = old.account; due = refused_at old.account old.due refusal text }))
-
--- the bytes lead from a stage to a stage: they are lines, or lines before what begins with a faulty one
-abbrev pub Follows : Stage → List ℕ → Stage → Type 0
-Follows old bytes new =
-    Goes old bytes new
-    ⊎ ((front : List ℕ) × (rest : List ℕ) × (bytes ≡ front ++ rest) × (middle : Stage) × Goes old front middle × Faults middle rest new)
-
 -- a judge has read these bytes
 abbrev pub HasRead : {M : Type 0} → Judge M → List ℕ → Type 0
-HasRead judge bytes = Follows unread bytes (stage_of judge)
-
--- a judge that was handed a front and a rest took the front and stopped: the rest is less than a line; or begins with a
--- faulty line, and was taken too; or with a line that nothing refuses and that names a granule for the first time
-abbrev pub StopsAt : Stage → List ℕ → List ℕ → Stop → Stage → Type 0
-StopsAt old front rest stops.Cut new = Goes old front new × IsCut rest × (IsAtFault new.due → ⊥)
-StopsAt old front rest stops.Fault new = (middle : Stage) × Goes old front middle × Faults middle rest new
-StopsAt old front rest stops.NoMemory new = Goes old front new × (more : List ℕ) × Lacks new rest more
+HasRead judge bytes = Follows log_turns unread bytes (stage_of judge)
 
 -- it stopped so, or took a front that is not empty
 abbrev pub GoesOrStops : Stage → List ℕ → List ℕ → Option Stop → Stage → Type 0
-GoesOrStops old front rest None new = (front ≢ []) × Goes old front new
-GoesOrStops old front rest (Some stop) new = StopsAt old front rest stop new
+GoesOrStops old front rest None new = (front ≢ []) × Goes log_turns old front new
+GoesOrStops old front rest (Some stop) new = StopsAt log_turns old front rest stop new
 
 -- the bytes begin with the line of a step, by which a machine goes from what it held to what it holds, before this rest
 abbrev pub TakesStep : Held → List ℕ → Held → List ℕ → Type 0
 TakesStep old bytes new rest =
     (step : Step) × Begins IsInRange spelling 10 bytes (lines.Step step) rest
-    × Takes (at dues.Body old) (lines.Step step) (at dues.Body new) × (new.least_room ≡ old.least_room)
+    × Takes log_turns (at dues.Body old) (lines.Step step) (at dues.Body new) × (new.least_room ≡ old.least_room)
 
 -- a step was taken from the front of the bytes; or none, and nothing has changed; or the one there isn't made, and
 -- nothing has changed
@@ -192,32 +126,21 @@ TakesAll old bytes (Some (Ok done)) new = TakesStep old bytes new []
 TakesAll old bytes (Some (Err end)) new = EndsStepLine old bytes end × (new ≡ old)
 TakesAll old bytes None new = new ≡ old
 
--- the bytes are neither one line with its line feed nor begin with more bytes than a line has
-abbrev pub IsNoLine : List ℕ → Type 0
-IsNoLine bytes = ((text : List ℕ) → IsLine bytes text [] → ⊥) × (IsTooLong bytes → ⊥)
-
 -- the `no` that stands whatever bytes follow, once a line is faulty
-abbrev pub verdict_so_far : Due → Option Verdict
+abbrev pub verdict_so_far : Due Refusal → Option Verdict
 verdict_so_far (Refused line refusal text) = Some (No line refusal)
 verdict_so_far due = None
 
 -- which line is faulty, or that none is
-abbrev pub IsFaultOf : Due → Option faults.RefusedLine → Type 0
+abbrev pub IsFaultOf : Due Refusal → Option faults.RefusedLine → Type 0
 IsFaultOf due (Some fault) = due ≡ Refused fault.line fault.refusal (bytes_of fault.text)
 IsFaultOf due None = IsAtFault due → ⊥
-
--- what is due where a log ends with these bytes, which are less than a line: they are faulty, or none after the end line
-abbrev pub due_at_end : Account → Due → List ℕ → Due
-due_at_end account Ended [] = Ended
-due_at_end account Ended rest = refused_at account Ended Misplaced rest
-due_at_end account (Refused line refusal text) rest = Refused line refusal text
-due_at_end account due rest = refused_at account due Truncated rest
 
 -- the verdict on a log that ends there, and after a no the text of the faulty line
 abbrev pub VerdictAtEnd : Stage → List ℕ → Verdict → List ℕ → Type 0
 VerdictAtEnd stage rest (Yes steps roots) text =
-    (due_at_end stage.account stage.due rest ≡ Ended) × (steps ≡ stage.account.steps) × (roots ≡ stage.account.roots)
-VerdictAtEnd stage rest (No line refusal) text = due_at_end stage.account stage.due rest ≡ Refused line refusal text
+    (due_at_end log_turns stage.state stage.due rest ≡ Ended) × (steps ≡ stage.state.steps) × (roots ≡ stage.state.roots)
+VerdictAtEnd stage rest (No line refusal) text = due_at_end log_turns stage.state stage.due rest ≡ Refused line refusal text
 
 -- a yes, or the faulty line
 abbrev pub AnswerAtEnd : Stage → List ℕ → Result Verdict faults.RefusedLine → Type 0
@@ -232,7 +155,7 @@ VerdictWith bytes ended held verdict text =
     IsVerdictOf bytes ended verdict × LeadsAfter bytes held verdict × StopsIn bytes ended held text verdict
 
 -- what follows a beginning, by what the next line has to be: nothing; or what begins with a faulty line, whatever follows
-abbrev pub IsRest : Due → Beginning → List ℕ → Type 0
+abbrev pub IsRest : Due Refusal → Beginning → List ℕ → Type 0
 IsRest (Refused line refusal text) beginning rest =
     (line ≡ length (lines_of beginning) + 1) × IsLastFront rest false text × ((more : List ℕ) → Refuses beginning (rest ++ more) refusal)
 IsRest due beginning rest = rest ≡ []
@@ -243,7 +166,7 @@ pub record IsReached (stage : Stage) (bytes : List ℕ) : Type 0 where
   pub beginning : Beginning
   pub rest : List ℕ
   pub behind : IsBehind bytes beginning rest
-  pub account : stage.account ≡ account_before beginning
+  pub account : stage.state ≡ account_before beginning
   pub rest_is : IsRest stage.due beginning rest
 
 -- the bytes are whole lines that begin a log, whose steps have a run: none of them is a fault

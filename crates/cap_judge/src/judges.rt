@@ -14,13 +14,17 @@ ghost use Rattle.cap_judge.specs.declared.{faults.RefusedLine.RefusedLine as Fau
 ghost use Rattle.cap_judge.specs.declared.judges.Due.TheVariants.{Refused as RefusedIn};
 ghost use Rattle.cap_judge.specs.{declared.verdict.TakeFault.TheVariants.{NoLine, NoMemory}, Expectations.ExpectsAt};
 ghost use Rattle.cap_judge.specs.{Logs.{has_form, header_lines}, Readings.{AnswersLine, AnswerAtEnd, EndsBytes, VerdictAtEnd, EndsStepLine}};
-ghost use Rattle.cap_judge.specs.Readings.{EndsText, Follows, Goes, GoesOrStops, IsAtFault, IsFullAt, IsFullJudge};
+ghost use Rattle.cap_judge.specs.Readings.{EndsText, GoesOrStops, IsFullAt, IsFullJudge};
 ghost use Rattle.cap_judge.specs.Readings.{IsUnmade, room_of};
-ghost use Rattle.cap_judge.specs.Readings.{IsFaultOf, IsNoLine, Lacks, StopsAt, Takes, known_of};
-ghost use Rattle.cap_judge.specs.Readings.{lines_read, long_refusal, stage_of, verdict_so_far};
-ghost use Rattle.cap_judge.specs.{Turns.{refusal_at, rules_of, unread}, Verdicts.NamesEscapes};
-ghost use Rattle.cap_judge.specs.declared.judges.Stop.TheVariants as stops;
-ghost use Rattle.cap_judge.specs.Turns as turns;
+ghost use Rattle.cap_judge.specs.Readings.{IsFaultOf, known_of};
+ghost use Rattle.cap_judge.specs.Readings.{stage_of, verdict_so_far};
+ghost use Rattle.cap_judge.specs.{Turns.{rules_of, unread}, Verdicts.NamesEscapes};
+ghost use Rattle.cap_turns.specs.declared.stops.Stop.TheVariants as stops;
+ghost use Rattle.cap_turns.specs.Turns as turns;
+ghost use Rattle.cap_turns.specs.Readings.{Follows, IsNoLine, StopsAt, Takes};
+ghost use Rattle.cap_turns.specs.Turns.{Goes, IsAtFault, lines_by, refusal_by};
+ghost use Rattle.cap_turns.specs.Verdicts.{Lacks, long_refusal};
+ghost use Rattle.cap_judge.specs.Turns.{log_turns};
 
 use crate::expectation::expected_by;
 use crate::faults::RefusedLine;
@@ -30,6 +34,7 @@ use cap_log::{Line, Mode, Operands, Place, Step, read_line, write_line};
 use cap_machine::{Instruction, Machine, Refusal, Rules, StepEnd};
 use cap_streams::judging::FaultLine;
 use cap_streams::{Front, front};
+use cap_turns::{Stop, Taken, is_whole};
 use cap_word::Cap;
 use std::alloc::Global;
 use tagmem::{PageStore, TaggedStore};
@@ -47,26 +52,6 @@ pub enum Due {
     Ended,
     /// None: this line is faulty.
     Refused(RefusedLine),
-}
-
-/// Why a judge stopped.
-#[derive(Debug, Clone, Copy, PartialEq, Eq)]
-pub enum Stop {
-    /// The bytes after those that it took are less than a line, if any.
-    Cut,
-    /// The line after them is faulty, or one before them was.
-    Fault,
-    /// There was no memory for a granule that the line after them names for the first time.
-    NoMemory,
-}
-
-/// What a judge took of the bytes that it was handed.
-#[derive(Debug, Clone, Copy, PartialEq, Eq)]
-pub struct Taken {
-    /// How many bytes, all of them whole lines.
-    pub count: usize,
-    /// Why it took no more.
-    pub stop: Stop,
 }
 
 /// A judge that has read a beginning of a log: the machine that its lines lead to, and what the next line has to
@@ -105,7 +90,7 @@ impl<M: TaggedStore> Judge<M> {
     /// follows, and from then on the count is 0.
     pub fn take(&mut self, bytes: &[u8]) -> Taken
         ensures count { result.count ≤ length bytes.now }
-        ensures stops { StopsAt (stage_of self.old) (take result.count bytes.now) (drop result.count bytes.now)
+        ensures stops { StopsAt log_turns (stage_of self.old) (take result.count bytes.now) (drop result.count bytes.now)
             result.stop (stage_of self.new) }
 
         // Memory is refused only where at least as many granules were put as surely have room.
@@ -134,12 +119,12 @@ impl<M: TaggedStore> Judge<M> {
     /// assert_eq!(rt; judge.end(b""), Verdict::Yes { steps: 0, roots: 0 });
     /// ```
     pub fn take_line(&mut self, line: &[u8]) -> Result<(), TakeFault>
-        ensures taken { OnOk result (Follows (stage_of self.old) line.now (stage_of self.new)) }
+        ensures taken { OnOk result (Follows log_turns (stage_of self.old) line.now (stage_of self.new)) }
         ensures unchanged { IfErr result (λ _. known_of self.new ≡ known_of self.old) }
         ensures no_line { (result ≡ Err NoLine) ↔ IsNoLine line.now }
 
         // Memory is wanted only where this very line, which no check refuses, names a granule for the first time.
-        ensures no_memory { result ≡ Err NoMemory → Lacks (stage_of self.old) line.now [] }
+        ensures no_memory { result ≡ Err NoMemory → Lacks log_turns (stage_of self.old) line.now [] }
     {
         if let Due::Body = self.due {
             return match take_lone_step(&mut self.machine, line) {
@@ -176,7 +161,7 @@ impl<M: TaggedStore> Judge<M> {
 
     /// After a `no` for a step's result, the result that the rules give for that step; otherwise `None`.
     pub fn expected(&self) -> Option<Expected>
-        ensures expects { ExpectsAt (stage_of self.now).account (stage_of self.now).due result }
+        ensures expects { ExpectsAt (stage_of self.now).state (stage_of self.now).due result }
     {
         match &self.due {
             Due::Refused(fault) => match fault.refusal {
@@ -191,7 +176,7 @@ impl<M: TaggedStore> Judge<M> {
     /// without a tag.
     pub fn register(&self, number: u8) -> Cap
         requires { number ≤ 31 }
-        ensures holds { result ≡ (stage_of self.now).account.state number }
+        ensures holds { result ≡ (stage_of self.now).state.state number }
         ensures zero { number ≡ 0 → result ≡ untagged_null }
     {
         self.machine.register(number)
@@ -201,7 +186,7 @@ impl<M: TaggedStore> Judge<M> {
     /// address `16 * granule` on.
     pub fn granule(&self, granule: u64) -> Cap
         requires { granule < 2 ^ 60 }
-        ensures holds { result ≡ (stage_of self.now).account.state (granule_key granule) }
+        ensures holds { result ≡ (stage_of self.now).state.state (granule_key granule) }
     {
         self.machine.granule(granule)
     }
@@ -210,8 +195,8 @@ impl<M: TaggedStore> Judge<M> {
     /// line. `None` exactly if it is untagged.
     pub fn origin(&self, place: Place) -> Option<Place>
         requires { IsPlace place }
-        ensures holds { result ≡ (stage_of self.now).account.origin (key_of place) }
-        ensures tagged { is_some result ≡ (let cap = (stage_of self.now).account.state (key_of place) in cap.tag) }
+        ensures holds { result ≡ (stage_of self.now).state.origin (key_of place) }
+        ensures tagged { is_some result ≡ (let cap = (stage_of self.now).state.state (key_of place) in cap.tag) }
         ensures in_range { IfSome result IsPlace }
     {
         self.machine.origin(place)
@@ -220,10 +205,10 @@ impl<M: TaggedStore> Judge<M> {
     // Takes bytes of any kind as one line.
     #[inline(never)]
     fn take_lone_line(&mut self, line: &[u8]) -> Result<(), TakeFault>
-        ensures taken { OnOk result (Follows (stage_of self.old) line.now (stage_of self.new)) }
+        ensures taken { OnOk result (Follows log_turns (stage_of self.old) line.now (stage_of self.new)) }
         ensures unchanged { IfErr result (λ _. known_of self.new ≡ known_of self.old) }
         ensures no_line { (result ≡ Err NoLine) ↔ IsNoLine line.now }
-        ensures no_memory { result ≡ Err NoMemory → Lacks (stage_of self.old) line.now [] }
+        ensures no_memory { result ≡ Err NoMemory → Lacks log_turns (stage_of self.old) line.now [] }
     {
         let found = front(line);
         if !is_whole(found, line) {
@@ -242,9 +227,9 @@ impl<M: TaggedStore> Judge<M> {
     fn take_ended_step(&mut self, end: StepEnd, line: &[u8]) -> Result<(), TakeFault>
         requires body { self.old.due ≡ Body }
         requires ends { EndsStepLine self.old.machine line.now end }
-        ensures taken { OnOk result (Follows (stage_of self.old) line.now (stage_of self.new)) }
+        ensures taken { OnOk result (Follows log_turns (stage_of self.old) line.now (stage_of self.new)) }
         ensures unchanged { IfErr result (λ _. known_of self.new ≡ known_of self.old) }
-        ensures no_memory { IfErr result (λ fault. (fault ≡ NoMemory) × Lacks (stage_of self.old) line.now []) }
+        ensures no_memory { IfErr result (λ fault. (fault ≡ NoMemory) × Lacks log_turns (stage_of self.old) line.now []) }
     {
         match self.stop(end, front(line), line) {
             Stop::NoMemory => Err(TakeFault::NoMemory),
@@ -294,7 +279,7 @@ impl<M: TaggedStore> Judge<M> {
     /// [`Judge::take_unmade`] takes it, with the reason at which it ended, if it was tried.
     #[inline(always)]
     pub fn make_step<I: Instruction>(&mut self, step: I) -> Result<(), Option<StepEnd>>
-        ensures taken { OnOk result (Follows (stage_of self.old) (spelling (lines.Step (I.step step)) ++ 10 ∷ [])
+        ensures taken { OnOk result (Follows log_turns (stage_of self.old) (spelling (lines.Step (I.step step)) ++ 10 ∷ [])
             (stage_of self.new)) }
         ensures goes_on { OnOk result (verdict_so_far (stage_of self.new).due ≡ None) }
         ensures same { IfErr result (λ _. self.new ≡ self.old) }
@@ -317,11 +302,11 @@ impl<M: TaggedStore> Judge<M> {
     pub fn take_unmade(&mut self, step: Step, end: Option<StepEnd>) -> Result<(), TakeFault>
         requires range { IsStepInRange step }
         requires ends { IfSome end (IsUnmade self.old step) }
-        ensures taken { OnOk result (Follows (stage_of self.old) (spelling (lines.Step step) ++ 10 ∷ [])
+        ensures taken { OnOk result (Follows log_turns (stage_of self.old) (spelling (lines.Step step) ++ 10 ∷ [])
             (stage_of self.new)) }
         ensures unchanged { IfErr result (λ _. known_of self.new ≡ known_of self.old) }
         ensures line { result ≢ Err NoLine }
-        ensures no_memory { result ≡ Err NoMemory → Lacks (stage_of self.old) (spelling (lines.Step step) ++ 10 ∷ []) [] }
+        ensures no_memory { result ≡ Err NoMemory → Lacks log_turns (stage_of self.old) (spelling (lines.Step step) ++ 10 ∷ []) [] }
     {
         let mut buffer = [0; 96];
         let length = write_line(&Line::Step(step), &mut buffer);
@@ -354,7 +339,7 @@ impl<M: TaggedStore> Judge<M> {
     #[inline(always)]
     fn take_front_steps<'a>(&mut self, bytes: &'a [u8]) -> (&'a [u8], Option<StepEnd>)
         ensures taken { (front : List ℕ) × (bytes.now ≡ front ++ result.0.now)
-            × Goes (stage_of self.old) front (stage_of self.new) }
+            × Goes log_turns (stage_of self.old) front (stage_of self.new) }
         ensures end { IfSome result.1 (λ end. EndsBytes (stage_of self.new) result.0.now end
             × (IsAtFault (stage_of self.new).due → ⊥)) }
         ensures full { IfSome result.1 (λ end. IsFullAt end self.new.machine) }
@@ -370,8 +355,8 @@ impl<M: TaggedStore> Judge<M> {
     #[inline(never)]
     pub(crate) fn take_any_line<'a>(&mut self, bytes: &'a [u8]) -> Result<&'a [u8], Stop>
         ensures ok { IfOk result (λ rest. (line : Line) × Begins IsInRange spelling 10 bytes.now line rest.now
-            × Takes (stage_of self.old) line (stage_of self.new)) }
-        ensures err { IfErr result (λ stop. StopsAt (stage_of self.old) [] bytes.now stop (stage_of self.new)) }
+            × Takes log_turns (stage_of self.old) line (stage_of self.new)) }
+        ensures err { IfErr result (λ stop. StopsAt log_turns (stage_of self.old) [] bytes.now stop (stage_of self.new)) }
         ensures full { result ≡ Err stops.NoMemory → IsFullJudge self.new }
         ensures same_room { room_of self.new ≡ room_of self.old }
     {
@@ -384,8 +369,8 @@ impl<M: TaggedStore> Judge<M> {
         requires found { IsFront bytes.now found }
         ensures few { IfOk result (λ count. count ≤ length bytes.now) }
         ensures ok { IfOk result (λ count. (line : Line) × Begins IsInRange spelling 10 bytes.now line (drop count bytes.now)
-            × Takes (stage_of self.old) line (stage_of self.new)) }
-        ensures err { IfErr result (λ stop. StopsAt (stage_of self.old) [] bytes.now stop (stage_of self.new)) }
+            × Takes log_turns (stage_of self.old) line (stage_of self.new)) }
+        ensures err { IfErr result (λ stop. StopsAt log_turns (stage_of self.old) [] bytes.now stop (stage_of self.new)) }
         ensures same { IfErr result (λ stop. stop ≢ stops.Fault → known_of self.new ≡ known_of self.old) }
         ensures full { result ≡ Err stops.NoMemory → IsFullJudge self.new }
         ensures same_room { room_of self.new ≡ room_of self.old }
@@ -408,7 +393,7 @@ impl<M: TaggedStore> Judge<M> {
 
     // Takes a line by its text, without its line feed.
     fn take_text(&mut self, text: &[u8]) -> Result<(), StepEnd>
-        ensures ok { OnOk result ((line : Line) × Spells text.now line × Takes (stage_of self.old) line (stage_of self.new)) }
+        ensures ok { OnOk result ((line : Line) × Spells text.now line × Takes log_turns (stage_of self.old) line (stage_of self.new)) }
         ensures err { IfErr result (EndsText (stage_of self.old) text.now) }
         ensures same { IfErr result (λ _. known_of self.new ≡ known_of self.old) }
         ensures full { IfErr result (λ end. IsFullAt end self.old.machine) }
@@ -430,7 +415,7 @@ impl<M: TaggedStore> Judge<M> {
         requires found { IsFront bytes.now found }
         requires clear { IsAtFault (stage_of self.old).due → ⊥ }
         requires ends { EndsBytes (stage_of self.old) bytes.now end }
-        ensures stops { StopsAt (stage_of self.old) [] bytes.now result (stage_of self.new) }
+        ensures stops { StopsAt log_turns (stage_of self.old) [] bytes.now result (stage_of self.new) }
         ensures same { result ≢ stops.Fault → known_of self.new ≡ known_of self.old }
         ensures uncut { result ≢ stops.Cut }
         ensures no_memory { result ≡ stops.NoMemory → end ≡ ends.NoMemory }
@@ -448,7 +433,7 @@ impl<M: TaggedStore> Judge<M> {
     /// The next line, which these bytes begin with, as the faulty line.
     fn fault(&self, refusal: Refusal, found: Front, bytes: &[u8]) -> RefusedLine
         requires found { IsFront bytes.now found }
-        ensures line { result.line ≡ lines_read (stage_of self.now).account (stage_of self.now).due + 1 }
+        ensures line { result.line ≡ lines_by log_turns (stage_of self.now).state (stage_of self.now).due + 1 }
         ensures refusal { result.refusal ≡ refusal }
         ensures front { IsFrontText bytes.now (bytes_of result.text) }
     {
@@ -461,7 +446,7 @@ impl<M: TaggedStore> Judge<M> {
 
     // The number of the next line.
     fn next_line(&self) -> u64
-        ensures { result ≡ lines_read (stage_of self.now).account (stage_of self.now).due + 1 }
+        ensures { result ≡ lines_by log_turns (stage_of self.now).state (stage_of self.now).due + 1 }
     {
         let roots = u64::from(self.machine.roots());
         let behind = header_length(self.machine.rules()) + roots + u64::from(self.machine.steps());
@@ -475,7 +460,7 @@ impl<M: TaggedStore> Judge<M> {
 
     // Why more bytes than a line has are refused.
     fn refusal_of_long(&self) -> Refusal
-        ensures { result ≡ long_refusal (stage_of self.now).due }
+        ensures { result ≡ long_refusal log_turns (stage_of self.now).due }
     {
         match self.due {
             Due::First | Due::Second | Due::Body => Refusal::LineTooLong,
@@ -485,7 +470,7 @@ impl<M: TaggedStore> Judge<M> {
 
     // Why a line is refused that has no form.
     fn refusal_of_formless(&self) -> Refusal
-        ensures { refusal_at (stage_of self.now).account (stage_of self.now).due None ≡ Some result }
+        ensures { refusal_by log_turns (stage_of self.now).state (stage_of self.now).due None ≡ Some result }
     {
         match self.due {
             Due::First => Refusal::BadHeader,
@@ -557,19 +542,6 @@ impl<M: TaggedStore> Judge<M> {
                 Ok(())
             }
         }
-    }
-}
-
-// Whether some bytes are one line with its line feed, or more of a line than a line has.
-fn is_whole(found: Front, line: &[u8]) -> bool
-    requires found { IsFront line.now found }
-    ensures whole { result ≡ true → ((text : List ℕ) × IsLine line.now text []) ⊎ IsTooLong line.now }
-    ensures none { result ≡ false → IsNoLine line.now }
-{
-    match found {
-        Front::Line(length) => length + 1 == line.len(),
-        Front::TooLong => true,
-        Front::Cut => false,
     }
 }
 

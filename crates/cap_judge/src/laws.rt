@@ -8,10 +8,14 @@ ghost use Rattle.cap_machine.specs.{declared.rules.Rules.Rules, Escapes.ClearsEx
 ghost use Rattle.cap_machine.specs.{Runs.IsRun, States.{DeclaredRoot, State, start}};
 ghost use Rattle.cap_judge.specs.declared.verdict.{Expected.Expected, Verdict.{Verdict, TheVariants.No}};
 ghost use Rattle.cap_judge.specs.{Expectations.{Expects, ExpectsAt}, Logs.{Beginning, IsAccepted, IsLogOf}};
-ghost use Rattle.cap_judge.specs.{Logs.{MayLackMemory, lines_of}, Readings.{BeginsWhole, VerdictAtEnd, VerdictWith, Faults}};
-ghost use Rattle.cap_judge.specs.Readings.{Follows, IsAtFault, IsReached, Lacks, Stands, verdict_so_far};
-ghost use Rattle.cap_judge.specs.{Turns.{Reads, Refused, Stage, unread}, Verdicts.{IsByVersionOne, IsGuarded}};
+ghost use Rattle.cap_judge.specs.{Logs.{MayLackMemory, lines_of}, Readings.{BeginsWhole, VerdictAtEnd, VerdictWith}};
+ghost use Rattle.cap_judge.specs.Readings.{IsReached, Stands, verdict_so_far};
+ghost use Rattle.cap_judge.specs.{Turns.{Stage, unread}, Verdicts.{IsByVersionOne, IsGuarded}};
 ghost use Rattle.cap_judge.specs.Verdicts.{IsOfVersionOne, IsVerdict, IsVerdictOne, NamesEscapes};
+ghost use Rattle.cap_turns.specs.Readings.{Faults, Follows};
+ghost use Rattle.cap_turns.specs.Turns.{IsAtFault, Reads, Refused};
+ghost use Rattle.cap_turns.specs.Verdicts.{Lacks};
+ghost use Rattle.cap_judge.specs.Turns.{log_turns};
 
 /// Whatever bytes are read: where they are a log whose steps have a run, then along it, at every moment,
 /// each tagged capability in a register or memory has bounds inside and permissions among those of the
@@ -48,45 +52,45 @@ pub fn other_bytes_are_of_version_one()
 /// check of a line fails in what the lines before it lead to.
 pub fn accepted_in_turn()
     ensures law { (beginning : Beginning) → IsAccepted beginning
-        ↔ (AllByRecursion IsInRange (lines_of beginning) × ((stage : Stage) × Reads unread (lines_of beginning) stage)) }
+        ↔ (AllByRecursion IsInRange (lines_of beginning) × ((stage : Stage) × Reads log_turns unread (lines_of beginning) stage)) }
 {}
 
 /// Where a [`Judge`](crate::Judge) is once it has read some bytes: its stage is that of the beginning of a log, and of
 /// the first fault if a line is faulty. So what the calls of a judge say of its stage is said of the bytes.
 pub fn stages_are_of_logs()
     // The stage has the account of a beginning: what follows that is nothing, or begins with the faulty line.
-    ensures reached { (bytes : List ℕ) (stage : Stage) → Follows unread bytes stage → IsReached stage bytes }
+    ensures reached { (bytes : List ℕ) (stage : Stage) → Follows log_turns unread bytes stage → IsReached stage bytes }
 
     // The first faulty line begins what stands after the lines that were taken.
-    ensures after { (front rest : List ℕ) (middle new : Stage) → Follows unread front middle → (IsAtFault middle.due → ⊥)
-        → Faults middle rest new → (is : IsReached new (front ++ rest)) × (is.rest ≡ rest) }
+    ensures after { (front rest : List ℕ) (middle new : Stage) → Follows log_turns unread front middle → (IsAtFault middle.due → ⊥)
+        → Faults log_turns middle rest new → (is : IsReached new (front ++ rest)) × (is.rest ≡ rest) }
 
     // No line is faulty exactly while the lines so far begin a log; otherwise the `no` stays whatever lines follow.
-    ensures stands { (bytes : List ℕ) (stage : Stage) → Follows unread bytes stage → Stands bytes (verdict_so_far stage.due) }
-    ensures none { (bytes : List ℕ) (stage : Stage) → Follows unread bytes stage → BeginsWhole bytes
+    ensures stands { (bytes : List ℕ) (stage : Stage) → Follows log_turns unread bytes stage → Stands bytes (verdict_so_far stage.due) }
+    ensures none { (bytes : List ℕ) (stage : Stage) → Follows log_turns unread bytes stage → BeginsWhole bytes
         → verdict_so_far stage.due ≡ None }
 
     // The account is that of the lines before the faulty one, whose text is the stage's.
     ensures fault { (bytes : List ℕ) (stage : Stage) (held : Held) (line : ℕ) (refusal : Refusal) (text : List ℕ) (ended : Bool)
-        → Follows unread bytes stage → account_of held ≡ stage.account → stage.due ≡ Refused line refusal text
+        → Follows log_turns unread bytes stage → account_of held ≡ stage.state → stage.due ≡ Refused line refusal text
         → VerdictWith bytes ended held (No line refusal) text }
 
     // Memory is wanted only where a line that no check refuses names a granule for the first time.
-    ensures memory { (bytes rest more : List ℕ) (stage : Stage) → Follows unread bytes stage → Lacks stage rest more
+    ensures memory { (bytes rest more : List ℕ) (stage : Stage) → Follows log_turns unread bytes stage → Lacks log_turns stage rest more
         → MayLackMemory (bytes ++ rest) more }
 
     // How the log ends if no other bytes follow than these, which are less than a line.
     ensures ends { (bytes rest : List ℕ) (stage : Stage) (held : Held) (verdict : Verdict) (text : List ℕ)
-        → Follows unread bytes stage → account_of held ≡ stage.account → IsCut rest → VerdictAtEnd stage rest verdict text
+        → Follows log_turns unread bytes stage → account_of held ≡ stage.state → IsCut rest → VerdictAtEnd stage rest verdict text
         → VerdictWith (bytes ++ rest) true held verdict text }
 
     // What is told of the faulty line is what the rules give for its step, if it is refused for its result.
-    ensures expects { (bytes : List ℕ) (stage : Stage) (result : Option Expected) → Follows unread bytes stage
-        → ExpectsAt stage.account stage.due result → Expects bytes result }
+    ensures expects { (bytes : List ℕ) (stage : Stage) (result : Option Expected) → Follows log_turns unread bytes stage
+        → ExpectsAt stage.state stage.due result → Expects bytes result }
 
     // What is read after some bytes is read after all that was read before.
-    ensures goes_on { (first old new : Stage) (bytes more : List ℕ) → Follows first bytes old → Follows old more new
-        → Follows first (bytes ++ more) new }
+    ensures goes_on { (first old new : Stage) (bytes more : List ℕ) → Follows log_turns first bytes old → Follows log_turns old more new
+        → Follows log_turns first (bytes ++ more) new }
 {}
 
 /// All bytes have a verdict: they are a log whose steps have a run, or there is a first fault.

@@ -18,7 +18,7 @@ mod verdict;
 mod verdict_lines;
 
 pub use crate::faults::RefusedLine;
-pub use crate::judges::{Judge, Stop, Taken};
+pub use crate::judges::Judge;
 pub use crate::laws::{
     accepted_in_turn, escapes_are_named_exactly, logs_are_guarded, logs_clear_exactly, one_verdict,
     other_bytes_are_of_version_one, some_verdict, stages_are_of_logs,
@@ -31,4 +31,5 @@ pub use crate::streams::{
 };
 pub use crate::verdict::{Expected, TakeFault, Verdict};
 pub use crate::verdict_lines::{verdict_status, verdict_text};
+pub use cap_turns::{Stop, Taken};
 pub use cap_streams::judging::{FaultLine, JudgeFault, JudgeToFault};

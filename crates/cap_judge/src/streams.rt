@@ -5,16 +5,19 @@ ghost use Rattle.std.specs.FinMap as map;
 ghost use Rattle.cap_streams.specs.{declared.judging.judge_faults.JudgeFault.TheVariants.{NoMemory, Pull}, FaultLines.bytes_of};
 ghost use Rattle.cap_streams.specs.{ReadBuffers.items, Streams.CountsOnly};
 ghost use Rattle.cap_judge.specs.{Judgings.{Judged, JudgedAll, JudgedBy}, Logs.{LacksRoom, NamesNoGranules}};
-ghost use Rattle.cap_judge.specs.{Readings.{IsAnswered, StopsAt, room_of, stage_of}, Turns.unread};
+ghost use Rattle.cap_judge.specs.{Readings.{IsAnswered, room_of, stage_of}, Turns.unread};
 ghost use Rattle.cap_judge.specs.Verdicts.{EscapesExactly, NoVerdictIn, IsGuarded, IsVerdict, NamesEscapes};
+ghost use Rattle.cap_turns.specs.Readings.{StopsAt};
+ghost use Rattle.cap_judge.specs.Turns.{log_turns};
 
 use crate::faults::RefusedLine;
-use crate::judges::{Judge, Stop};
+use crate::judges::Judge;
 use crate::verdict::Verdict;
 use cap_log::{PullFault, SliceSource, Source};
 use cap_machine::Machine;
 use cap_streams::ReadBuffer;
 use cap_streams::judging::{FaultLine, JudgeFault};
+use cap_turns::Stop;
 use std::alloc::Global;
 use tagmem::{PageStore, TaggedStore};
 
@@ -164,7 +167,7 @@ fn judge_source<S: Source, M: TaggedStore>(
 // Hands over the bytes that were pulled, and keeps those that were not taken.
 fn take_pulled<M: TaggedStore>(judge: &mut Judge<M>, pulled: &mut ReadBuffer) -> Stop
     ensures { (front : List ℕ) × (items pulled.old ≡ front ++ items pulled.new)
-        × StopsAt (stage_of judge.old) front (items pulled.new) result (stage_of judge.new) }
+        × StopsAt log_turns (stage_of judge.old) front (items pulled.new) result (stage_of judge.new) }
 {
     let taken = judge.take(pulled.as_slice());
     pulled.consume(taken.count);

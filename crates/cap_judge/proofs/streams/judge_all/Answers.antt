@@ -1,10 +1,13 @@
 use Rattle.std.proofs.Common.{◌≡◌, ◌≢◌, ◌≤◌, ◌-◌, [], List, ℕ, arith, drop, inl, length, refl, subst, take, true}
 use Rattle.std.proofs.{Common.{length-drop, take-append-drop, take_all}, lemmas.List.Elements.All-nil}
 use Rattle.cap_streams.specs.FaultLines.{bytes_of}
-use Rattle.cap_judge.specs.{Logs.{LacksRoom, MayLackMemory}, Readings.{VerdictWith, Follows, room_of, stage_of}, Turns.unread}
+use Rattle.cap_judge.specs.{Logs.{LacksRoom, MayLackMemory}, Readings.{VerdictWith, room_of, stage_of}, Turns.unread}
 use Rattle.cap_judge.proofs.SourceLemmas.{all_judged, all_lack, answered_some, ended_answer}
-use Rattle.cap_judge.proofs.{TurnLaws.{lacks_memory, lacks_room, reached, refused_told, told}, TurnLemmas.{faults_at, stop_follows}}
+use Rattle.cap_judge.proofs.TurnLaws.{lacks_memory, lacks_room, reached, refused_told, told}
 use Rattle.cap_judge.proofs.streams.judge_all.Goals as goal
+use Rattle.cap_turns.specs.Readings.{Follows}
+use Rattle.cap_turns.proofs.FollowLemmas.{faults_at, stop_follows}
+use Rattle.cap_judge.specs.Turns.{log_turns}
 
 pub returns-in-Cut : goal.returns-in-Cut
 returns-in-Cut g c = record {
@@ -35,10 +38,10 @@ returns-in-Fault g c = record {
       let stop = rw (c.in-Fault.is, c.requires.begun) at c.take-taken.ensures.stops in
       let ends = c.ending-in-Fault.ensures.ends (omega arith, All-nil (λ b. b ≢ 10)) in
       let answer = ended_answer new [] text c.ending-in-Fault.result c.answered-in-Fault.result.0 c.answered-in-Fault.ensures ends in
-      let read = subst (λ (b : List ℕ). Follows unread b new) (take-append-drop count bytes)
-      (stop_follows unread new (take count bytes) (drop count bytes) stop) in
+      let read = subst (λ (b : List ℕ). Follows log_turns unread b new) (take-append-drop count bytes)
+      (stop_follows log_turns unread new (take count bytes) (drop count bytes) stop) in
       all_judged bytes text held c.answered-in-Fault.result.0 answer.0 answer.1
-      (refused_told bytes [] new held answer.0 text (reached bytes new read) (faults_at stop.0 (drop count bytes) new stop.2)
+      (refused_told bytes [] new held answer.0 text (reached bytes new read) (faults_at log_turns stop.0 (drop count bytes) new stop.2)
       refl answer.2 true);
   full = λ none. absurd (answered_some c.ending-in-Fault.result c.answered-in-Fault.result.0 _ c.answered-in-Fault.ensures none);
 }
@@ -58,7 +61,7 @@ returns-in-NoMemory g c = record {
       let new = stage_of c.take-taken.new.self in
       let room = room_of c.args.judge.now in
       let stop = rw (c.in-NoMemory.is, c.requires.begun) at c.take-taken.ensures.stops in
-      let many = subst (λ (n : ℕ). n ≤ new.account.granules) c.take-taken.ensures.same_room (c.take-taken.ensures.full c.in-NoMemory.is) in
+      let many = subst (λ (n : ℕ). n ≤ new.state.granules) c.take-taken.ensures.same_room (c.take-taken.ensures.full c.in-NoMemory.is) in
       subst (LacksRoom room) (take-append-drop count bytes)
       (lacks_room room (take count bytes) (drop count bytes) stop.1 new stop.0 stop.2 many);
 }

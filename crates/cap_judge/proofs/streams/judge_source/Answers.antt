@@ -4,10 +4,12 @@ use Rattle.cap_streams.specs.{FaultLines.bytes_of, Front.IsCut, ReadBuffers.item
 use Rattle.cap_streams.specs.declared.judging.judge_faults.JudgeFault.{JudgeFault}
 use Rattle.cap_judge.specs.{Readings.{AnswerAtEnd, IsAnswered, stage_of}, Turns.unread}
 use Rattle.cap_judge.specs.declared.{faults.RefusedLine.RefusedLine, verdict.Verdict.Verdict}
-use Rattle.cap_judge.proofs.SourceLemmas.{closer, ended_answer, given_more, lacking_judged, nothing_more, pull_judged}
-use Rattle.cap_judge.proofs.{SourceLemmas.verdict_judged, TurnLaws.{lacks_memory, reached, refused_told, told}}
-use Rattle.cap_judge.proofs.TurnLemmas.{faults_at, follows_on, goes_none, goes_on, stop_follows}
+use Rattle.cap_judge.proofs.SourceLemmas.{ended_answer, given_more, lacking_judged, nothing_more, pull_judged}
+use Rattle.cap_judge.proofs.{SourceLemmas.verdict_judged, TurnLaws.{count_read, lacks_memory, log_lawful, reached, refused_told, told}}
 use Rattle.cap_judge.proofs.streams.judge_source.Goals as goal
+use Rattle.cap_turns.proofs.FollowLemmas.{faults_at, follows_on, stop_follows}
+use Rattle.cap_turns.proofs.{EndLemmas.closer, TurnLemmas.{goes_none, goes_on}}
+use Rattle.cap_judge.specs.Turns.{log_turns}
 
 pub pieces-init : goal.pieces-init
 pieces-init g c =
@@ -16,7 +18,7 @@ pieces-init g c =
       here = (
         [],
         subst (λ (b : List ℕ). g.S.Source.gave c.args.source.now c.args.source.now b) none (g.met.S.Source.nothing c.args.source.now),
-        rw c.requires.begun (goes_none unread),
+        rw c.requires.begun (goes_none log_turns unread),
       );
       cut = subst IsCut none (omega arith, All-nil (λ b. b ≢ 10));
       counted = refl;
@@ -63,7 +65,7 @@ pieces-preserved g c =
       here = (
         here.0 ++ taken.0,
         subst (g.S.Source.gave c.args.source.now c.fill.new.source) (sym (append_assoc here.0 taken.0 rest)) gives,
-        goes_on unread (stage_of c.pieces.judge) (stage_of c.take_pulled.new.judge) here.0 taken.0 here.2 stop.0,
+        goes_on log_turns unread (stage_of c.pieces.judge) (stage_of c.take_pulled.new.judge) here.0 taken.0 here.2 stop.0,
       );
       cut = stop.1;
       counted = c.in-Ok.ensures.counted ∙ c.pieces.invariant.counted;
@@ -76,8 +78,11 @@ pieces-smaller g c =
     let taken = c.take_pulled.ensures in
     let stop = rw c.in-Cut.is at taken.2 in
     let some : length ok.0 ≢ 0 = search rules in
-    closer (stage_of c.pieces.judge) (stage_of c.take_pulled.new.judge) here.0 taken.0 (items c.pieces.pulled) ok.0
-    (items c.take_pulled.new.pulled) here.2 stop.0 (sym ok.2 ∙ taken.1) c.pieces.invariant.cut stop.1 some
+    let old = stage_of c.pieces.judge in
+    let new = stage_of c.take_pulled.new.judge in
+    let counts = count_read (here.0 ++ taken.0) new (goes_on log_turns unread old new here.0 taken.0 here.2 stop.0) in
+    closer log_turns log_lawful 4294971400 old new here.0 taken.0 (items c.pieces.pulled) ok.0
+    (items c.take_pulled.new.pulled) here.2 stop.0 (sym ok.2 ∙ taken.1) c.pieces.invariant.cut stop.1 some (omega (arith, counts.0, counts.1))
 
 pub returns-in-Fault-clause-judged : goal.returns-in-Fault-clause-judged
 returns-in-Fault-clause-judged g c =
@@ -90,14 +95,14 @@ returns-in-Fault-clause-judged g c =
     let given = taken.0 ++ rest in
     let text = bytes_of c.answered-in-Fault.result.1 in
     let stop = rw c.in-Fault.is at taken.2 in
-    let follows = follows_on unread (stage_of c.pieces.judge) new here.0 given (inl here.2)
-    (stop_follows (stage_of c.pieces.judge) new taken.0 rest stop) in
+    let follows = follows_on log_turns unread (stage_of c.pieces.judge) new here.0 given (inl here.2)
+    (stop_follows log_turns (stage_of c.pieces.judge) new taken.0 rest stop) in
     let ends = c.ending-in-Fault.ensures.ends (omega arith, All-nil (λ b. b ≢ 10)) in
     let answer = ended_answer new [] text c.ending-in-Fault.result c.answered-in-Fault.result.0 c.answered-in-Fault.ensures ends in
     verdict_judged g.S.Source.gave g.S.Source.ended c.args.source.now c.fill.new.source held text (here.0 ++ given)
     c.answered-in-Fault.result.0 answer.0 answer.1
     (refused_told (here.0 ++ given) [] new held answer.0 text (reached (here.0 ++ given) new follows)
-    (faults_at stop.0 rest new stop.2) refl answer.2
+    (faults_at log_turns stop.0 rest new stop.2) refl answer.2
     (g.S.Source.ended c.fill.new.source))
     (given_more g.S.Source.gave here.0 (items c.pieces.pulled) given g.met.S.Source.joined here.1 ok.3 (sym taken.1 ∙ ok.2))
 
@@ -109,7 +114,7 @@ returns-in-NoMemory-clause-judged g c =
     let rest = items c.take_pulled.new.pulled in
     let new = stage_of c.take_pulled.new.judge in
     let stop = rw c.in-NoMemory.is at taken.2 in
-    let goes = goes_on unread (stage_of c.pieces.judge) new here.0 taken.0 here.2 stop.0 in
+    let goes = goes_on log_turns unread (stage_of c.pieces.judge) new here.0 taken.0 here.2 stop.0 in
     let gives = given_more g.S.Source.gave here.0 (items c.pieces.pulled) (taken.0 ++ rest) g.met.S.Source.joined here.1 ok.3
     (sym taken.1 ∙ ok.2) in
     lacking_judged g.S.Source.gave g.S.Source.ended c.args.source.now c.fill.new.source c.take_pulled.new.judge.machine _

@@ -1,12 +1,14 @@
 use Rattle.std.proofs.Common.{◌≡◌, ◌++◌, ℕ, List, length}
-use Rattle.cap_judge.specs.Readings.{Goes, room_of, stage_of}
+use Rattle.cap_judge.specs.Readings.{room_of, stage_of}
 use Rattle.cap_judge.proofs.judges.Judge.take.Given as goal
+use Rattle.cap_turns.specs.Turns.{Goes}
+use Rattle.cap_judge.specs.Turns.{log_turns}
 
 -- the lines so far are the front of the bytes
 abbrev pub invariant-lines : goal.invariant-lines
 invariant-lines g l = record {
   taken : (front : List ℕ) × (l.fn.bytes ≡ front ++ l.rest)
-      × Goes (stage_of l.fn.self) front (stage_of l.self);
+      × Goes log_turns (stage_of l.fn.self) front (stage_of l.self);
   same_room : room_of l.self ≡ room_of l.fn.self;
 }
 

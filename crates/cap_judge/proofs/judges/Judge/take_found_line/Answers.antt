@@ -1,13 +1,15 @@
 use Rattle.std.proofs.Common.{inl, inr, refl, rules, subst, sym, drop, take, ◌+◌}
 use Rattle.cap_streams.specs.Front.{IsFront}
 use Rattle.cap_judge.specs.Readings.{EndsBytes, Known, at, stage_of}
-use Rattle.cap_judge.proofs.TurnLemmas.{begins_by, goes_none, text_ends_at}
+use Rattle.cap_judge.proofs.TurnLemmas.{begins_by, text_ends_at}
 use Rattle.cap_judge.proofs.judges.Judge.take_found_line.Goals as goal
+use Rattle.cap_turns.proofs.TurnLemmas.{goes_none}
+use Rattle.cap_judge.specs.Turns.{log_turns}
 
 pub returns-in-Refused-clause-err : goal.returns-in-Refused-clause-err
 returns-in-Refused-clause-err g c =
     let stage = stage_of c.args.self.now in
-    (stage, goes_none stage, inl (search rules, refl))
+    (stage, goes_none log_turns stage, inl (search rules, refl))
 
 pub stop-requires-clause-ends : goal.stop-requires-clause-ends
 stop-requires-clause-ends g c = inr (subst (IsFront c.args.bytes.now) c.in-TooLong.is c.requires.found, c.refusal_of_long.ensures)

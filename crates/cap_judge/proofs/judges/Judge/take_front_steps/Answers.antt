@@ -1,7 +1,9 @@
 use Rattle.std.proofs.Common.{[], refl}
 use Rattle.cap_judge.specs.Readings.{stage_of}
-use Rattle.cap_judge.proofs.TurnLemmas.{front_end, goes_none}
+use Rattle.cap_judge.proofs.TurnLemmas.{front_end}
 use Rattle.cap_judge.proofs.judges.Judge.take_front_steps.Goals as goal
+use Rattle.cap_turns.proofs.TurnLemmas.{goes_none}
+use Rattle.cap_judge.specs.Turns.{log_turns}
 
 pub returns-in-Body-clause-taken : goal.returns-in-Body-clause-taken
 returns-in-Body-clause-taken g c = rw c.in-Body.is (let taken = c.take_steps.ensures.taken in (taken.0, taken.1, taken.2.goes))
@@ -12,4 +14,4 @@ returns-in-Body-clause-end g c =
     c.take_steps.ensures.end
 
 pub returns-in_default : goal.returns-in_default
-returns-in_default g c = record { taken = ([], refl, goes_none (stage_of c.args.self.now)); end = tt; full = tt; same_room = refl }
+returns-in_default g c = record { taken = ([], refl, goes_none log_turns (stage_of c.args.self.now)); end = tt; full = tt; same_room = refl }

@@ -1,6 +1,7 @@
 use Rattle.std.proofs.Common.{◌∙◌, Some, ap}
-use Rattle.cap_judge.proofs.TurnLemmas.{memory_only, no_line, step_follows, step_whole, whole_some}
+use Rattle.cap_judge.proofs.TurnLemmas.{memory_only, no_line, step_follows, step_whole}
 use Rattle.cap_judge.proofs.judges.Judge.take_line.Goals as goal
+use Rattle.cap_turns.proofs.LineLemmas.{whole_some}
 
 pub returns-in-Some-Ok-clause-taken : goal.returns-in-Some-Ok-clause-taken
 returns-in-Some-Ok-clause-taken g c =

@@ -1,9 +1,9 @@
 use Rattle.std.proofs.Common.{[], ◌∷◌, ◌++◌, subst}
 use Rattle.cap_log.specs.{declared.{kinds.Step.Step, lines.Line.Line}, Lines.{IsStepInRange, spelling}}
 use Rattle.cap_log.proofs.SpellingLemmas.{IsLine-spelling}
-use Rattle.cap_judge.specs.Readings.{IsNoLine}
 use Rattle.cap_judge.proofs.TurnLemmas.{memory_only, memory_why}
 use Rattle.cap_judge.proofs.judges.Judge.take_unmade.Goals as goal
+use Rattle.cap_turns.specs.Readings.{IsNoLine}
 
 pub take_ended_step-requires-clause-body : goal.take_ended_step-requires-clause-body
 take_ended_step-requires-clause-body g c = (rw c.in-Some.is at c.requires.ends).0

@@ -1,7 +1,7 @@
 use Rattle.std.proofs.{Common.{◌+◌, ◌∙◌, eq-eqb, length, subst, sym}, lemmas.Bool.{false≢true}}
 use Rattle.cap_streams.specs.Front.{IsFront}
-use Rattle.cap_judge.proofs.TurnLemmas.{cut_no_line, longer_no_line}
-use Rattle.cap_judge.proofs.judges.is_whole.Goals as goal
+use Rattle.cap_turns.proofs.LineLemmas.{cut_no_line, longer_no_line}
+use Rattle.cap_turns.proofs.stops.is_whole.Goals as goal
 
 pub returns-in-Line-clause-none : goal.returns-in-Line-clause-none
 returns-in-Line-clause-none c = λ other.
