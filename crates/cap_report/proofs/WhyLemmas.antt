@@ -7,12 +7,14 @@ use Rattle.cap_machine.specs.{Accounts.Account, Helds.{Held, account_of}}
 use Rattle.cap_judge.specs.declared.{faults.RefusedLine.RefusedLine, judges.Due.Due, verdict.Verdict.Verdict}
 use Rattle.cap_judge.specs.declared.verdict.Verdict.TheVariants.{Yes, No}
 use Rattle.cap_judge.specs.Judgings.{IsVerdictOf, IsAnswerOf, LeadsAfter, StopsBefore, StopsIn}
-use Rattle.cap_judge.specs.{OriginLists.report_text, Readings.{AnswerAtEnd, VerdictWith, Follows, IsFaultOf, at, due_of}}
+use Rattle.cap_judge.specs.{OriginLists.report_text, Readings.{AnswerAtEnd, VerdictWith, IsFaultOf, at, due_of}}
 use Rattle.cap_judge.specs.{Reports.Tells, Turns.unread, VerdictLines.verdict_line}
 use Rattle.cap_judge.proofs.{FaultPlaces.at_fault, ReportLemmas.{IsHeld, tells}}
 use Rattle.cap_judge.proofs.TurnLaws.{fault_ends, reached, told as told_at_end}
 use Rattle.cap_report.specs.FaultReports.{IsLineReport, IsReport}
 use Rattle.cap_report.specs.Whys.{Explains, ExplainsEnd, ExplainsSoFar, IsWhyText}
+use Rattle.cap_turns.specs.Readings.{Follows}
+use Rattle.cap_judge.specs.Turns.{log_turns}
 
 -- where a judge stopped, the report of that line is the report of the first fault, whatever bytes follow where the source has not ended
 pub reported : (given : List ℕ) (ended : Bool) (held : Held) (line : ℕ) (refusal : Refusal) (text report : List ℕ)
@@ -79,7 +81,7 @@ no_text bytes ended held line refusal text report ends told =
     (ends.0, (report, reported bytes ended held line refusal text report ends.0 ends.2 told, refl))
 
 -- of one that a judge was handed
-pub so_far : (bytes : List ℕ) (stage : Due) (held : Held) (fault : RefusedLine) (report : List ℕ) → Follows unread bytes (at stage held)
+pub so_far : (bytes : List ℕ) (stage : Due) (held : Held) (fault : RefusedLine) (report : List ℕ) → Follows log_turns unread bytes (at stage held)
     → IsFaultOf (due_of stage) (Some fault) → IsLineReport (account_of held) (bytes_of fault.text) fault.refusal report
     → ExplainsSoFar bytes (Some (No fault.line fault.refusal)) (verdict_line (No fault.line fault.refusal) ++ report)
 so_far bytes stage held fault report follows is told =
@@ -89,14 +91,14 @@ so_far bytes stage held fault report follows is told =
 
 -- the text of a verdict on bytes that end after lines that a judge was handed
 pub yes_at_end : (bytes rest : List ℕ) (stage : Due) (held : Held) (end : Result Verdict RefusedLine) (verdict : Verdict) → end ≡ Ok verdict
-    → Follows unread bytes (at stage held) → IsCut rest → AnswerAtEnd (at stage held) rest end
+    → Follows log_turns unread bytes (at stage held) → IsCut rest → AnswerAtEnd (at stage held) rest end
     → ExplainsEnd (bytes ++ rest) verdict (verdict_line verdict)
 yes_at_end bytes rest stage held end (Yes steps roots) is follows cut ends =
     ((told_at_end bytes rest (at stage held) held (Yes steps roots) [] follows refl cut (subst (AnswerAtEnd (at stage held) rest) is ends)).0, refl)
 yes_at_end bytes rest stage held end (No line refusal) is follows cut ends = absurd (subst (AnswerAtEnd (at stage held) rest) is ends)
 
 pub no_at_end : (bytes rest : List ℕ) (stage : Due) (held : Held) (end : Result Verdict RefusedLine) (fault : RefusedLine) (report : List ℕ)
-    → end ≡ Err fault → Follows unread bytes (at stage held) → IsCut rest → AnswerAtEnd (at stage held) rest end
+    → end ≡ Err fault → Follows log_turns unread bytes (at stage held) → IsCut rest → AnswerAtEnd (at stage held) rest end
     → IsLineReport (account_of held) (bytes_of fault.text) fault.refusal report
     → ExplainsEnd (bytes ++ rest) (No fault.line fault.refusal) (verdict_line (No fault.line fault.refusal) ++ report)
 no_at_end bytes rest stage held end fault report is follows cut ends told =

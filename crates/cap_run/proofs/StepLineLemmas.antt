@@ -12,7 +12,7 @@ use Rattle.tagmem.specs.Granules.{AreStored}
 use Rattle.cap_machine.specs.Accounts.{Account, named_by, row_in, step_checks, with_step}
 use Rattle.cap_machine.specs.{Helds.{Held, account_of}, Runs.parent_of, States.{State, key_of, untagged_null}}
 use Rattle.cap_machine.specs.Steps.{Access, row_of, state_with}
-use Rattle.cap_judge.specs.{Logs.text_of, Readings.{MakesSteps, at}, Turns.{Reads, Stage}}
+use Rattle.cap_judge.specs.{Logs.text_of, Readings.{MakesSteps, at}, Turns.Stage}
 use Rattle.cap_judge.specs.declared.judges.Due.TheVariants as dues
 use Rattle.cap_judge.proofs.TurnLemmas.{allowed_form, body}
 use Rattle.cap_objects.specs.{Counts.{CountsAre, Owners, count_below}, declared.handouts.Handouts.Handouts, Handed.held_of, HandoutsIn.objects_of}
@@ -25,6 +25,8 @@ use Rattle.cap_run.specs.{StepLines.{LeadBy, MakesUsualSteps, text_of_steps}, Us
 use Rattle.cap_run.proofs.{AloneLemmas.{main-unowned, then_none, unowned}, AskedLemmas.and_none, RootLemmas.first-usual, RunNumberLemmas.{index_in, nowhere, run-is}}
 use Rattle.cap_run.proofs.UsualLemmas.{owners-main, owners-special, place-low, under_then}
 use Rattle.cap_run.proofs.UsualNumberLemmas.{last_checks, naming-apart, naming-rest, passed, state-far, usual_check, usual_with, ruled-low}
+use Rattle.cap_turns.specs.Turns.{Reads}
+use Rattle.cap_judge.specs.Turns.{log_turns}
 
 -- no place past the granules holds anything
 IsNear : State → Type 0
@@ -152,11 +154,11 @@ module _ (account : Account) (specials : ℕ → Cap) (near : IsNear account.sta
 
 -- Steps one after another
 
-leads_on : (asks : Asks) (specials : ℕ → Cap) (old new : Account) (steps : List Step) → Reads (body old) (map Line.Step steps) (body new)
+leads_on : (asks : Asks) (specials : ℕ → Cap) (old new : Account) (steps : List Step) → Reads log_turns (body old) (map Line.Step steps) (body new)
     → AllByRecursion IsInRange (map Line.Step steps) → IsNear old.state → IsFree old.origin
     → AllByRecursion IsStepInRange steps × LeadBy asks (bare old specials) steps (bare new specials) × IsFree new.origin
 leads_on asks specials old new [] reads range near free =
-    let same = ap (λ (s : Stage). s.account) reads in (
+    let same = ap (λ (s : Stage). s.state) reads in (
       tt,
       ap (λ (a : Account). bare a specials) same,
       subst (λ (a : Account). IsFree a.origin) same free,
@@ -217,7 +219,7 @@ module _ (held new : Held) (specials : Specials) (h : Handouts) (asks : Asks) (s
   unfolding IsNear IsFree
   all_led =
       leads_on asks (cap_in specials) (account_of held) (account_of new) makes.steps
-      (subst (λ (ls : List Line). Reads (at dues.Body held) ls (at dues.Body new)) makes.lines_are makes.goes.reads)
+      (subst (λ (ls : List Line). Reads log_turns (at dues.Body held) ls (at dues.Body new)) makes.lines_are makes.goes.reads)
       (subst (AllByRecursion IsInRange) makes.lines_are makes.goes.in_range)
       (λ key far. state-far held key stored far) (main-unowned held specials h sized counts alone stored)
 

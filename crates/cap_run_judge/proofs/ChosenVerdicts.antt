@@ -7,16 +7,22 @@ use Rattle.cap_run.specs.declared.{asks.Asks.Asks, ends.RunRefusal.RunRefusal}
 use Rattle.cap_run.specs.{Choices.{EndsEarlier, IsAfterHeld, IsAfterOwned, IsAfterUsed}, Run.Run, RunChecks.line_end}
 use Rattle.cap_run.proofs.ChoiceLemmas.{by_choice}
 use Rattle.cap_run_judge.specs.declared.verdict.RunVerdict.{RunVerdict, TheVariants.{Yes, No}}
-use Rattle.cap_run_judge.specs.Turns.{Body, Due, First, Reads, Second, Stage, refusal_by, stage_after, text_of, unread}
-use Rattle.cap_run_judge.specs.Verdicts.{IsBehind, IsFirstFault, IsRunVerdict, Refuses}
+use Rattle.cap_run_judge.specs.Turns.{Stage, unread}
+use Rattle.cap_run_judge.specs.Verdicts.{IsRunVerdict}
 use Rattle.cap_run_judge.specs.ChosenVerdicts.{IsFaultyEarlier, VerdictsByChoice}
-use Rattle.cap_run_judge.proofs.{OneVerdict.one_verdict, TurnLemmas.IsLine-run_spelling}
+use Rattle.cap_run_judge.proofs.OneVerdict.{one_verdict}
+use Rattle.cap_turns.specs.Turns.{Body, Due, First, Reads, Second, next_stage, refusal_by, text_of}
+use Rattle.cap_turns.specs.Verdicts.{IsBehind, IsFirstFault, Refuses}
+use Rattle.cap_turns.proofs.TurnLemmas.{IsLine-spelling}
+use Rattle.cap_run_judge.specs.Turns.{run_turns}
+use Rattle.cap_run_judge.proofs.TurnLemmas.{run_spelled, asked}
+use Rattle.cap_run.specs.declared.ends.RunRefusal.{RunRefusal}
 
 module _ (less more : Asks) (why : RunRefusal) (IsAfter : Option RunRefusal → Type 0)
     (ends : (run : Run) (line : RunLine) → EndsEarlier why IsAfter (line_end less run line) (line_end more run line)) where
   -- a line, or bytes that no line spells, by both choices
-  by_both : (run_is : Run) (due : Due) (line : Option RunLine)
-      → EndsEarlier why IsAfter (refusal_by less run_is due line) (refusal_by more run_is due line)
+  by_both : (run_is : Run) (due : Due RunRefusal) (line : Option RunLine)
+      → EndsEarlier why IsAfter (refusal_by run_turns (asked less run_is) due line) (refusal_by run_turns (asked more run_is) due line)
   by_both run_is First (Some RunLine.Version) = inl refl
   by_both run_is First line = inl refl
   by_both run_is Second (Some (RunLine.Mode mode)) = inl refl
@@ -26,7 +32,7 @@ module _ (less more : Asks) (why : RunRefusal) (IsAfter : Option RunRefusal → 
   by_both run_is due line = inl refl
 
   abbrev asked_more : Stage → Stage
-  asked_more stage = record stage { asks = more }
+  asked_more stage = record stage { state = asked more stage.state.run }
 
   -- of lines that are allowed, one is refused by the check
   record Refused (from : Stage) (read : List RunLine) : Type 0 where
@@ -35,13 +41,13 @@ module _ (less more : Asks) (why : RunRefusal) (IsAfter : Option RunRefusal → 
     back : List RunLine
     lines_are : read ≡ front ++ line ∷ back
     stage : Stage
-    reads : Reads (asked_more from) front stage
+    reads : Reads run_turns (asked_more from) front stage
     in_range : AllByRecursion IsRunLineInRange front
     line_in_range : IsRunLineInRange line
-    refused : refusal_by stage.asks stage.run stage.due (Some line) ≡ Some why
+    refused : refusal_by run_turns (asked stage.state.asks stage.state.run) stage.due (Some line) ≡ Some why
 
   later : (from : Stage) (line : RunLine) (rest : List RunLine) → IsRunLineInRange line
-      → refusal_by more from.run from.due (Some line) ≡ None → Refused (stage_after from line) rest → Refused from (line ∷ rest)
+      → refusal_by run_turns (asked more from.state.run) from.due (Some line) ≡ None → Refused (next_stage run_turns from line) rest → Refused from (line ∷ rest)
   later from line rest range allowed it = record {
     front = line ∷ it.front;
     line = it.line;
@@ -55,16 +61,16 @@ module _ (less more : Asks) (why : RunRefusal) (IsAfter : Option RunRefusal → 
   }
 
   abbrev Walk : Stage → Stage → List RunLine → Type 0
-  Walk from to read = Reads (asked_more from) read (asked_more to) ⊎ Refused from read
+  Walk from to read = Reads run_turns (asked_more from) read (asked_more to) ⊎ Refused from read
 
   one_more : (from to : Stage) (line : RunLine) (rest : List RunLine) → IsRunLineInRange line
-      → refusal_by more from.run from.due (Some line) ≡ None → Walk (stage_after from line) to rest → Walk from to (line ∷ rest)
+      → refusal_by run_turns (asked more from.state.run) from.due (Some line) ≡ None → Walk (next_stage run_turns from line) to rest → Walk from to (line ∷ rest)
   one_more from to line rest range allowed (inl reads) = inl (allowed, reads)
   one_more from to line rest range allowed (inr it) = inr (later from line rest range allowed it)
 
   first_line : (from to : Stage) (line : RunLine) (rest : List RunLine) → IsRunLineInRange line
-      → refusal_by less from.run from.due (Some line) ≡ None → Walk (stage_after from line) to rest
-      → EndsEarlier why IsAfter (refusal_by less from.run from.due (Some line)) (refusal_by more from.run from.due (Some line))
+      → refusal_by run_turns (asked less from.state.run) from.due (Some line) ≡ None → Walk (next_stage run_turns from line) to rest
+      → EndsEarlier why IsAfter (refusal_by run_turns (asked less from.state.run) from.due (Some line)) (refusal_by run_turns (asked more from.state.run) from.due (Some line))
       → Walk from to (line ∷ rest)
   first_line from to line rest range free on (inl same) = one_more from to line rest range (same ∙ free) on
   first_line from to line rest range free on (inr refused) = inr (record {
@@ -79,61 +85,63 @@ module _ (less more : Asks) (why : RunRefusal) (IsAfter : Option RunRefusal → 
     refused = refused.0;
   })
 
-  walk : (from to : Stage) (read : List RunLine) → from.asks ≡ less → AllByRecursion IsRunLineInRange read → Reads from read to → Walk from to read
+  walk : (from to : Stage) (read : List RunLine) → from.state.asks ≡ less → AllByRecursion IsRunLineInRange read → Reads run_turns from read to → Walk from to read
   walk from to [] asks_are range reads = inl (ap asked_more reads)
   walk from to (line ∷ rest) asks_are range reads =
       first_line from to line rest range.0
-      (subst (λ (a : Asks). refusal_by a from.run from.due (Some line) ≡ None) asks_are reads.0)
-      (walk (stage_after from line) to rest asks_are range.1 reads.1) (by_both from.run from.due (Some line))
+      (subst (λ (a : Asks). refusal_by run_turns (asked a from.state.run) from.due (Some line) ≡ None) asks_are reads.0)
+      (walk (next_stage run_turns from line) to rest asks_are range.1 reads.1) (by_both from.state.run from.due (Some line))
 
   module _ (bytes : List ℕ) where
     abbrev Answer : RunVerdict → Type 0
     Answer one = (two : RunVerdict) × IsRunVerdict more bytes two × IsFaultyEarlier why IsAfter one two
 
     -- the check refuses a line of those that are allowed without it
-    fault_at : (read : List RunLine) (rest : List ℕ) → bytes ≡ text_of read ++ rest → (it : Refused (unread less) read)
-        → IsFirstFault more bytes (length it.front + 1) why
+    fault_at : (read : List RunLine) (rest : List ℕ) → bytes ≡ text_of run_turns read ++ rest → (it : Refused (unread less) read)
+        → IsFirstFault run_turns (unread more) bytes (length it.front + 1) why
     fault_at read rest are it =
-        let behind = text_of it.back ++ rest in
+        let behind = text_of run_turns it.back ++ rest in
         let text = run_spelling it.line in
-        let split : text_of read ≡ text_of it.front ++ ((text ++ 10 ∷ []) ++ text_of it.back) =
-        ap text_of it.lines_are ∙ flat_map-append (λ (l : RunLine). run_spelling l ++ 10 ∷ []) it.front (it.line ∷ it.back) in
+        let split : text_of run_turns read ≡ text_of run_turns it.front ++ ((text ++ 10 ∷ []) ++ text_of run_turns it.back) =
+        ap (text_of run_turns) it.lines_are ∙ flat_map-append (λ (l : RunLine). run_spelling l ++ 10 ∷ []) it.front (it.line ∷ it.back) in
         record {
           stage = it.stage;
           rest = text ++ 10 ∷ behind;
           behind = record {
-            front = text_of it.front;
+            front = text_of run_turns it.front;
             bytes_are = are ∙ ap (λ (t : List ℕ). t ++ rest) split ∙ simp (append_assoc);
             goes = record { lines = it.front; in_range = it.in_range; bytes_are = refl; reads = it.reads };
           };
           number_is = refl;
-          refused = inr (inr (text, behind, IsLine-run_spelling it.line it.line_in_range behind, (Some it.line, (it.line_in_range, refl), it.refused)));
+          refused = inr (inr (text, behind, IsLine-spelling run_turns run_spelled it.line it.line_in_range behind, (Some it.line, (it.line_in_range, refl), it.refused)));
         }
 
     -- what is refused without the check is refused with it
-    refused_too : (stage : Stage) (rest : List ℕ) (refusal : RunRefusal) → stage.asks ≡ less → Refuses stage rest refusal
-        → Refuses (asked_more stage) rest refusal ⊎ (Refuses (asked_more stage) rest why × IsAfter (Some refusal))
+    refused_too : (stage : Stage) (rest : List ℕ) (refusal : RunRefusal) → stage.state.asks ≡ less → Refuses run_turns stage rest refusal
+        → Refuses run_turns (asked_more stage) rest refusal ⊎ (Refuses run_turns (asked_more stage) rest why × IsAfter (Some refusal))
     refused_too stage rest refusal asks_are (inl long) = inl (inl long)
     refused_too stage rest refusal asks_are (inr (inl cut)) = inl (inr (inl cut))
     refused_too stage rest refusal asks_are (inr (inr (text, behind, one, (line, reads, is)))) =
-        let was = subst (λ (a : Asks). refusal_by a stage.run stage.due line ≡ Some refusal) asks_are is in
-        elim (by_both stage.run stage.due line) [
+        let was = subst (λ (a : Asks). refusal_by run_turns (asked a stage.state.run) stage.due line ≡ Some refusal) asks_are is in
+        elim (by_both stage.state.run stage.due line) [
           | inl same ↦ inl (inr (inr (text, behind, one, (line, reads, same ∙ was))))
           | inr it ↦ inr (inr (inr (text, behind, one, (line, reads, it.0))), subst IsAfter was it.1)
         ]
 
-    asks_of : (from to : Stage) (read : List RunLine) → Reads from read to → to.asks ≡ from.asks
-    asks_of from to [] reads = ap (λ (s : Stage). s.asks) (sym reads)
-    asks_of from to (line ∷ rest) reads = asks_of (stage_after from line) to rest reads.1
+    asks_of : (from to : Stage) (read : List RunLine) → Reads run_turns from read to → to.state.asks ≡ from.state.asks
+    asks_of from to [] reads = ap (λ (s : Stage). s.state.asks) (sym reads)
+    asks_of from to (line ∷ rest) reads = asks_of (next_stage run_turns from line) to rest reads.1
 
     answer : (one : RunVerdict) → IsRunVerdict less bytes one → Answer one
-    answer (Yes steps roots objects) is = elim (walk (unread less) is.stage is.goes.lines refl is.goes.in_range is.goes.reads) [
+    answer (Yes steps roots objects) is = elim (walk (unread less) is.stage is.whole.goes.lines refl is.whole.goes.in_range is.whole.goes.reads) [
       | inl reads ↦ (
         Yes steps roots objects,
         record {
           stage = asked_more is.stage;
-          goes = record { lines = is.goes.lines; in_range = is.goes.in_range; bytes_are = is.goes.bytes_are; reads = reads };
-          ended = is.ended;
+          whole = record {
+            goes = record { lines = is.whole.goes.lines; in_range = is.whole.goes.in_range; bytes_are = is.whole.goes.bytes_are; reads = reads };
+            ended = is.whole.ended;
+          };
           step_count_is = is.step_count_is;
           root_count_is = is.root_count_is;
           object_count_is = is.object_count_is;
@@ -142,7 +150,7 @@ module _ (less more : Asks) (why : RunRefusal) (IsAfter : Option RunRefusal → 
       )
       | inr it ↦ (
         No (length it.front + 1) why,
-        fault_at is.goes.lines [] (is.goes.bytes_are ∙ simp (append-nil)) it,
+        fault_at is.whole.goes.lines [] (is.whole.goes.bytes_are ∙ simp (append-nil)) it,
         inr (length it.front + 1, refl, tt),
       )
     ]
@@ -151,7 +159,7 @@ module _ (less more : Asks) (why : RunRefusal) (IsAfter : Option RunRefusal → 
         let are = is.behind.bytes_are ∙ ap (λ (t : List ℕ). t ++ is.rest) goes.bytes_are in
         elim (walk (unread less) is.stage goes.lines refl goes.in_range goes.reads) [
           | inl reads ↦
-              let behind : IsBehind more bytes (asked_more is.stage) is.rest =
+              let behind : IsBehind run_turns (unread more) bytes (asked_more is.stage) is.rest =
               record {
                 front = is.behind.front;
                 bytes_are = is.behind.bytes_are;

@@ -8,11 +8,15 @@ use Rattle.cap_run.specs.{Allowed.{AreAllowed, IsLineAllowed}, declared.asks.Ask
 use Rattle.cap_run.specs.declared.ends.RunRefusal.TheVariants.{Usual}
 use Rattle.cap_run.specs.Run.{Run}
 use Rattle.cap_run.proofs.{ApartLemmas.safe_at_each, DescentLemmas.{allowed_by, lie_in_roots, stay_within_roots}, OneRootLemmas.descend_from_one, OwnedLemmas.accesses_own}
-use Rattle.cap_run_judge.specs.Turns.{Due, Reads, Stage, refusal_by, stage_after, unread}
+use Rattle.cap_run_judge.specs.Turns.{Stage, unread}
 use Rattle.cap_run_judge.specs.Verdicts.{AreGuarded, IsRunGuarded}
+use Rattle.cap_turns.specs.Turns.{Due, Reads, next_stage, refusal_by}
+use Rattle.cap_run_judge.specs.Turns.{run_turns}
+use Rattle.cap_run_judge.proofs.TurnLemmas.{asked}
+use Rattle.cap_run.specs.declared.ends.RunRefusal.{RunRefusal}
 
 -- a line that nothing refuses is allowed in the run
-line_allowed : (asks_are : Asks) (run_is : Run) (due : Due) (line : RunLine) → refusal_by asks_are run_is due (Some line) ≡ None
+line_allowed : (asks_are : Asks) (run_is : Run) (due : Due RunRefusal) (line : RunLine) → refusal_by run_turns (asked asks_are run_is) due (Some line) ≡ None
     → IsLineAllowed asks_are run_is line
 line_allowed asks_are run_is Due.First RunLine.Version free = tt
 line_allowed asks_are run_is Due.First line free = absurd (none-some (Usual BadHeader) (sym free))
@@ -21,11 +25,11 @@ line_allowed asks_are run_is Due.Second line free = absurd (none-some (Usual Bad
 line_allowed asks_are run_is Due.Body line free = allowed_by asks_are run_is line free
 line_allowed asks_are run_is due line free = absurd (none-some (Usual Misplaced) (sym free))
 
-pub read_allowed : (from to : Stage) (lines : List RunLine) → AllByRecursion IsRunLineInRange lines → Reads from lines to
-    → AreAllowed from.asks from.run lines
+pub read_allowed : (from to : Stage) (lines : List RunLine) → AllByRecursion IsRunLineInRange lines → Reads run_turns from lines to
+    → AreAllowed from.state.asks from.state.run lines
 read_allowed from to [] range reads = tt
 read_allowed from to (line ∷ lines) range reads =
-    (range.0, line_allowed from.asks from.run from.due line reads.0, read_allowed (stage_after from line) to lines range.1 reads.1)
+    (range.0, line_allowed from.state.asks from.state.run from.due line reads.0, read_allowed (next_stage run_turns from line) to lines range.1 reads.1)
 
 guarded_by : (asks : Asks) (lines : List RunLine) → AreAllowed asks no_run lines → AreGuarded asks lines
 guarded_by asks lines allowed = record {

@@ -3,7 +3,6 @@ pub mod TurnLemmas
 pub mod CountLemmas
 pub mod EndLemmas
 pub mod FollowLemmas
-mod SomeVerdict
 mod ErasedLogs
 mod ChosenVerdicts
 mod SourceLemmas

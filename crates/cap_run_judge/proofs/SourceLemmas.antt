@@ -1,19 +1,20 @@
 -- What a judge of run logs answers on the bytes that a source gave.
 use Rattle.std.proofs.Common.{◌≡◌, ◌≢◌, ℕ, ◌+◌, ◌≤◌, Bool, true, false, List, [], ◌∷◌, ◌++◌, length, refl, sym, ap}
 use Rattle.std.proofs.Common.{subst, ◌∙◌, append-nil, append_assoc, arith, Result, Ok, Err, IfOk, IfErr, ◌-◌, ◌*◌, ◌<◌}
-use Rattle.std.proofs.Common.{length-append}
 use Rattle.cap_streams.specs.{declared.judging.judge_faults.JudgeFault.{JudgeFault, TheVariants.{Pull, NoMemory}}, Front.IsCut, Streams.CountsOnly}
-use Rattle.cap_run_log.specs.declared.lines.RunLine.{RunLine}
 use Rattle.cap_run.specs.{declared.asks.Asks.Asks, Run.Run}
 use Rattle.cap_run_judge.specs.declared.{faults.RefusedRunLine.RefusedRunLine, verdict.RunVerdict.{RunVerdict, TheVariants.{Yes, No}}}
-use Rattle.cap_run_judge.specs.Turns.{Goes, Stage, text_of, unread}
-use Rattle.cap_run_judge.specs.Verdicts.{IsRunVerdict, MayLackMemory, NoRunVerdictIn}
+use Rattle.cap_run_judge.specs.Turns.{Stage, unread}
+use Rattle.cap_run_judge.specs.Verdicts.{IsRunVerdict, NoRunVerdictIn}
 use Rattle.cap_run_judge.specs.Judgings.{IsAnswerOf, IsVerdictOf, JudgedBy}
-use Rattle.cap_run_judge.specs.Readings.{AnswerAtEnd, VerdictAtEnd, VerdictWith, IsAnswered, lines_read}
-use Rattle.cap_run_judge.proofs.{CountLemmas.count_read, GuardLemmas.run_guarded, TurnLemmas.goes_on}
+use Rattle.cap_run_judge.specs.Readings.{AnswerAtEnd, VerdictAtEnd, VerdictWith, IsAnswered}
+use Rattle.cap_run_judge.proofs.GuardLemmas.{run_guarded}
+use Rattle.cap_turns.specs.Turns.{Goes}
+use Rattle.cap_turns.specs.Verdicts.{MayLackMemory}
+use Rattle.cap_run_judge.specs.Turns.{run_turns}
 
 -- want of memory with more bytes after it
-lack-more : (asks_are : Asks) (bytes rest more : List ℕ) → MayLackMemory asks_are bytes rest → MayLackMemory asks_are (bytes ++ more) (rest ++ more)
+lack-more : (asks_are : Asks) (bytes rest more : List ℕ) → MayLackMemory run_turns (unread asks_are) bytes rest → MayLackMemory run_turns (unread asks_are) (bytes ++ more) (rest ++ more)
 lack-more asks_are bytes rest more lack = record {
   stage = lack.stage;
   rest = lack.rest ++ more;
@@ -85,8 +86,8 @@ module _ {S : Type 0} (asks_are : Asks) (gave : S → S → List ℕ → Type 0)
       })
 
   -- want of memory
-  pub lacking_judged : (stage : Stage) (taken rest more : List ℕ) → Goes (unread asks_are) taken stage → given ≡ taken ++ rest → run_is ≡ stage.run
-      → MayLackMemory asks_are given more → gave old new given → JudgedBy asks_are gave ended old new (Err JudgeFault.NoMemory) run_is text
+  pub lacking_judged : (stage : Stage) (taken rest more : List ℕ) → Goes run_turns (unread asks_are) taken stage → given ≡ taken ++ rest → run_is ≡ stage.state.run
+      → MayLackMemory run_turns (unread asks_are) given more → gave old new given → JudgedBy asks_are gave ended old new (Err JudgeFault.NoMemory) run_is text
   lacking_judged stage taken rest more goes are is lack gives = record {
     judged = record { given = given; gives = gives; answer = record { verdict = tt; guarded = run_guarded asks_are given; fault = (more, lack) } };
     stops = tt;
@@ -94,8 +95,8 @@ module _ {S : Type 0} (asks_are : Asks) (gave : S → S → List ℕ → Type 0)
   }
 
   -- a source that failed after lines that begin a run log, and less than a line
-  pub pull_judged : (stage : Stage) (taken rest : List ℕ) → Goes (unread asks_are) taken stage → IsCut rest → given ≡ taken ++ rest
-      → run_is ≡ stage.run → gave old new given → JudgedBy asks_are gave ended old new (Err JudgeFault.Pull) run_is text
+  pub pull_judged : (stage : Stage) (taken rest : List ℕ) → Goes run_turns (unread asks_are) taken stage → IsCut rest → given ≡ taken ++ rest
+      → run_is ≡ stage.state.run → gave old new given → JudgedBy asks_are gave ended old new (Err JudgeFault.Pull) run_is text
   pull_judged stage taken rest goes cut are is gives = record {
     judged = record {
       given = given;
@@ -109,22 +110,3 @@ module _ {S : Type 0} (asks_are : Asks) (gave : S → S → List ℕ → Type 0)
     stops = tt;
     leaves = record { stage = stage; rest = rest; behind = record { front = taken; bytes_are = are; goes = goes }; run_is = is };
   }
-
--- lines were read, or what is left grows
-by_lines : (lines : List RunLine) (front rest kept more : List ℕ) (old new : ℕ) → front ≡ text_of lines → kept ++ more ≡ front ++ rest
-    → length kept ≤ 95 → length rest ≤ 95 → length more ≢ 0 → new ≡ old + length lines → new ≤ 8589934600
-    → 96 * (8589934700 - new) + 96 - length rest < 96 * (8589934700 - old) + 96 - length kept
-by_lines [] front rest kept more old new are split cut left some is few =
-    let long = ap length split ∙ ap (λ (f : List ℕ). length (f ++ rest)) are in
-    omega (arith, long, length-append kept more, some, is, few)
-by_lines (line ∷ lines) front rest kept more old new are split cut left some is few = omega (arith, cut, left, is, few)
-
-pub closer : (asks_are : Asks) (old new : Stage) (taken front kept more rest : List ℕ) → Goes (unread asks_are) taken old → Goes old front new
-    → kept ++ more ≡ front ++ rest → IsCut kept → IsCut rest → length more ≢ 0 → lines_read new ≤ 8589934600
-    → 96 * (8589934700 - lines_read new) + 96 - length rest < 96 * (8589934700 - lines_read old) + 96 - length kept
-unfolding goes_on
-closer asks_are old new taken front kept more rest was on split cut left some few =
-    let before = count_read asks_are taken old was in
-    let after = count_read asks_are (taken ++ front) new (goes_on (unread asks_are) old new taken front was on) in
-    by_lines on.lines front rest kept more _ _ on.bytes_are split cut.0 left.0 some
-    (after ∙ length-append was.lines on.lines ∙ ap (λ (n : ℕ). n + length on.lines) (sym before)) few

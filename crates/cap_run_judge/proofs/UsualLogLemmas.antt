@@ -11,7 +11,7 @@ use Rattle.cap_machine.proofs.AccountLemmas.{account_after-grows}
 use Rattle.cap_judge.specs.{declared.verdict.Verdict.{Verdict, TheVariants.{No, Yes}}, Judgings.{IsBehind, account_before}, Verdicts.IsVerdict}
 use Rattle.cap_judge.specs.Logs.{Beginning, Body, Empty, IsAccepted, NoMode, Whole, account_after, has_form, line_checks, lines_of}
 use Rattle.cap_judge.specs.Logs.{Refuses as LogRefuses, text_of as log_text}
-use Rattle.cap_judge.specs.Turns.{Allows as LogAllows, Body as LogBody, Stage as LogStage, refusal_at as log_refusal_at}
+use Rattle.cap_judge.specs.Turns.{Stage as LogStage, log_turns}
 use Rattle.cap_judge.proofs.{InTurn.{longer, stage_after as log_stage, with_line}, JudgeLemmas.{fault_behind, front_refused, text_push, yes_of}}
 use Rattle.cap_judge.proofs.{OneVerdict.one_verdict as one_log_verdict, TurnLaws.refuses_text}
 use Rattle.cap_run_log.specs.{declared.lines.RunLine.RunLine, RunLines.{IsRunLineInRange, SpellsRun, run_spelling}, UsualLines.{IsUsualLine, as_run}}
@@ -20,9 +20,13 @@ use Rattle.cap_run.specs.{declared.{asks.Asks.Asks, ends.RunRefusal.{TheVariants
 use Rattle.cap_run.specs.{RunChanges.{line_after, no_run}, UsualRuns.{IsOfLog, log_refusal, run_by}}
 use Rattle.cap_run.proofs.UsualRunLemmas.{means_the_same}
 use Rattle.cap_run_judge.specs.declared.verdict.RunVerdict.{RunVerdict}
-use Rattle.cap_run_judge.specs.Turns.{Allows, Due, Goes, Stage, refusal_by, stage_after, text_of, unread}
-use Rattle.cap_run_judge.specs.{UsualLogs.{AreUsual, NamesNoLimit, as_run_verdict}, Verdicts.{IsRunVerdict, Refuses}}
-use Rattle.cap_run_judge.proofs.{OneVerdict.one_verdict, TurnLemmas.Reads-append}
+use Rattle.cap_run_judge.specs.Turns.{Stage, unread}
+use Rattle.cap_run_judge.specs.{UsualLogs.{AreUsual, NamesNoLimit, as_run_verdict}, Verdicts.IsRunVerdict}
+use Rattle.cap_run_judge.proofs.{FollowLemmas.staged, OneVerdict.one_verdict, TurnLemmas.asked}
+use Rattle.cap_turns.specs.Turns.{Allows, Due, Goes, next_stage, refusal_by, text_of}
+use Rattle.cap_turns.specs.Verdicts.{Refuses}
+use Rattle.cap_turns.proofs.TurnLemmas.{Reads-append}
+use Rattle.cap_run_judge.specs.Turns.{run_turns}
 
 -- Bytes whose lines logs have, too
 
@@ -39,9 +43,9 @@ usual_front bytes text more usual whole line = usual [] text more line tt whole.
 
 abbrev run_stage : Asks → Beginning → Stage
 run_stage asks_are Empty = unread asks_are
-run_stage asks_are NoMode = record { asks = asks_are; run = no_run; due = Due.Second }
-run_stage asks_are (Body rules_are roots steps) = record { asks = asks_are; run = run_by (account_after rules_are roots steps); due = Due.Body }
-run_stage asks_are (Whole rules_are roots steps) = record { asks = asks_are; run = run_by (account_after rules_are roots steps); due = Due.Ended }
+run_stage asks_are NoMode = staged asks_are no_run Due.Second
+run_stage asks_are (Body rules_are roots steps) = staged asks_are (run_by (account_after rules_are roots steps)) Due.Body
+run_stage asks_are (Whole rules_are roots steps) = staged asks_are (run_by (account_after rules_are roots steps)) Due.Ended
 
 abbrev new_account : (rules_are : Rules) → IsOfLog (account_after rules_are [] [])
 new_account rules_are = record { limits_are = refl; holds_none = λ key far. refl }
@@ -58,7 +62,7 @@ Form rules_are = (line : Line) → has_form rules_are line ≡ true
 
 -- in a body each line has a form, and is refused by its checks alone
 by_checks : (rules_are : Rules) (roots : List DeclaredRoot) (steps : List Step) (line : Line) → Form rules_are
-    → (let account = account_after rules_are roots steps in log_refusal_at account LogBody (Some line) ≡ log_refusal account line)
+    → (let account = account_after rules_are roots steps in refusal_by log_turns account Due.Body (Some line) ≡ log_refusal account line)
 by_checks rules_are roots steps line form =
     let account = account_after rules_are roots steps in
     let is = ap (λ (r : Rules). has_form r line) (account_after-grows rules_are roots steps).rules_stay ∙ form line in
@@ -70,10 +74,10 @@ two_on rules_are roots steps (Line.End count) form = tt
 two_on rules_are roots steps line form = form
 
 -- the text of lines with one more
-text_last : (lines : List RunLine) (line : RunLine) → text_of (lines ++ line ∷ []) ≡ text_of lines ++ (run_spelling line ++ 10 ∷ [])
+text_last : (lines : List RunLine) (line : RunLine) → text_of run_turns (lines ++ line ∷ []) ≡ text_of run_turns lines ++ (run_spelling line ++ 10 ∷ [])
 text_last lines line =
     flat_map-append (λ (l : RunLine). run_spelling l ++ 10 ∷ []) lines (line ∷ [])
-    ∙ ap (λ (t : List ℕ). text_of lines ++ t) (append-nil (run_spelling line ++ 10 ∷ []))
+    ∙ ap (λ (t : List ℕ). text_of run_turns lines ++ t) (append-nil (run_spelling line ++ 10 ∷ []))
 
 -- both logs are read to the same place, and go on with the same bytes
 record Here (asks_are : Asks) (bytes run_bytes : List ℕ) (beginning : Beginning) (rest : List ℕ) : Type 0 where
@@ -82,7 +86,7 @@ record Here (asks_are : Asks) (bytes run_bytes : List ℕ) (beginning : Beginnin
   behind : IsBehind bytes beginning rest
   front : List ℕ
   run_bytes_are : run_bytes ≡ front ++ rest
-  goes : Goes (unread asks_are) front (run_stage asks_are beginning)
+  goes : Goes run_turns (unread asks_are) front (run_stage asks_are beginning)
   as_many : length goes.lines ≡ length (lines_of beginning)
   usual : AreUsual rest
 
@@ -101,7 +105,7 @@ module _ (asks_are : Asks) (bytes run_bytes : List ℕ) where
       HasBoth asks_are bytes run_bytes ⊎ ((next : Beginning) × (more : List ℕ) × At next more × (length more < length rest))
 
   both_refuse : (beginning : Beginning) (rest : List ℕ) (refusal : Refusal) → At beginning rest → LogRefuses beginning rest refusal
-      → (refusal ≢ LimitPassed → Refuses (run_stage asks_are beginning) rest (Usual refusal)) → HasBoth asks_are bytes run_bytes
+      → (refusal ≢ LimitPassed → Refuses run_turns (run_stage asks_are beginning) rest (Usual refusal)) → HasBoth asks_are bytes run_bytes
   both_refuse beginning rest refusal here refused run_refused = (
     No (length (lines_of beginning) + 1) refusal,
     fault_behind bytes rest beginning refusal here.behind refused,
@@ -116,8 +120,8 @@ module _ (asks_are : Asks) (bytes run_bytes : List ℕ) where
 
   -- one line more
   go_on : (beginning : Beginning) (rest text more : List ℕ) (line : Line) → At beginning rest → IsLine rest text more → Spells text line
-      → LogAllows (log_stage beginning) line → Allows (run_stage asks_are beginning) (as_run line)
-      → stage_after (run_stage asks_are beginning) (as_run line) ≡ run_stage asks_are (with_line beginning line)
+      → Allows log_turns (log_stage beginning) line → Allows run_turns (run_stage asks_are beginning) (as_run line)
+      → next_stage run_turns (run_stage asks_are beginning) (as_run line) ≡ run_stage asks_are (with_line beginning line)
       → IsTwo (with_line beginning line) → IsOfLog (account_before (with_line beginning line)) → Follows rest
   go_on beginning rest text more line here whole spells allowed run_allowed stage_is two_is of_log_is =
       let next = longer beginning line here.behind.accepted spells.0 allowed in
@@ -137,8 +141,8 @@ module _ (asks_are : Asks) (bytes run_bytes : List ℕ) where
           lines = lines_are ++ as_run line ∷ [];
           in_range = AllByRecursion-append IsRunLineInRange lines_are (as_run line ∷ []) here.goes.in_range ((in_range_alike line).0 spells.0, tt);
           bytes_are = ap (λ (t : List ℕ). t ++ (spelling line ++ 10 ∷ [])) here.goes.bytes_are
-              ∙ ap (λ (s : List ℕ). text_of lines_are ++ (s ++ 10 ∷ [])) (sym (spelled_alike line)) ∙ sym (text_last lines_are (as_run line));
-          reads = Reads-append (unread asks_are) (run_stage asks_are beginning) (run_stage asks_are (with_line beginning line)) lines_are
+              ∙ ap (λ (s : List ℕ). text_of run_turns lines_are ++ (s ++ 10 ∷ [])) (sym (spelled_alike line)) ∙ sym (text_last lines_are (as_run line));
+          reads = Reads-append run_turns (unread asks_are) (run_stage asks_are beginning) (run_stage asks_are (with_line beginning line)) lines_are
               (as_run line ∷ []) here.goes.reads (run_allowed, stage_is);
         };
         as_many = length-append lines_are (as_run line ∷ []) ∙ ap (λ (n : ℕ). n + 1) here.as_many
@@ -156,39 +160,39 @@ module _ (asks_are : Asks) (bytes run_bytes : List ℕ) where
 
     -- a line in a body is refused for the same reason
     same_refusal : (line : Line) → Form rules_are → IsOfLog account_is → IsInRange line
-        → log_refusal_at account_is LogBody (Some line) ≢ Some LimitPassed
-        → refusal_by asks_are (run_by account_is) Due.Body (Some (as_run line)) ≡ option_map Usual (log_refusal_at account_is LogBody (Some line))
+        → refusal_by log_turns account_is Due.Body (Some line) ≢ Some LimitPassed
+        → refusal_by run_turns (asked asks_are (run_by account_is)) Due.Body (Some (as_run line)) ≡ option_map Usual (refusal_by log_turns account_is Due.Body (Some line))
     same_refusal line form of_log_is range free =
         let same = by_checks rules_are roots steps line form in
         (means_the_same asks_are account_is line range of_log_is).ends (λ limit. free (same ∙ limit)) ∙ ap (option_map Usual) (sym same)
 
     -- and leads to the same
-    led : (line : Line) → IsAccepted body → IsOfLog account_is → IsInRange line → LogAllows (log_stage body) line
+    led : (line : Line) → IsAccepted body → IsOfLog account_is → IsInRange line → Allows log_turns (log_stage body) line
         → line_after (run_by account_is) (as_run line) ≡ run_by (account_before (with_line body line))
     led line accepted of_log_is range allowed =
         (means_the_same asks_are account_is line range of_log_is).leads
-        ∙ ap run_by (sym (ap (λ (s : LogStage). s.account) (longer body line accepted range allowed).stage_is))
+        ∙ ap run_by (sym (ap (λ (s : LogStage). s.state) (longer body line accepted range allowed).stage_is))
 
-    turned : (line : Line) → IsAccepted body → Form rules_are → IsOfLog account_is → IsInRange line → LogAllows (log_stage body) line
-        → stage_after (run_stage asks_are body) (as_run line) ≡ run_stage asks_are (with_line body line)
+    turned : (line : Line) → IsAccepted body → Form rules_are → IsOfLog account_is → IsInRange line → Allows log_turns (log_stage body) line
+        → next_stage run_turns (run_stage asks_are body) (as_run line) ≡ run_stage asks_are (with_line body line)
     turned (Line.Root place word) accepted form of_log_is range allowed =
-        ap (λ (r : Run). let at : Stage = record { asks = asks_are; run = r; due = Due.Body } in at) (led (Line.Root place word) accepted of_log_is range allowed)
+        ap (λ (r : Run). staged asks_are r Due.Body) (led (Line.Root place word) accepted of_log_is range allowed)
     turned (Line.Step step) accepted form of_log_is range allowed =
-        ap (λ (r : Run). let at : Stage = record { asks = asks_are; run = r; due = Due.Body } in at) (led (Line.Step step) accepted of_log_is range allowed)
+        ap (λ (r : Run). staged asks_are r Due.Body) (led (Line.Step step) accepted of_log_is range allowed)
     turned (Line.End count) accepted form of_log_is range allowed =
-        ap (λ (r : Run). let at : Stage = record { asks = asks_are; run = r; due = Due.Ended } in at) (led (Line.End count) accepted of_log_is range allowed)
+        ap (λ (r : Run). staged asks_are r Due.Ended) (led (Line.End count) accepted of_log_is range allowed)
     turned line accepted form of_log_is range allowed =
         absurd (none-some Misplaced (sym allowed ∙ by_checks rules_are roots steps line form))
 
     text_refused : (text : List ℕ) (line : Option Line) (refusal : Refusal) → Form rules_are → IsOfLog account_is
-        → ReadsAs IsInRange spelling text line → log_refusal_at account_is LogBody line ≡ Some refusal → refusal ≢ LimitPassed
-        → refusal_by asks_are (run_by account_is) Due.Body (option_map as_run line) ≡ Some (Usual refusal)
+        → ReadsAs IsInRange spelling text line → refusal_by log_turns account_is Due.Body line ≡ Some refusal → refusal ≢ LimitPassed
+        → refusal_by run_turns (asked asks_are (run_by account_is)) Due.Body (option_map as_run line) ≡ Some (Usual refusal)
     text_refused text None refusal form of_log_is reads is free = ap (option_map Usual) is
     text_refused text (Some line) refusal form of_log_is reads is free =
         same_refusal line form of_log_is reads.0 (λ limit. free (same_Some refusal LimitPassed (sym is ∙ limit))) ∙ ap (option_map Usual) is
 
     body_turn : (rest text more : List ℕ) (line : Option Line) (refusal : Option Refusal) → At body rest → IsLine rest text more
-        → ReadsAs IsInRange spelling text line → log_refusal_at account_is LogBody line ≡ refusal → Follows rest
+        → ReadsAs IsInRange spelling text line → refusal_by log_turns account_is Due.Body line ≡ refusal → Follows rest
     body_turn rest text more line (Some refusal) here whole reads is =
         inl (both_refuse body rest refusal here
         (front_refused body rest refusal tt (inr (inr (text, more, whole, refuses_text body text line refusal tt reads is))))
@@ -207,7 +211,7 @@ module _ (asks_are : Asks) (bytes run_bytes : List ℕ) where
         let next = longer body line here.behind.accepted reads.0 is in
         go_on body rest text more line here whole reads is run_allowed
         (turned line here.behind.accepted here.two here.of_log reads.0 is) (two_on rules_are roots steps line here.two)
-        (subst (λ (s : LogStage). IsOfLog s.account) (sym next.stage_is) (means_the_same asks_are account_is line reads.0 here.of_log).stays)
+        (subst (λ (s : LogStage). IsOfLog s.state) (sym next.stage_is) (means_the_same asks_are account_is line reads.0 here.of_log).stays)
     body_turn rest text more None None here whole reads is = absurd (none-some BadLine (sym is))
 
     body_follows : (rest : List ℕ) → At body rest → Follows rest
@@ -230,13 +234,12 @@ module _ (asks_are : Asks) (bytes run_bytes : List ℕ) where
     both_yes here =
         let stage_is = run_stage asks_are (Whole rules_are roots steps) in
         let counts = account_after-grows rules_are roots steps in
-        let all = subst (λ (b : List ℕ). Goes (unread asks_are) b stage_is) (sym (here.run_bytes_are ∙ append-nil here.front)) here.goes in (
+        let all = subst (λ (b : List ℕ). Goes run_turns (unread asks_are) b stage_is) (sym (here.run_bytes_are ∙ append-nil here.front)) here.goes in (
           Yes (length steps) (length roots),
           yes_of bytes rules_are roots steps (here.behind.bytes_are ∙ append-nil _) here.behind.accepted,
           λ free. record {
             stage = stage_is;
-            goes = all;
-            ended = refl;
+            whole = record { goes = all; ended = refl };
             step_count_is = omega (arith, counts.steps_are);
             root_count_is = omega (arith, counts.roots_are);
             object_count_is = refl;
@@ -245,7 +248,7 @@ module _ (asks_are : Asks) (bytes run_bytes : List ℕ) where
 
     -- whatever follows the end line is refused
     ended_refuses : (byte : ℕ) (rest : List ℕ) → At (Whole rules_are roots steps) (byte ∷ rest)
-        → Refuses (run_stage asks_are (Whole rules_are roots steps)) (byte ∷ rest) (Usual Misplaced)
+        → Refuses run_turns (run_stage asks_are (Whole rules_are roots steps)) (byte ∷ rest) (Usual Misplaced)
     ended_refuses byte rest here =
         elim (front_decided (byte ∷ rest)) [
           | inl long ↦ inl (long, refl)

@@ -1,51 +1,38 @@
 -- The answer on the bytes that a source gave (this profile's own, as are all below).
-use Rattle.std.specs.Prelude.{◌≡◌, ℕ, ◌+◌, Bool, true, false, List, ◌++◌, length, Result, IfOk, IfErr}
+use Rattle.std.specs.Prelude.{◌≡◌, ℕ, Bool, true, false, List, Result, IfOk, IfErr}
 use Rattle.cap_streams.specs.declared.judging.judge_faults.JudgeFault.{JudgeFault, TheVariants.{Pull, NoMemory}}
-use Rattle.cap_streams.specs.Front.{IsCut}
-use Rattle.cap_judge.specs.Judgings.{IsLastFront}
+use Rattle.cap_turns.specs.Verdicts.{BeginsLog, IsBehind, IsNo, IsWhole, MayLackMemory, StopsBefore}
 use Rattle.cap_run.specs.{declared.asks.Asks.Asks, Run.Run}
-use Rattle.cap_run_judge.specs.{declared.verdict.RunVerdict.{RunVerdict, TheVariants.{Yes, No}}, Turns.{Ended, Goes, Stage, unread}}
-use Rattle.cap_run_judge.specs.Verdicts.{IsBehind, IsFirstFault, IsRunGuarded, IsRunVerdict, MayLackMemory}
+use Rattle.cap_run_judge.specs.declared.verdict.RunVerdict.{RunVerdict, TheVariants.{Yes, No}}
+use Rattle.cap_run_judge.specs.{Turns.{Stage, run_turns, unread}, Verdicts.{IsRunGuarded, IsRunVerdict}}
 
 -- the verdict on these bytes, if their source has ended; otherwise a `no` that holds whatever bytes follow
 abbrev pub IsVerdictOf : Asks → List ℕ → Bool → RunVerdict → Type 0
 IsVerdictOf asks bytes true verdict = IsRunVerdict asks bytes verdict
 IsVerdictOf asks bytes false (Yes steps roots objects) = ⊥
-IsVerdictOf asks bytes false (No line refusal) = (more : List ℕ) → IsFirstFault asks (bytes ++ more) line refusal
+IsVerdictOf asks bytes false (No line refusal) = IsNo run_turns (unread asks) bytes false line refusal
 
 -- the bytes are lines that lead to the run of a machine, and the line of this number, whose text is this
-pub record StopsBefore (asks : Asks) (bytes : List ℕ) (ended : Bool) (run : Run) (line : ℕ) (text : List ℕ) : Type 0 where
-  pub stage : Stage
-  pub rest : List ℕ
-  pub behind : IsBehind asks bytes stage rest
-  pub line_is : line ≡ length behind.goes.lines + 1
-  pub run_is : run ≡ stage.run
-  pub front : IsLastFront rest ended text
+abbrev pub StopsWithRun : Asks → List ℕ → Bool → Run → ℕ → List ℕ → Type 0
+StopsWithRun asks bytes ended run line text =
+    (before : StopsBefore run_turns (unread asks) bytes ended line text) × (run ≡ before.stage.state.run)
 
 -- the bytes are a whole run log, whose lines lead to the run of a machine
 pub record LeadsTo (asks : Asks) (bytes : List ℕ) (run : Run) : Type 0 where
   pub stage : Stage
-  pub goes : Goes (unread asks) bytes stage
-  pub ended : stage.due ≡ Ended
-  pub run_is : run ≡ stage.run
+  pub whole : IsWhole run_turns (unread asks) bytes stage
+  pub run_is : run ≡ stage.state.run
 
 -- after a yes the machine has the run of the log; after a no that of the lines before the one that was refused, whose text
 -- is this
 abbrev pub StopsIn : Asks → List ℕ → Bool → Run → List ℕ → RunVerdict → Type 0
 StopsIn asks bytes ended run text (Yes steps roots objects) = LeadsTo asks bytes run
-StopsIn asks bytes ended run text (No line refusal) = StopsBefore asks bytes ended run line text
-
--- whole lines that begin a run log, and less than a line after them
-pub record BeginsLog (asks : Asks) (bytes : List ℕ) : Type 0 where
-  pub stage : Stage
-  pub rest : List ℕ
-  pub behind : IsBehind asks bytes stage rest
-  pub cut : IsCut rest
+StopsIn asks bytes ended run text (No line refusal) = StopsWithRun asks bytes ended run line text
 
 -- there is no verdict: the source failed after lines that begin a run log; or a line that fails no check may want memory
 abbrev pub NoVerdictOf : Asks → List ℕ → JudgeFault → Type 0
-NoVerdictOf asks bytes Pull = BeginsLog asks bytes
-NoVerdictOf asks bytes NoMemory = (more : List ℕ) × MayLackMemory asks bytes more
+NoVerdictOf asks bytes Pull = BeginsLog run_turns (unread asks) bytes
+NoVerdictOf asks bytes NoMemory = (more : List ℕ) × MayLackMemory run_turns (unread asks) bytes more
 
 -- what an answer says of the bytes given, and of whether their source has ended
 pub record IsAnswerOf (asks : Asks) (bytes : List ℕ) (ended : Bool) (result : Result RunVerdict JudgeFault) : Type 0 where
@@ -64,8 +51,8 @@ pub record Judged {S : Type 0} (asks : Asks) (gave : S → S → List ℕ → Ty
 pub record LeavesIn (asks : Asks) (bytes : List ℕ) (run : Run) : Type 0 where
   pub stage : Stage
   pub rest : List ℕ
-  pub behind : IsBehind asks bytes stage rest
-  pub run_is : run ≡ stage.run
+  pub behind : IsBehind run_turns (unread asks) bytes stage rest
+  pub run_is : run ≡ stage.state.run
 
 -- an answer with the run of the judge's machine then, and the text of the line that was refused
 pub record JudgedBy {S : Type 0} (asks : Asks) (gave : S → S → List ℕ → Type 0) (ended : S → Bool) (old new : S)

@@ -5,13 +5,14 @@ use Rattle.cap_log.specs.{declared.kinds.Step.Step, Lines.Spells}
 use Rattle.cap_log.specs.declared.lines.Line.TheVariants as lines
 use Rattle.cap_machine.specs.Accounts.{row_in}
 use Rattle.cap_judge.specs.{declared.verdict.Expected.Expected, Expectations.given_in}
-use Rattle.cap_run.specs.declared.{asks.Asks.Asks, ends.RunRefusal.TheVariants.Usual}
+use Rattle.cap_run.specs.declared.{asks.Asks.Asks, ends.RunRefusal.{RunRefusal, TheVariants.Usual}}
 use Rattle.cap_run.specs.{Run.Run, RunChanges.account_in, RunChecks.usual_end}
 use Rattle.cap_run_judge.specs.declared.verdict.RunVerdict.{RunVerdict, TheVariants.No}
-use Rattle.cap_run_judge.specs.Turns.{Due, Refused, Stage}
+use Rattle.cap_run_judge.specs.Turns.{Stage}
+use Rattle.cap_turns.specs.Turns.{Due, Refused}
 
 -- the `no` that stands whatever bytes follow, once a line is faulty
-abbrev pub verdict_so_far : Due → Option RunVerdict
+abbrev pub verdict_so_far : Due RunRefusal → Option RunVerdict
 verdict_so_far (Refused line refusal text) = Some (No line refusal)
 verdict_so_far due = None
 
@@ -23,10 +24,10 @@ pub record GivesForText (asks : Asks) (run : Run) (text : List ℕ) (result : Op
   pub none : ((step : Step) → Spells text (lines.Step step) → ⊥) → result ≡ None
 
 -- what is told of the faulty line: what the rules give for its text, if it is refused for its result; and else nothing
-abbrev pub ExpectsBy : Asks → Run → Due → Option Expected → Type 0
+abbrev pub ExpectsBy : Asks → Run → Due RunRefusal → Option Expected → Type 0
 ExpectsBy asks run (Refused line refusal text) result =
     (refusal ≡ Usual WrongResult → GivesForText asks run text result) × (refusal ≢ Usual WrongResult → result ≡ None)
 ExpectsBy asks run due result = result ≡ None
 
 abbrev pub ExpectsAt : Stage → Option Expected → Type 0
-ExpectsAt stage result = ExpectsBy stage.asks stage.run stage.due result
+ExpectsAt stage result = ExpectsBy stage.state.asks stage.state.run stage.due result

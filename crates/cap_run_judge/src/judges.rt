@@ -4,19 +4,22 @@ ghost use Rattle.std.specs.Prelude.{◌≡◌, ◌≢◌, ◌≤◌, ◌+◌, �
 ghost use Rattle.std.specs.FinMap as map;
 ghost use Rattle.cap_log.specs.Parts.{Begins};
 ghost use Rattle.cap_streams.specs.{FaultLines.bytes_of, Front.{IsCut, IsFront, IsFrontText}};
-ghost use Rattle.cap_judge.specs.declared.judges.Stop.TheVariants as stops;
+ghost use Rattle.cap_turns.specs.declared.stops.Stop.TheVariants as stops;
 ghost use Rattle.cap_run_log.specs.{declared.lines.RunLine.RunLine, RunLines.{IsRunLineInRange, run_spelling}};
 ghost use Rattle.cap_run_judge.specs.declared.faults.RefusedRunLine.{RefusedRunLine as FaultIn};
 ghost use Rattle.cap_run_judge.specs.declared.judges.Due.TheVariants.{Body, Refused as RefusedIn};
-ghost use Rattle.cap_run_judge.specs.Readings.{AnswersLine, AnswerAtEnd, EndsBytes, IsAtFault, IsFaultOf, StopsAt, Takes};
-ghost use Rattle.cap_run_judge.specs.Readings.{lines_read, stage_of};
-ghost use Rattle.cap_run_judge.specs.Turns.{Goes, refusal_at, unread};
+ghost use Rattle.cap_run_judge.specs.Readings.{AnswersLine, AnswerAtEnd, EndsBytes, IsFaultOf};
+ghost use Rattle.cap_run_judge.specs.Readings.{stage_of};
+ghost use Rattle.cap_run_judge.specs.Turns.{unread};
 ghost use Rattle.cap_run.specs.{declared.ends.RunRefusal.TheVariants.Usual, RunChanges.rules_of};
-ghost use Rattle.cap_run_judge.specs.Verdicts.{long_refusal};
+ghost use Rattle.cap_turns.specs.Turns.{Goes, IsAtFault, lines_read, refusal_at};
+ghost use Rattle.cap_turns.specs.Readings.{StopsAt, Takes};
+ghost use Rattle.cap_turns.specs.Verdicts.{long_refusal};
+ghost use Rattle.cap_run_judge.specs.Turns.{run_turns};
 
 use crate::faults::RefusedRunLine;
 use crate::verdict::RunVerdict;
-use cap_judge::{Stop, Taken};
+use cap_turns::{Stop, Taken};
 use cap_log::{Line, Mode, read_line};
 use cap_machine::{MOST_BYTES, Refusal, Rules};
 use cap_run::{Asks, RunEnd, RunMachine, RunRefusal};
@@ -67,7 +70,7 @@ impl<M: TaggedStore> RunJudge<M> {
     /// the count is 0.
     pub fn take(&mut self, bytes: &[u8]) -> Taken
         ensures count { result.count ≤ length bytes.now }
-        ensures stops { StopsAt (stage_of self.old) (take result.count bytes.now) (drop result.count bytes.now)
+        ensures stops { StopsAt run_turns (stage_of self.old) (take result.count bytes.now) (drop result.count bytes.now)
             result.stop (stage_of self.new) }
     {
         let mut rest = bytes;
@@ -127,7 +130,7 @@ impl<M: TaggedStore> RunJudge<M> {
     #[inline(always)]
     fn take_front_steps<'a>(&mut self, bytes: &'a [u8]) -> &'a [u8]
         ensures { (front : List ℕ) × (bytes.now ≡ front ++ result.now)
-            × Goes (stage_of self.old) front (stage_of self.new) }
+            × Goes run_turns (stage_of self.old) front (stage_of self.new) }
     {
         if let Due::Body = self.due {
             return self.take_steps(bytes);
@@ -139,7 +142,7 @@ impl<M: TaggedStore> RunJudge<M> {
     #[inline(always)]
     fn take_steps<'a>(&mut self, bytes: &'a [u8]) -> &'a [u8]
         requires { self.old.due ≡ Body }
-        ensures taken { (front : List ℕ) × (bytes.now ≡ front ++ result.now) × Goes (stage_of self.old) front (stage_of self.new) }
+        ensures taken { (front : List ℕ) × (bytes.now ≡ front ++ result.now) × Goes run_turns (stage_of self.old) front (stage_of self.new) }
     {
         let mut rest = bytes;
         'lines: loop {
@@ -156,7 +159,7 @@ impl<M: TaggedStore> RunJudge<M> {
     // follows them.
     fn take_derivations<'a>(&mut self, bytes: &'a [u8]) -> &'a [u8]
         requires { self.old.due ≡ Body }
-        ensures taken { (front : List ℕ) × (bytes.now ≡ front ++ result.now) × Goes (stage_of self.old) front (stage_of self.new) }
+        ensures taken { (front : List ℕ) × (bytes.now ≡ front ++ result.now) × Goes run_turns (stage_of self.old) front (stage_of self.new) }
         ensures body { self.new.due ≡ Body }
     {
         let mut rest = bytes;
@@ -178,7 +181,7 @@ impl<M: TaggedStore> RunJudge<M> {
     fn take_exchange<'a>(&mut self, bytes: &'a [u8]) -> Option<&'a [u8]>
         requires { self.old.due ≡ Body }
         ensures some { IfSome result (λ rest. (line : RunLine) × Begins IsRunLineInRange run_spelling 10 bytes.now line rest.now
-            × Takes (stage_of self.old) line (stage_of self.new)) }
+            × Takes run_turns (stage_of self.old) line (stage_of self.new)) }
         ensures none { IfNone result (stage_of self.new ≡ stage_of self.old) }
         ensures body { self.new.due ≡ Body }
     {
@@ -199,7 +202,7 @@ impl<M: TaggedStore> RunJudge<M> {
     fn take_derive<'a>(&mut self, bytes: &'a [u8]) -> Option<&'a [u8]>
         requires { self.old.due ≡ Body }
         ensures some { IfSome result (λ rest. (line : RunLine) × Begins IsRunLineInRange run_spelling 10 bytes.now line rest.now
-            × Takes (stage_of self.old) line (stage_of self.new)) }
+            × Takes run_turns (stage_of self.old) line (stage_of self.new)) }
         ensures none { IfNone result (stage_of self.new ≡ stage_of self.old) }
         ensures body { self.new.due ≡ Body }
     {
@@ -218,8 +221,8 @@ impl<M: TaggedStore> RunJudge<M> {
     // Takes the line at the front of some bytes: what follows it.
     pub(crate) fn take_any_line<'a>(&mut self, bytes: &'a [u8]) -> Result<&'a [u8], Stop>
         ensures ok { IfOk result (λ rest. (line : RunLine) × Begins IsRunLineInRange run_spelling 10 bytes.now line rest.now
-            × Takes (stage_of self.old) line (stage_of self.new)) }
-        ensures err { IfErr result (λ stop. StopsAt (stage_of self.old) [] bytes.now stop (stage_of self.new)) }
+            × Takes run_turns (stage_of self.old) line (stage_of self.new)) }
+        ensures err { IfErr result (λ stop. StopsAt run_turns (stage_of self.old) [] bytes.now stop (stage_of self.new)) }
     {
         if let Due::Refused(_) = self.due {
             return Err(Stop::Fault);
@@ -239,7 +242,7 @@ impl<M: TaggedStore> RunJudge<M> {
     fn stop_at_other(&mut self, bytes: &[u8]) -> Stop
         requires clear { IsAtFault (stage_of self.old).due → ⊥ }
         requires none { (line : RunLine) (rest : List ℕ) → Begins IsRunLineInRange run_spelling 10 bytes.now line rest → ⊥ }
-        ensures stops { StopsAt (stage_of self.old) [] bytes.now result (stage_of self.new) }
+        ensures stops { StopsAt run_turns (stage_of self.old) [] bytes.now result (stage_of self.new) }
     {
         let found = front(bytes);
         let refusal = match found {
@@ -257,7 +260,7 @@ impl<M: TaggedStore> RunJudge<M> {
         requires found { IsFront bytes.now found }
         requires clear { IsAtFault (stage_of self.old).due → ⊥ }
         requires ends { EndsBytes (stage_of self.old) bytes.now end }
-        ensures stops { StopsAt (stage_of self.old) [] bytes.now result (stage_of self.new) }
+        ensures stops { StopsAt run_turns (stage_of self.old) [] bytes.now result (stage_of self.new) }
     {
         match end {
             RunEnd::NoMemory => Stop::NoMemory,
@@ -271,7 +274,7 @@ impl<M: TaggedStore> RunJudge<M> {
     // The next line, which these bytes begin with, as the faulty line.
     fn fault(&self, refusal: RunRefusal, found: Front, bytes: &[u8]) -> RefusedRunLine
         requires found { IsFront bytes.now found }
-        ensures line { result.line ≡ lines_read (stage_of self.now) + 1 }
+        ensures line { result.line ≡ lines_read run_turns (stage_of self.now) + 1 }
         ensures refusal { result.refusal ≡ refusal }
         ensures front { IsFrontText bytes.now (bytes_of result.text) }
     {
@@ -284,7 +287,7 @@ impl<M: TaggedStore> RunJudge<M> {
 
     // The number of the next line.
     fn next_line(&self) -> u64
-        ensures value { result ≡ lines_read (stage_of self.now) + 1 }
+        ensures value { result ≡ lines_read run_turns (stage_of self.now) + 1 }
         ensures few { result ≤ 8589934600 }
     {
         let body = u64::from(self.machine.roots()) + u64::from(self.machine.steps());
@@ -299,14 +302,14 @@ impl<M: TaggedStore> RunJudge<M> {
     // Few lines were read: the limits bound them. It does nothing: what it says is its contract.
     #[inline(always)]
     pub(crate) fn counted(&self)
-        ensures few { lines_read (stage_of self.now) ≤ 8589934600 }
+        ensures few { lines_read run_turns (stage_of self.now) ≤ 8589934600 }
     {
         let _ = self.next_line();
     }
 
     // Why more bytes than a line has are refused.
     fn refusal_of_long(&self) -> RunRefusal
-        ensures { result ≡ long_refusal (stage_of self.now).due }
+        ensures { result ≡ long_refusal run_turns (stage_of self.now).due }
     {
         match self.due {
             Due::First | Due::Second | Due::Body => usual(Refusal::LineTooLong),
@@ -316,7 +319,7 @@ impl<M: TaggedStore> RunJudge<M> {
 
     // Why a line is refused that has no form.
     fn refusal_of_formless(&self) -> RunRefusal
-        ensures { refusal_at (stage_of self.now) None ≡ Some result }
+        ensures { refusal_at run_turns (stage_of self.now) None ≡ Some result }
     {
         match self.due {
             Due::First => usual(Refusal::BadHeader),

@@ -4,9 +4,13 @@ ghost use Rattle.std.specs.Prelude.{◌≡◌, ◌-◌, ◌++◌, ℕ, Bool, Lis
 ghost use Rattle.cap_streams.specs.Front.{IsCut};
 ghost use Rattle.cap_judge.specs.{Verdicts.IsVerdict, declared.verdict.Verdict.Verdict};
 ghost use Rattle.cap_run.specs.{declared.asks.Asks.Asks, Descents.run_along, Erasure.{erased, object_lines}};
-ghost use Rattle.cap_run_judge.specs.{declared.verdict.RunVerdict.RunVerdict, Turns.{Goes, Stage, text_of, unread}};
-ghost use Rattle.cap_run_judge.specs.Readings.{VerdictAtEnd, VerdictWith, Faults};
-ghost use Rattle.cap_run_judge.specs.{ChosenVerdicts.VerdictsByChoice, UsualLogs.{AreUsual, NamesNoLimit, as_run_verdict}, Verdicts.{IsRunGuarded, IsRunVerdict, IsRunYes, Lacks, MayLackMemory}};
+ghost use Rattle.cap_run_judge.specs.{declared.verdict.RunVerdict.RunVerdict, Turns.{Stage, unread}};
+ghost use Rattle.cap_run_judge.specs.Readings.{VerdictAtEnd, VerdictWith};
+ghost use Rattle.cap_run_judge.specs.{ChosenVerdicts.VerdictsByChoice, UsualLogs.{AreUsual, NamesNoLimit, as_run_verdict}, Verdicts.{IsRunGuarded, IsRunVerdict, IsRunYes}};
+ghost use Rattle.cap_turns.specs.Turns.{Goes, text_of};
+ghost use Rattle.cap_turns.specs.Readings.{Faults};
+ghost use Rattle.cap_turns.specs.Verdicts.{Lacks, MayLackMemory};
+ghost use Rattle.cap_run_judge.specs.Turns.{run_turns};
 
 /// Whatever bytes are read, and whatever is asked: if they are lines that begin a run log, then along them, at every moment, each
 /// tagged capability has bounds inside and permissions among those of the one root that it descends from, and each access
@@ -31,8 +35,8 @@ pub fn one_run_verdict()
 /// left, whatever is asked. It leads to the same state of the machine.
 pub fn run_logs_are_accepted_without_objects()
     ensures law { (asks other : Asks) (bytes : List ℕ) (steps roots objects : ℕ) (yes : IsRunYes asks bytes steps roots objects)
-        → IsRunYes other (text_of (erased yes.goes.lines)) (steps - object_lines yes.goes.lines) roots 0
-        × ((run_along (erased yes.goes.lines)).state ≡ yes.stage.run.state) }
+        → IsRunYes other (text_of run_turns (erased yes.whole.goes.lines)) (steps - object_lines yes.whole.goes.lines) roots 0
+        × ((run_along (erased yes.whole.goes.lines)).state ≡ yes.stage.state.run.state) }
 {}
 
 /// The verdict with a check that is asked for is that without it; or that check refuses a line, where without it no line is
@@ -56,20 +60,20 @@ pub fn logs_are_run_logs()
 /// bytes.
 pub fn stages_are_of_run_logs()
     // What is read after some bytes is read after all that was read before.
-    ensures goes_on { (first old new : Stage) (bytes more : List ℕ) → Goes first bytes old → Goes old more new
-        → Goes first (bytes ++ more) new }
+    ensures goes_on { (first old new : Stage) (bytes more : List ℕ) → Goes run_turns first bytes old → Goes run_turns old more new
+        → Goes run_turns first (bytes ++ more) new }
 
     // The no at the first faulty line stands, whatever bytes follow.
     ensures fault { (asks : Asks) (front rest : List ℕ) (middle new : Stage) (ended : Bool) (verdict : RunVerdict) (text : List ℕ)
-        → Goes (unread asks) front middle → Faults middle rest new → VerdictAtEnd new [] verdict text
-        → VerdictWith asks (front ++ rest) ended new.run verdict text }
+        → Goes run_turns (unread asks) front middle → Faults run_turns middle rest new → VerdictAtEnd new [] verdict text
+        → VerdictWith asks (front ++ rest) ended new.state.run verdict text }
 
     // Memory is wanted only where a line that no check refuses names a granule for the first time, or an object.
-    ensures memory { (asks : Asks) (front rest more : List ℕ) (stage : Stage) → Goes (unread asks) front stage → Lacks stage rest more
-        → MayLackMemory asks (front ++ rest) more }
+    ensures memory { (asks : Asks) (front rest more : List ℕ) (stage : Stage) → Goes run_turns (unread asks) front stage → Lacks run_turns stage rest more
+        → MayLackMemory run_turns (unread asks) (front ++ rest) more }
 
     // How the log ends if no other bytes follow than these, which are less than a line.
     ensures ends { (asks : Asks) (front rest : List ℕ) (stage : Stage) (verdict : RunVerdict) (text : List ℕ)
-        → Goes (unread asks) front stage → IsCut rest → VerdictAtEnd stage rest verdict text
-        → VerdictWith asks (front ++ rest) true stage.run verdict text }
+        → Goes run_turns (unread asks) front stage → IsCut rest → VerdictAtEnd stage rest verdict text
+        → VerdictWith asks (front ++ rest) true stage.state.run verdict text }
 {}

@@ -5,13 +5,16 @@ ghost use Rattle.std.specs.FinMap as map;
 ghost use Rattle.cap_streams.specs.{declared.judging.judge_faults.JudgeFault.TheVariants.Pull, FaultLines.bytes_of};
 ghost use Rattle.cap_streams.specs.{ReadBuffers.items, Streams.CountsOnly};
 ghost use Rattle.cap_run_judge.specs.{Judgings.{Judged, JudgedBy}, Turns.unread, Verdicts.{IsRunGuarded, IsRunVerdict, NoRunVerdictIn}};
-ghost use Rattle.cap_run_judge.specs.Readings.{IsAnswered, StopsAt, lines_read, stage_of};
+ghost use Rattle.cap_run_judge.specs.Readings.{IsAnswered, stage_of};
 ghost use Rattle.cap_run.specs.Machines.{run_in};
+ghost use Rattle.cap_turns.specs.Readings.{StopsAt};
+ghost use Rattle.cap_turns.specs.Turns.{lines_read};
+ghost use Rattle.cap_run_judge.specs.Turns.{run_turns};
 
 use crate::faults::RefusedRunLine;
 use crate::judges::RunJudge;
 use crate::verdict::RunVerdict;
-use cap_judge::Stop;
+use cap_turns::Stop;
 use cap_run::{Asks, RunMachine};
 use cap_streams::judging::{FaultLine, JudgeFault};
 use cap_streams::{PullFault, ReadBuffer, SliceSource, Source};
@@ -129,8 +132,8 @@ fn judge_source<S: Source, M: TaggedStore>(
 // Hands over the bytes that were pulled, and keeps those that were not taken.
 fn take_pulled<M: TaggedStore>(judge: &mut RunJudge<M>, pulled: &mut ReadBuffer) -> Stop
     ensures taken { (front : List ℕ) × (items pulled.old ≡ front ++ items pulled.new)
-        × StopsAt (stage_of judge.old) front (items pulled.new) result (stage_of judge.new) }
-    ensures few { lines_read (stage_of judge.new) ≤ 8589934600 }
+        × StopsAt run_turns (stage_of judge.old) front (items pulled.new) result (stage_of judge.new) }
+    ensures few { lines_read run_turns (stage_of judge.new) ≤ 8589934600 }
 {
     let taken = judge.take(pulled.as_slice());
     pulled.consume(taken.count);

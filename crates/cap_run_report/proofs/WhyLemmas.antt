@@ -4,10 +4,13 @@ use Rattle.cap_streams.specs.FaultLines.{bytes_of}
 use Rattle.cap_run.specs.{declared.{asks.Asks.Asks, ends.RunRefusal.RunRefusal}, Run.Run}
 use Rattle.cap_run_judge.specs.declared.{faults.RefusedRunLine.RefusedRunLine, verdict.RunVerdict.{RunVerdict, TheVariants.{Yes, No}}}
 use Rattle.cap_run_judge.specs.{Judgings.StopsIn, OwnerLists.run_report_text, Reports.AreNumbered, VerdictLines.run_verdict_line}
-use Rattle.cap_run_judge.specs.{Readings.{AnswerAtEnd, Follows}, Turns.{Refused, Stage, unread}}
-use Rattle.cap_run_judge.proofs.FollowLemmas.{all_ends, no_ends}
+use Rattle.cap_run_judge.specs.{Readings.AnswerAtEnd, Turns.{Stage, unread}}
+use Rattle.cap_run_judge.proofs.EndLemmas.{all_ends, no_ends}
 use Rattle.cap_run_report.specs.Answers.{ExplainsRun, ExplainsRunEnd, ExplainsRunSoFar, IsRunWhyText}
 use Rattle.cap_run_report.specs.LineReports.{IsRunLineReport}
+use Rattle.cap_turns.specs.Readings.{Follows}
+use Rattle.cap_turns.specs.Turns.{Refused}
+use Rattle.cap_run_judge.specs.Turns.{run_turns}
 
 pub told : (asks : Asks) (owners : Bool) (given : List ℕ) (ended : Bool) (run : Run) (fault : List ℕ) (verdict : RunVerdict) (said : List ℕ)
     → AreNumbered run → StopsIn asks given ended run fault verdict → IsRunWhyText owners run fault verdict said
@@ -28,25 +31,25 @@ why_no owners run fault verdict line refusal report is by =
 
 -- the text of a faulty line that a judge was handed
 pub so_far : (asks : Asks) (bytes : List ℕ) (stage : Stage) (n : ℕ) (refusal : RunRefusal) (text report : List ℕ)
-    → Follows (unread asks) bytes stage → stage.due ≡ Refused n refusal text → IsRunLineReport stage.run text refusal report
+    → Follows run_turns (unread asks) bytes stage → stage.due ≡ Refused n refusal text → IsRunLineReport stage.state.run text refusal report
     → ExplainsRunSoFar asks bytes (Some (No n refusal)) (run_verdict_line (No n refusal) ++ report)
 so_far asks bytes stage n refusal text report follows is by =
     let ends = no_ends asks bytes stage n refusal text false follows is in
-    (ends.0, (stage.run, text, ends.1, report, by, refl))
+    (ends.0, (stage.state.run, text, ends.1, report, by, refl))
 
 -- the text of a verdict on the lines that it was handed as a whole log
 pub yes_at_end : (asks : Asks) (bytes : List ℕ) (stage : Stage) (end : Result RunVerdict RefusedRunLine) (verdict : RunVerdict)
-    → end ≡ Ok verdict → AreNumbered stage.run → Follows (unread asks) bytes stage → AnswerAtEnd stage [] end
+    → end ≡ Ok verdict → AreNumbered stage.state.run → Follows run_turns (unread asks) bytes stage → AnswerAtEnd stage [] end
     → ExplainsRunEnd asks bytes verdict (run_verdict_line verdict)
 yes_at_end asks bytes stage end (Yes steps roots objects) is are follows ends =
     let told_is = all_ends asks bytes stage (Yes steps roots objects) [] follows (subst (AnswerAtEnd stage []) is ends) in
-    (told_is.0, (stage.run, (told_is.1, are), refl))
+    (told_is.0, (stage.state.run, (told_is.1, are), refl))
 yes_at_end asks bytes stage end (No line refusal) is are follows ends = absurd (subst (AnswerAtEnd stage []) is ends)
 
 pub no_at_end : (asks : Asks) (bytes : List ℕ) (stage : Stage) (end : Result RunVerdict RefusedRunLine) (fault : RefusedRunLine) (report : List ℕ)
-    → end ≡ Err fault → Follows (unread asks) bytes stage → AnswerAtEnd stage [] end
-    → IsRunLineReport stage.run (bytes_of fault.text) fault.refusal report
+    → end ≡ Err fault → Follows run_turns (unread asks) bytes stage → AnswerAtEnd stage [] end
+    → IsRunLineReport stage.state.run (bytes_of fault.text) fault.refusal report
     → ExplainsRunEnd asks bytes (No fault.line fault.refusal) (run_verdict_line (No fault.line fault.refusal) ++ report)
 no_at_end asks bytes stage end fault report is follows ends by =
     let told_is = all_ends asks bytes stage (No fault.line fault.refusal) (bytes_of fault.text) follows (subst (AnswerAtEnd stage []) is ends) in
-    (told_is.0, (stage.run, bytes_of fault.text, told_is.1, report, by, refl))
+    (told_is.0, (stage.state.run, bytes_of fault.text, told_is.1, report, by, refl))

@@ -2,16 +2,17 @@
 use Rattle.std.specs.Prelude.{◌≡◌, ℕ, Bool, true, false, List, [], ◌++◌, Option, None, Some}
 use Rattle.cap_run.specs.{declared.asks.Asks.Asks, Run.Run}
 use Rattle.cap_run_judge.specs.declared.verdict.RunVerdict.{RunVerdict, TheVariants.{Yes, No}}
-use Rattle.cap_run_judge.specs.{Judgings.{IsVerdictOf, StopsBefore}, OwnerLists.run_report_text, Reports.TellsRun}
-use Rattle.cap_run_judge.specs.{Turns.{Goes, Stage, unread}, VerdictLines.run_verdict_line, Verdicts.IsRunVerdict}
+use Rattle.cap_run_judge.specs.{Judgings.{IsVerdictOf, StopsWithRun}, OwnerLists.run_report_text, Reports.TellsRun}
+use Rattle.cap_run_judge.specs.{Turns.{Stage, run_turns, unread}, VerdictLines.run_verdict_line, Verdicts.IsRunVerdict}
 use Rattle.cap_run_report.specs.LineReports.{IsRunLineReport}
+use Rattle.cap_turns.specs.Turns.{Goes}
 
 -- the text that belongs to a verdict on bytes: after a yes that of a judge that may be asked for owners, and after a no the
 -- verdict's line and the report of the first fault, by the run before it
 abbrev pub ExplainsRun : Asks → Bool → List ℕ → Bool → RunVerdict → List ℕ → Type 0
 ExplainsRun asks owners bytes ended (Yes steps roots objects) text = TellsRun asks owners bytes ended (Yes steps roots objects) text
 ExplainsRun asks owners bytes ended (No line refusal) text =
-    (run : Run) × (fault : List ℕ) × StopsBefore asks bytes ended run line fault
+    (run : Run) × (fault : List ℕ) × StopsWithRun asks bytes ended run line fault
     × (report : List ℕ) × IsRunLineReport run fault refusal report × (text ≡ run_verdict_line (No line refusal) ++ report)
 
 -- the text of a verdict by the run of a machine and the line that was refused
@@ -23,7 +24,7 @@ IsRunWhyText owners run fault (No line refusal) text =
 -- the text of how a run log stands that begins with these bytes: none while no line of theirs is faulty, and otherwise that
 -- of a judge that explains the no, which stands whatever bytes follow
 abbrev pub ExplainsRunSoFar : Asks → List ℕ → Option RunVerdict → List ℕ → Type 0
-ExplainsRunSoFar asks bytes None text = ((stage : Stage) × Goes (unread asks) bytes stage) × (text ≡ [])
+ExplainsRunSoFar asks bytes None text = ((stage : Stage) × Goes run_turns (unread asks) bytes stage) × (text ≡ [])
 ExplainsRunSoFar asks bytes (Some verdict) text = IsVerdictOf asks bytes false verdict × ExplainsRun asks false bytes false verdict text
 
 -- the text of the verdict on these bytes as a whole run log, as a judge that explains writes it without owners

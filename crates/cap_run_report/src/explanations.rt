@@ -6,10 +6,12 @@ ghost use Rattle.cap_streams.specs.declared.judging.judge_faults.JudgeToFault.Th
 ghost use Rattle.cap_streams.specs.{FaultLines.bytes_of, Streams.{CountsFault, CountsOnly}};
 ghost use Rattle.cap_run.specs.declared.asks.Asks.{Asks as AsksIn};
 ghost use Rattle.cap_run_judge.specs.declared.verdict.RunVerdict.{RunVerdict as RunVerdictIn, TheVariants.No};
-ghost use Rattle.cap_run_judge.specs.Readings.{Follows, stage_of};
+ghost use Rattle.cap_run_judge.specs.Readings.{stage_of};
 ghost use Rattle.cap_run_judge.specs.{Reports.RunReported, Turns.unread, VerdictLines.run_verdict_line};
 ghost use Rattle.cap_run_report.specs.{Answers.{ExplainsRun, ExplainsRunEnd, ExplainsRunSoFar, IsRunWhyText}, LineReports.IsRunLineReport};
 ghost use Rattle.cap_run.specs.Machines.{run_in};
+ghost use Rattle.cap_turns.specs.Readings.{Follows};
+ghost use Rattle.cap_run_judge.specs.Turns.{run_turns};
 
 use crate::line_reports::put_run_report;
 use cap_log::buffers::put;
@@ -59,9 +61,9 @@ pub fn push_run_refused<M: TaggedStore, K: Sink>(
     judge: &RunJudge<M>,
     sink: &mut K,
 ) -> Result<(), PushFault>
-    ensures ok { OnOk result ((asks : AsksIn) (bytes : List ℕ) → Follows (unread asks) bytes (stage_of judge.now) → (verdict : Option RunVerdictIn)
+    ensures ok { OnOk result ((asks : AsksIn) (bytes : List ℕ) → Follows run_turns (unread asks) bytes (stage_of judge.now) → (verdict : Option RunVerdictIn)
         × (told : List ℕ) × ExplainsRunSoFar asks bytes verdict told × K.took sink.old sink.new told × (length told ≤ 3136)) }
-    ensures err { OnErr result ((asks : AsksIn) (bytes : List ℕ) → Follows (unread asks) bytes (stage_of judge.now) → (verdict : Option RunVerdictIn)
+    ensures err { OnErr result ((asks : AsksIn) (bytes : List ℕ) → Follows run_turns (unread asks) bytes (stage_of judge.now) → (verdict : Option RunVerdictIn)
         × (told : List ℕ) × ExplainsRunSoFar asks bytes verdict told × (n : ℕ) × K.took sink.old sink.new (take n told)) }
     ensures counted { CountsFault (K.faults sink.old) (K.faults sink.new) result }
 {
@@ -78,9 +80,9 @@ pub fn push_run_ending<M: TaggedStore, K: Sink>(
     judge: &RunJudge<M>,
     sink: &mut K,
 ) -> Result<(), PushFault>
-    ensures ok { OnOk result ((asks : AsksIn) (bytes : List ℕ) → Follows (unread asks) bytes (stage_of judge.now) → (verdict : RunVerdictIn)
+    ensures ok { OnOk result ((asks : AsksIn) (bytes : List ℕ) → Follows run_turns (unread asks) bytes (stage_of judge.now) → (verdict : RunVerdictIn)
         × (told : List ℕ) × ExplainsRunEnd asks bytes verdict told × K.took sink.old sink.new told × (length told ≤ 3136)) }
-    ensures err { OnErr result ((asks : AsksIn) (bytes : List ℕ) → Follows (unread asks) bytes (stage_of judge.now) → (verdict : RunVerdictIn)
+    ensures err { OnErr result ((asks : AsksIn) (bytes : List ℕ) → Follows run_turns (unread asks) bytes (stage_of judge.now) → (verdict : RunVerdictIn)
         × (told : List ℕ) × ExplainsRunEnd asks bytes verdict told × (n : ℕ) × K.took sink.old sink.new (take n told)) }
     ensures counted { CountsFault (K.faults sink.old) (K.faults sink.new) result }
 {

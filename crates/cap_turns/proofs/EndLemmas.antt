@@ -6,7 +6,7 @@ use Rattle.cap_ops.specs.declared.refusal.Refusal.TheVariants.{Misplaced, Trunca
 use Rattle.cap_streams.specs.Front.{IsCut}
 use Rattle.cap_streams.proofs.FrontLemmas.{IsLine-more, IsTooLong-more}
 use Rattle.cap_turns.specs.Turns.{AreTurns, Due, Ended, Goes, IsAtFault, Refused, Stage, Turns, lines_by, lines_read, text_of}
-use Rattle.cap_turns.specs.Verdicts.{IsBehind, IsFaultOf, IsFirstFault, IsLastFront, IsWhole, Lacks, MayLackMemory, Refuses, RefusesCut, StopsBefore}
+use Rattle.cap_turns.specs.Verdicts.{IsBehind, IsNo, IsFirstFault, IsLastFront, IsWhole, Lacks, MayLackMemory, Refuses, RefusesCut, StopsBefore}
 use Rattle.cap_turns.specs.Readings.{Faults, Follows, RefusesNext, due_at_end, refused_by}
 use Rattle.cap_turns.proofs.{FollowLemmas.goes_clear, LineLemmas.ended_front, TurnLemmas.goes_on}
 
@@ -31,6 +31,10 @@ module _ {Line State Refusal : Type 0} (turns : Turns Line State Refusal) where
   pub same_refused : (n m : ℕ) (a b : Refusal) (s t : List ℕ) → ◌≡◌ {A = Due Refusal} (Refused n a s) (Refused m b t)
       → (n ≡ m) × (a ≡ b) × (s ≡ t)
   same_refused n m a b s t is = (cc, cc, cc)
+
+  -- the bytes are lines that lead to a state, and the line of this number, whose text is this
+  abbrev pub StopsWith : Stage State Refusal → List ℕ → Bool → State → ℕ → List ℕ → Type 0
+  StopsWith start bytes ended state line text = (before : StopsBefore turns start bytes ended line text) × (state ≡ before.stage.state)
 
   -- lines were read, or what is left grows
   by_lines : (bound : ℕ) (lines : List Line) (front rest kept more : List ℕ) (old new : ℕ) → front ≡ text_of turns lines
@@ -74,29 +78,31 @@ module _ {Line State Refusal : Type 0} (turns : Turns Line State Refusal) where
           refused = refuses_next stage rest refusal refused more;
         }
 
-        stands : (ended : Bool) → IsFaultOf turns start (front ++ rest) ended (lines_read turns stage + 1) refusal
+        stands : (ended : Bool) → IsNo turns start (front ++ rest) ended (lines_read turns stage + 1) refusal
         stands true =
             subst (λ (b : List ℕ). IsFirstFault turns start b (lines_read turns stage + 1) refusal) (append-nil (front ++ rest)) (first_fault [])
         stands false = first_fault
 
-        fault_ends : (ended : Bool) → IsFaultOf turns start (front ++ rest) ended (lines_read turns stage + 1) refusal
-            × StopsBefore turns start (front ++ rest) ended stage.state (lines_read turns stage + 1) text
+        fault_ends : (ended : Bool) → IsNo turns start (front ++ rest) ended (lines_read turns stage + 1) refusal
+            × StopsWith start (front ++ rest) ended stage.state (lines_read turns stage + 1) text
         fault_ends ended = (
           stands ended,
-          record {
-            stage = stage;
-            rest = rest;
-            behind = behind;
-            line_is = number;
-            state_is = refl;
-            front = ended_front rest ended text last;
-          },
+          (
+            record {
+              stage = stage;
+              rest = rest;
+              behind = behind;
+              line_is = number;
+              front = ended_front rest ended text last;
+            },
+            refl,
+          ),
         )
 
       -- after a faulty line
       pub fault_told : (new : Stage State Refusal) (ended : Bool) (line : ℕ) (refusal : Refusal) (text : List ℕ) → Faults turns stage rest new
           → new.due ≡ Refused line refusal text
-          → IsFaultOf turns start (front ++ rest) ended line refusal × StopsBefore turns start (front ++ rest) ended new.state line text
+          → IsNo turns start (front ++ rest) ended line refusal × StopsWith start (front ++ rest) ended new.state line text
       fault_told new ended line refusal text (inl faulty) due = absurd (goes_clear turns laws front stage goes faulty.0)
       fault_told new ended line refusal text (inr (clear, why, found, refused, last, is)) due =
           let same = same_refused (lines_read turns stage + 1) line why refusal found text
@@ -106,7 +112,7 @@ module _ {Line State Refusal : Type 0} (turns : Turns Line State Refusal) where
       -- where the bytes end
       pub cut_told : (line : ℕ) (refusal : Refusal) (text : List ℕ) → IsCut rest
           → due_at_end turns stage.state stage.due rest ≡ Refused line refusal text
-          → IsFirstFault turns start (front ++ rest) line refusal × StopsBefore turns start (front ++ rest) true stage.state line text
+          → IsFirstFault turns start (front ++ rest) line refusal × StopsWith start (front ++ rest) true stage.state line text
       cut_told line refusal text cut is =
           elim (ending stage.state stage.due rest (goes_clear turns laws front stage goes)) [
             | inl whole ↦ let never : ⊥ = let both = sym whole.0 ∙ is in cc in absurd never
@@ -121,14 +127,16 @@ module _ {Line State Refusal : Type 0} (turns : Turns Line State Refusal) where
                     number_is = number;
                     refused = inr (inl (cut, faulty.2));
                   },
-                  record {
-                    stage = stage;
-                    rest = rest;
-                    behind = behind;
-                    line_is = number;
-                    state_is = refl;
-                    front = inr (inl (cut, (refl, refl)));
-                  },
+                  (
+                    record {
+                      stage = stage;
+                      rest = rest;
+                      behind = behind;
+                      line_is = number;
+                      front = inr (inl (cut, (refl, refl)));
+                    },
+                    refl,
+                  ),
                 )
           ]
 
@@ -147,7 +155,7 @@ module _ {Line State Refusal : Type 0} (turns : Turns Line State Refusal) where
     -- a faulty line stands, whatever bytes follow
     pub refused_told : (bytes : List ℕ) (stage : Stage State Refusal) (ended : Bool) (line : ℕ) (refusal : Refusal) (text : List ℕ)
         → Follows turns start bytes stage → stage.due ≡ Refused line refusal text
-        → IsFaultOf turns start bytes ended line refusal × StopsBefore turns start bytes ended stage.state line text
+        → IsNo turns start bytes ended line refusal × StopsWith start bytes ended stage.state line text
     refused_told bytes stage ended line refusal text (inl goes) is =
         absurd (goes_clear turns laws bytes stage goes (subst IsAtFault (sym is) tt))
     refused_told bytes stage ended line refusal text (inr (front, rest, are, middle, goes, faults)) is =

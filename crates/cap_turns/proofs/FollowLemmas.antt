@@ -7,7 +7,7 @@ use Rattle.cap_log.specs.Parts.{Begins}
 use Rattle.cap_streams.proofs.FrontLemmas.{IsLine-more, IsTooLong-more}
 use Rattle.cap_turns.specs.declared.stops.Stop.TheVariants.{Fault}
 use Rattle.cap_turns.specs.Turns.{AreSpelled, AreTurns, Due, Goes, IsAtFault, Reads, Refused, Stage, Turns, refusal_by, next_stage, text_of}
-use Rattle.cap_turns.specs.{Readings.{Faults, Follows, IsWholeLine, RefusesNext, StopsAt, Takes}, Verdicts.Lacks}
+use Rattle.cap_turns.specs.{Readings.{Faults, Follows, IsWholeLine, RefusesNext, StopsAt, Takes, due_at_end}, Verdicts.Lacks}
 use Rattle.cap_turns.proofs.{LineLemmas.{front_more, whole_rest}, TurnLemmas.{goes_on, line_is, one_goes}}
 
 -- the faulty line of a stage
@@ -44,6 +44,11 @@ module _ {Line State Refusal : Type 0} (turns : Turns Line State Refusal) where
   fault_follows old bytes new is (inr (front, rest, are, middle, goes, faults)) =
       let stays = (fault_stays old front middle is goes).1 in
       fault_faults middle rest new (subst (λ (s : Stage State Refusal). IsAtFault s.due) stays is) faults ∙ sym stays
+
+  -- where one is, a log ends with it
+  pub fault_end : (state : State) (due : Due Refusal) (rest : List ℕ) → IsAtFault due → due_at_end turns state due rest ≡ due
+  fault_end state (Refused n refusal text) rest is = refl
+  fault_end state due rest is = absurd is
 
   -- after a fault a line is faulty
   pub faults_at : (old : Stage State Refusal) (rest : List ℕ) (new : Stage State Refusal) → Faults turns old rest new → IsAtFault new.due

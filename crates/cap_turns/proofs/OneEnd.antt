@@ -7,10 +7,10 @@ use Rattle.cap_ops.specs.declared.refusal.Refusal.TheVariants.{Misplaced}
 use Rattle.cap_streams.specs.Front.{IsLine}
 use Rattle.cap_streams.proofs.FrontLemmas.{IsLine-same, IsLine-not_too_long, IsLine-not_cut, IsTooLong-not_cut}
 use Rattle.cap_log.specs.Parts.{ReadsAs}
-use Rattle.cap_turns.specs.Turns.{Allows, AreSpelled, Due, Ended, Goes, Reads, Stage, Turns, refusal_at, refusal_by, next_stage, text_of}
+use Rattle.cap_turns.specs.Turns.{Allows, AreSpelled, AreTurns, Due, Ended, Goes, IsAtFault, Reads, Stage, Turns, refusal_at, refusal_by, next_stage, text_of}
 use Rattle.cap_turns.specs.Verdicts.{IsFirstFault, IsWhole, Refuses, RefusesCut, RefusesWhole}
-use Rattle.cap_turns.specs.Readings.{RefusesNext}
-use Rattle.cap_turns.proofs.{EndLemmas.refuses_next, TurnLemmas.IsLine-spelling}
+use Rattle.cap_turns.specs.Readings.{Follows, RefusesNext}
+use Rattle.cap_turns.proofs.{EndLemmas.refuses_next, FollowLemmas.goes_clear, TurnLemmas.IsLine-spelling}
 
 module _ {Line State Refusal : Type 0} (turns : Turns Line State Refusal) where
   -- no line that is allowed stands at the front of the bytes
@@ -161,3 +161,12 @@ module _ {Line State Refusal : Type 0} (turns : Turns Line State Refusal) where
           (subst (λ (r : List ℕ). Refuses turns middle r refusal) (append-nil rest) (refuses_next turns middle rest refusal refused [])) in
           let same = same_reading bytes bytes front [] rest begun middle begins goes (sym (append-nil bytes)) are (nothing_stops begun) stops in
           nothing_next middle refusal (subst (λ (r : List ℕ). RefusesNext turns middle r refusal) (sym same.1) refused)
+
+  -- so no line of them is faulty
+  module _ {start : Stage State Refusal} (laws : AreTurns turns start) where
+    pub never_faulty : (bytes : List ℕ) (begun new : Stage State Refusal) → Goes turns start bytes begun → Follows turns start bytes new
+        → IsAtFault new.due → ⊥
+    never_faulty bytes begun new begins (inl goes) = goes_clear turns laws bytes new goes
+    never_faulty bytes begun new begins (inr (front, rest, are, middle, goes, inl faults)) = absurd (goes_clear turns laws front middle goes faults.0)
+    never_faulty bytes begun new begins (inr (front, rest, are, middle, goes, inr (clear, refusal, text, refused, last, is))) =
+        absurd (none_refused laws.spelled bytes begun begins front rest middle refusal are goes refused)

@@ -72,17 +72,15 @@ module _ {Line State Refusal : Type 0} (turns : Turns Line State Refusal) where
     pub behind : IsBehind start bytes stage rest
     pub cut : IsCut rest
 
-  -- the first faulty line of bytes whose source has ended; or one that is so whatever follows
-  abbrev pub IsFaultOf : Stage State Refusal → List ℕ → Bool → ℕ → Refusal → Type 0
-  IsFaultOf start bytes true line refusal = IsFirstFault start bytes line refusal
-  IsFaultOf start bytes false line refusal = (more : List ℕ) → IsFirstFault start (bytes ++ more) line refusal
+  -- a no with this line and refusal: the first fault of bytes whose source has ended; or one that stands whatever follows
+  abbrev pub IsNo : Stage State Refusal → List ℕ → Bool → ℕ → Refusal → Type 0
+  IsNo start bytes true line refusal = IsFirstFault start bytes line refusal
+  IsNo start bytes false line refusal = (more : List ℕ) → IsFirstFault start (bytes ++ more) line refusal
 
-  -- the bytes are lines that lead to a state, and the line of this number, whose text is this
-  pub record StopsBefore (start : Stage State Refusal) (bytes : List ℕ) (ended : Bool) (state : State) (line : ℕ) (text : List ℕ)
-      : Type 0 where
+  -- the bytes are lines that lead to a stage, and the line of this number, whose text is this
+  pub record StopsBefore (start : Stage State Refusal) (bytes : List ℕ) (ended : Bool) (line : ℕ) (text : List ℕ) : Type 0 where
     pub stage : Stage State Refusal
     pub rest : List ℕ
     pub behind : IsBehind start bytes stage rest
     pub line_is : line ≡ length behind.goes.lines + 1
-    pub state_is : state ≡ stage.state
     pub front : IsLastFront rest ended text

@@ -6,14 +6,17 @@ use Rattle.cap_word.specs.declared.word.Cap.{Cap}
 use Rattle.cap_log.specs.{declared.{kinds.Step.Step, lines.{Line.Line, Place.Place}}, Lines.{IsInRange, IsStepInRange, spelling}}
 use Rattle.cap_halves.specs.PassedRuns.{IsStepFrom}
 use Rattle.tagmem.specs.contracts.page_store.{PageStore.the_row as store_row, PageStoreTaggedStore.TheImpl.ghosts}
-use Rattle.cap_judge.specs.{declared.verdict.Verdict.Verdict, Logs.MayLackMemory, Readings.{BeginsWhole, Follows}}
+use Rattle.cap_judge.specs.{declared.verdict.Verdict.Verdict, Logs.MayLackMemory, Readings.BeginsWhole}
 use Rattle.cap_judge.specs.Readings.{HasRead, Known, Stands, at, stage_of, verdict_so_far}
 use Rattle.cap_judge.specs.{Turns.unread, contracts.judges.Judge.the_row as judge_row}
-use Rattle.cap_judge.proofs.{TurnLaws.{lacks_memory, none_so_far, reached, stands_so_far}, TurnLemmas.follows_on}
+use Rattle.cap_judge.proofs.TurnLaws.{lacks_memory, none_so_far, reached, stands_so_far}
 use Rattle.cap_report.specs.declared.answers.Answer.{Answer}
 use Rattle.capcheck_judge.specs.Handles.{AnswersSoFar, IsPassed, Standing, HandsOver, HandsOverStep, HeldJudge, Holds, known_in, origin_behind}
 use Rattle.cap_halves.specs.declared.values.PassedPlace.{PassedPlace}
 use Rattle.capcheck_judge.specs.{Handles.state_behind, Holding.IsNoStep, Takings.TakesLine}
+use Rattle.cap_turns.specs.Readings.{Follows}
+use Rattle.cap_turns.proofs.FollowLemmas.{follows_on}
+use Rattle.cap_judge.specs.Turns.{log_turns}
 
 -- a judge over pages
 abbrev pub J : Type 0
@@ -80,7 +83,7 @@ pub line_handed : (text : List ℕ) (held after : HeldJudge) (old new : J) (stat
     → TakesLine old text state new → HandsLine text held after state
 line_handed text held after old new state is now takes =
     let read : state < 3 → (bytes : List ℕ) → Holds held bytes → HasRead new (bytes ++ text) = λ below bytes holds.
-    follows_on unread (stage_of old) (stage_of new) bytes text (held_taken held bytes holds old is) (takes.taken below) in
+    follows_on log_turns unread (stage_of old) (stage_of new) bytes text (held_taken held bytes holds old is) (takes.taken below) in
     record {
       taken = λ below bytes holds. record { judge = new; held_is = now; taken = read below bytes holds };
       goes_on = λ zero bytes holds.
@@ -91,7 +94,7 @@ line_handed text held after old new state is now takes =
       still_holds = λ large bytes holds. record {
         judge = new;
         held_is = now;
-        taken = subst (λ (k : Known). Follows unread bytes (at k.due k.held)) (sym (takes.unchanged large)) (held_taken held bytes holds old is);
+        taken = subst (λ (k : Known). Follows log_turns unread bytes (at k.due k.held)) (sym (takes.unchanged large)) (held_taken held bytes holds old is);
       };
       no_memory = λ three bytes holds. lacks_memory bytes text [] (stage_of old) (held_taken held bytes holds old is) (takes.no_memory three);
     }

@@ -4,14 +4,17 @@ use Rattle.cap_run.specs.{Run.Run, declared.asks.Asks.Asks}
 use Rattle.cap_run_log.specs.declared.lines.{RunLine.RunLine, RunPlace.RunPlace}
 use Rattle.cap_run_log.specs.RunLines.{IsRunLineInRange, IsRunPlace, run_spelling}
 use Rattle.cap_run_judge.specs.declared.verdict.RunVerdict.TheVariants.{No}
-use Rattle.cap_run_judge.specs.{Readings.{Follows, stage_of}, Turns.unread}
-use Rattle.cap_run_judge.proofs.FollowLemmas.{clear_goes, follows_on, no_stands, refused_in}
+use Rattle.cap_run_judge.specs.{Readings.stage_of, Turns.unread}
+use Rattle.cap_run_judge.proofs.EndLemmas.{no_stands}
 use Rattle.cap_halves.specs.{PassedRuns.IsStepFrom, declared.values.PassedPlace.PassedPlace}
 use Rattle.cap_run_report.specs.ObjectParts.{HasNoHolder, IsFirstHolder}
 use Rattle.capcheck_judge.specs.RunPlaces.{IsHolderTold, holder_passed}
 use Rattle.capcheck_judge.specs.RunHandles.{HandsOverRun, HandsOverRunStep, HandsOverRunText, HeldRunJudge, HoldsRun, RunJudgeIn, stage_in}
 use Rattle.capcheck_judge.specs.{Holding.IsNoStep, RunTakings.TakesRunLine}
 use Rattle.capcheck_judge.proofs.RunTakingLemmas.{held_taken, lacking, there}
+use Rattle.cap_turns.specs.Readings.{Follows}
+use Rattle.cap_turns.proofs.FollowLemmas.{clear_goes, follows_on, refused_in}
+use Rattle.cap_run_judge.specs.Turns.{run_turns}
 
 -- the states of a call on a judge that is there
 IsState : ℕ → Type 0
@@ -40,14 +43,14 @@ pub text_handed : (text : List ℕ) (held after : HeldRunJudge) (old new : RunJu
 unfolding IsState
 text_handed text held after old new state is now answers takes =
     let small = few state answers in
-    let read : state < 3 → (asks_are : Asks) (bytes : List ℕ) → HoldsRun held asks_are bytes → Follows (unread asks_are) (bytes ++ text) (stage_of new) =
-    λ below asks_are bytes holds. follows_on (unread asks_are) (stage_of old) (stage_of new) bytes text (held_taken held asks_are bytes holds old is) (takes.taken below) in
+    let read : state < 3 → (asks_are : Asks) (bytes : List ℕ) → HoldsRun held asks_are bytes → Follows run_turns (unread asks_are) (bytes ++ text) (stage_of new) =
+    λ below asks_are bytes holds. follows_on run_turns (unread asks_are) (stage_of old) (stage_of new) bytes text (held_taken held asks_are bytes holds old is) (takes.taken below) in
     record {
       answers = small.0;
       never_yes = small.1;
       taken = λ below asks_are bytes holds. record { judge = new; held_is = now; taken = read below asks_are bytes holds };
       goes_on = λ zero asks_are bytes holds.
-          (stage_of new, clear_goes (unread asks_are) (bytes ++ text) (stage_of new) (read (omega (arith, zero)) asks_are bytes holds) (takes.goes_on zero));
+          (stage_of new, clear_goes run_turns (unread asks_are) (bytes ++ text) (stage_of new) (read (omega (arith, zero)) asks_are bytes holds) (takes.goes_on zero));
       at_fault = λ two asks_are bytes holds.
           let fault = refused_in (stage_of new).due (takes.at_fault two) in
           (No fault.0 fault.1, no_stands asks_are (bytes ++ text) (stage_of new) fault.0 fault.1 fault.2 (read (omega (arith, two)) asks_are bytes holds) fault.3);
@@ -55,7 +58,7 @@ text_handed text held after old new state is now answers takes =
       still_holds = λ large asks_are bytes holds. record {
         judge = new;
         held_is = now;
-        taken = subst (Follows (unread asks_are) bytes) (sym (takes.unchanged large)) (held_taken held asks_are bytes holds old is);
+        taken = subst (Follows run_turns (unread asks_are) bytes) (sym (takes.unchanged large)) (held_taken held asks_are bytes holds old is);
       };
       no_memory = λ three asks_are bytes holds.
           lacking asks_are bytes text (stage_of old) [] (held_taken held asks_are bytes holds old is) (takes.no_memory three);

@@ -7,18 +7,25 @@ use Rattle.cap_run_log.specs.RunLines.{run_spelling}
 use Rattle.cap_judge.specs.declared.judges.Stop.{Stop, TheVariants.{Cut, Fault, NoMemory}}
 use Rattle.cap_run.specs.declared.asks.Asks.{Asks}
 use Rattle.cap_run_judge.specs.{Questions.verdict_so_far, declared.verdict.RunVerdict.{RunVerdict, TheVariants.No}}
-use Rattle.cap_run_judge.specs.Turns.{Due, Goes, Refused, Stage, unread}
-use Rattle.cap_run_judge.specs.Readings.{Follows, IsAtFault, StopsAt, VerdictAtEnd, stage_of}
-use Rattle.cap_run_judge.specs.Verdicts.{Lacks, MayLackMemory}
-use Rattle.cap_run_judge.proofs.FollowLemmas.{all_ends, clear_goes, fault_allows, fault_stays, faults_at, follows_on, never_faulty, no_stands, refused_in}
-use Rattle.cap_run_judge.proofs.FollowLemmas.{stop_follows}
-use Rattle.cap_run_judge.proofs.{CountLemmas.goes_clear, EndLemmas.lacks_memory, TurnLemmas.{goes_on, line_is}}
+use Rattle.cap_run_judge.specs.Turns.{Stage, unread}
+use Rattle.cap_run_judge.specs.Readings.{VerdictAtEnd, stage_of}
+use Rattle.cap_run_judge.proofs.EndLemmas.{all_ends, no_stands}
 use Rattle.capcheck_judge.specs.declared.{answers.LinesTaken.LinesTaken, run_answers.RunAnswer.RunAnswer}
 use Rattle.capcheck_judge.specs.RunAnswers.{run_numbers_of}
 use Rattle.capcheck_judge.specs.RunHandles.{AnswersRunEnd, AnswersRunSoFar, StandingRun, StandsRun}
 use Rattle.capcheck_judge.specs.RunHandles.{BeginsRun, HandsOverRunLines, HeldRunJudge, HoldsRun, IsRunRefusedAfter, RunJudgeIn}
 use Rattle.capcheck_judge.specs.{RunTakings.TakesRunLines, Takings.state_at}
 use Rattle.capcheck_judge.proofs.TakingLemmas.{few_states, no_bytes, stop_of}
+use Rattle.cap_turns.specs.Turns.{Due, Goes, IsAtFault, Refused}
+use Rattle.cap_turns.specs.Readings.{Follows, StopsAt}
+use Rattle.cap_turns.specs.Verdicts.{Lacks, MayLackMemory}
+use Rattle.cap_turns.proofs.FollowLemmas.{clear_goes, fault_allows, fault_stays, faults_at, follows_on, goes_clear, refused_in, stop_follows}
+use Rattle.cap_turns.proofs.EndLemmas.{lacks_memory}
+use Rattle.cap_turns.proofs.TurnLemmas.{goes_on, line_is}
+use Rattle.cap_run_judge.specs.Turns.{run_turns}
+use Rattle.cap_run_judge.proofs.TurnLemmas.{run_spelled}
+use Rattle.cap_run_judge.proofs.CountLemmas.{run_lawful}
+use Rattle.cap_turns.proofs.OneEnd.{never_faulty}
 
 -- What a handle holds
 
@@ -29,40 +36,40 @@ one_held held asks_are bytes holds judge is = let e = holds.held_is in cc (is, e
 
 -- it has taken what the handle's has
 pub held_taken : (held : HeldRunJudge) (asks_are : Asks) (bytes : List ℕ) → HoldsRun held asks_are bytes → (judge : RunJudgeIn)
-    → held ≡ Some judge → Follows (unread asks_are) bytes (stage_of judge)
+    → held ≡ Some judge → Follows run_turns (unread asks_are) bytes (stage_of judge)
 held_taken held asks_are bytes holds judge is =
-    subst (λ (j : RunJudgeIn). Follows (unread asks_are) bytes (stage_of j)) (sym (one_held held asks_are bytes holds judge is)) holds.taken
+    subst (λ (j : RunJudgeIn). Follows run_turns (unread asks_are) bytes (stage_of j)) (sym (one_held held asks_are bytes holds judge is)) holds.taken
 
 -- what holds a judge isn't without one
 pub there : (held : HeldRunJudge) (judge : RunJudgeIn) → held ≡ Some judge → held ≡ None → ⊥
 there held judge is none = none-some judge (sym none ∙ is)
 
 -- the faulty line begins the rest that a judge stopped at, where none was faulty before
-refused_after : (asks_are : Asks) (old new : Stage) (front rest before : List ℕ) → StopsAt old front rest Fault new
-    → Follows (unread asks_are) before old → BeginsRun asks_are before → IsRunRefusedAfter asks_are (before ++ front) rest
+refused_after : (asks_are : Asks) (old new : Stage) (front rest before : List ℕ) → StopsAt run_turns old front rest Fault new
+    → Follows run_turns (unread asks_are) before old → BeginsRun asks_are before → IsRunRefusedAfter asks_are (before ++ front) rest
 refused_after asks_are old new front rest before (middle, goes, inl faults) read whole =
-    let start = clear_goes (unread asks_are) before old read (never_faulty asks_are before whole.0 whole.1 old read) in
-    absurd (goes_clear asks_are (before ++ front) middle (goes_on (unread asks_are) old middle before front start goes) faults.0)
+    let start = clear_goes run_turns (unread asks_are) before old read (never_faulty run_turns (run_lawful asks_are) before whole.0 old whole.1 read) in
+    absurd (goes_clear run_turns (run_lawful asks_are) (before ++ front) middle (goes_on run_turns (unread asks_are) old middle before front start goes) faults.0)
 refused_after asks_are old new front rest before (middle, goes, inr (clear, refusal, text, refused, last, is)) read whole =
-    let start = clear_goes (unread asks_are) before old read (never_faulty asks_are before whole.0 whole.1 old read) in
-    (middle, refusal, goes_on (unread asks_are) old middle before front start goes, refused)
+    let start = clear_goes run_turns (unread asks_are) before old read (never_faulty run_turns (run_lawful asks_are) before whole.0 old whole.1 read) in
+    (middle, refusal, goes_on run_turns (unread asks_are) old middle before front start goes, refused)
 
 -- nothing is taken where a line was faulty before
 none_taken : (asks_are : Asks) (old new : Stage) (given : List ℕ) (n : ℕ) (before : List ℕ) → n ≤ length given
-    → StopsAt old (take n given) (drop n given) Fault new → Follows (unread asks_are) before old → (BeginsRun asks_are before → ⊥) → n ≡ 0
+    → StopsAt run_turns old (take n given) (drop n given) Fault new → Follows run_turns (unread asks_are) before old → (BeginsRun asks_are before → ⊥) → n ≡ 0
 none_taken asks_are old new given n before few (middle, goes, faults) (inl start) some = absurd (some (old, start))
 none_taken asks_are old new given n before few (middle, goes, faults) (inr faulty) some =
-    no_bytes given n few (fault_stays old (take n given) middle (faults_at faulty.3 faulty.1 old faulty.5) goes).0
+    no_bytes given n few (fault_stays run_turns old (take n given) middle (faults_at run_turns faulty.3 faulty.1 old faulty.5) goes).0
 
 -- memory ran out at a line that no check refuses
-pub lacking : (asks_are : Asks) (front rest : List ℕ) (stage : Stage) (more : List ℕ) → Follows (unread asks_are) front stage
-    → Lacks stage rest more → MayLackMemory asks_are (front ++ rest) more
-lacking asks_are front rest stage more (inl goes) lack = lacks_memory asks_are front rest stage goes more lack
+pub lacking : (asks_are : Asks) (front rest : List ℕ) (stage : Stage) (more : List ℕ) → Follows run_turns (unread asks_are) front stage
+    → Lacks run_turns stage rest more → MayLackMemory run_turns (unread asks_are) (front ++ rest) more
+lacking asks_are front rest stage more (inl goes) lack = lacks_memory run_turns (run_lawful asks_are) front rest stage goes more lack
 lacking asks_are front rest stage more (inr faulty) lack =
-    absurd (fault_allows stage.asks stage.run stage.due lack.line (faults_at faulty.3 faulty.1 stage faulty.5) lack.allowed)
+    absurd (fault_allows run_turns stage.state.asks stage.state.run stage.due lack.line (faults_at run_turns faulty.3 faulty.1 stage faulty.5) lack.allowed)
 
 -- unless a line is faulty, the front was read
-front_read : (old new : Stage) (front rest : List ℕ) (stop : Stop) → StopsAt old front rest stop new → state_at stop ≢ 2 → Goes old front new
+front_read : (old new : Stage) (front rest : List ℕ) (stop : Stop) → StopsAt run_turns old front rest stop new → state_at stop ≢ 2 → Goes run_turns old front new
 front_read old new front rest Cut stops other = stops.0
 front_read old new front rest Fault stops other = absurd (other refl)
 front_read old new front rest NoMemory stops other = stops.0
@@ -75,14 +82,14 @@ took_run_lines given held after old new answer is now takes =
     let rest = drop answer.bytes given in
     let state = takes.state_is in
     let few = few_states takes.stop in
-    let at : (stop : Stop) → answer.state ≡ state_at stop → StopsAt (stage_of old) front rest stop (stage_of new) = λ stop wanted.
-    subst (λ (s : Stop). StopsAt (stage_of old) front rest s (stage_of new)) (stop_of takes.stop stop (sym state ∙ wanted)) takes.stops in
-    let read : (asks_are : Asks) (bytes text : List ℕ) → HoldsRun held asks_are bytes → Follows (stage_of old) text (stage_of new)
-    → Follows (unread asks_are) (bytes ++ text) (stage_of new) = λ asks_are bytes text holds on.
-    follows_on (unread asks_are) (stage_of old) (stage_of new) bytes text (held_taken held asks_are bytes holds old is) on in
-    let all : answer.state ≡ 2 → Follows (stage_of old) given (stage_of new) = λ two.
-    subst (λ (g : List ℕ). Follows (stage_of old) g (stage_of new)) (take-append-drop answer.bytes given)
-    (stop_follows (stage_of old) (stage_of new) front rest (at Fault two)) in
+    let at : (stop : Stop) → answer.state ≡ state_at stop → StopsAt run_turns (stage_of old) front rest stop (stage_of new) = λ stop wanted.
+    subst (λ (s : Stop). StopsAt run_turns (stage_of old) front rest s (stage_of new)) (stop_of takes.stop stop (sym state ∙ wanted)) takes.stops in
+    let read : (asks_are : Asks) (bytes text : List ℕ) → HoldsRun held asks_are bytes → Follows run_turns (stage_of old) text (stage_of new)
+    → Follows run_turns (unread asks_are) (bytes ++ text) (stage_of new) = λ asks_are bytes text holds on.
+    follows_on run_turns (unread asks_are) (stage_of old) (stage_of new) bytes text (held_taken held asks_are bytes holds old is) on in
+    let all : answer.state ≡ 2 → Follows run_turns (stage_of old) given (stage_of new) = λ two.
+    subst (λ (g : List ℕ). Follows run_turns (stage_of old) g (stage_of new)) (take-append-drop answer.bytes given)
+    (stop_follows run_turns (stage_of old) (stage_of new) front rest (at Fault two)) in
     record {
       few = takes.few;
       answers = omega (arith, state, few.0);
@@ -95,12 +102,12 @@ took_run_lines given held after old new answer is now takes =
       };
       goes_on = λ zero asks_are bytes holds.
           let stop = at Cut zero in
-          let goes = clear_goes (unread asks_are) (bytes ++ front) (stage_of new) (read asks_are bytes front holds (inl stop.0)) stop.2 in
+          let goes = clear_goes run_turns (unread asks_are) (bytes ++ front) (stage_of new) (read asks_are bytes front holds (inl stop.0)) stop.2 in
           ((stage_of new, goes), stop.1);
       read_all = λ two asks_are bytes holds. record { judge = new; held_is = now; taken = read asks_are bytes given holds (all two) };
       at_fault = λ two asks_are bytes holds.
           let stop = at Fault two in
-          let fault = refused_in (stage_of new).due (faults_at stop.0 rest (stage_of new) stop.2) in (
+          let fault = refused_in (stage_of new).due (faults_at run_turns stop.0 rest (stage_of new) stop.2) in (
             No fault.0 fault.1,
             no_stands asks_are (bytes ++ given) (stage_of new) fault.0 fault.1 fault.2
                 (read asks_are bytes given holds (all two)) fault.3,
@@ -115,8 +122,8 @@ took_run_lines given held after old new answer is now takes =
           let goes = lacking asks_are (bytes ++ front) rest (stage_of new) stop.1 (read asks_are bytes front holds (inl stop.0)) stop.2 in (
             run_spelling stop.2.line,
             stop.1,
-            line_is stop.2.line rest stop.1 stop.2.begins,
-            subst (λ (b : List ℕ). MayLackMemory asks_are b stop.1) same goes,
+            line_is run_turns run_spelled stop.2.line rest stop.1 stop.2.begins,
+            subst (λ (b : List ℕ). MayLackMemory run_turns (unread asks_are) b stop.1) same goes,
           );
       no_judge = (λ four. absurd (omega (arith, state, few.0, four)), λ none. absurd (there held old is none));
       nothing = λ none. absurd (there held old is none);
@@ -126,10 +133,10 @@ took_run_lines given held after old new answer is now takes =
 -- What its calls answer
 
 -- how the lines so far stand
-stands_by : (asks_are : Asks) (bytes : List ℕ) (stage : Stage) (due : Due) → stage.due ≡ due → Follows (unread asks_are) bytes stage
+stands_by : (asks_are : Asks) (bytes : List ℕ) (stage : Stage) (due : Due RunRefusal) → stage.due ≡ due → Follows run_turns (unread asks_are) bytes stage
     → StandsRun asks_are bytes (verdict_so_far due)
 stands_by asks_are bytes stage (Refused n refusal text) is read = no_stands asks_are bytes stage n refusal text read is
-stands_by asks_are bytes stage due is read = (stage, clear_goes (unread asks_are) bytes stage read (subst (λ (d : Due). IsAtFault d → ⊥) (sym is) (λ f. f)))
+stands_by asks_are bytes stage due is read = (stage, clear_goes run_turns (unread asks_are) bytes stage read (subst (λ (d : Due). IsAtFault d → ⊥) (sym is) (λ f. f)))
 
 pub answered_so_far : (held : HeldRunJudge) (judge : RunJudgeIn) (asks_are : Asks) (bytes : List ℕ) (so_far : Option RunVerdict) (answer : RunAnswer)
     → held ≡ Some judge → so_far ≡ verdict_so_far (stage_of judge).due → StandingRun so_far answer → HoldsRun held asks_are bytes

@@ -3,22 +3,27 @@ use Rattle.std.proofs.Common.{inl, ◌≡◌, ◌≢◌, ◌<◌, ◌≤◌, ◌
 use Rattle.std.proofs.Common.{[], ◌∷◌, length, suc, take, take-append-drop, zero, Some}
 use Rattle.cap_log.specs.Lines.{spelling}
 use Rattle.cap_judge.specs.{declared.judges.Stop.{Stop, TheVariants.{Cut, Fault, NoMemory}}, Judgings.IsBehind}
-use Rattle.cap_judge.specs.{Logs.{MayLackMemory, Refuses}, Readings.{BeginsWhole, Follows, HasRead, Goes, IsAtFault, IsRest}}
-use Rattle.cap_judge.specs.{Readings.{StopsAt, stage_of}, Turns.{Due, Stage, unread}}
-use Rattle.cap_judge.proofs.TurnLaws.{begins, clear_goes, fault_in, fault_reached, lacks_memory, never_faulty, reached}
-use Rattle.cap_judge.proofs.TurnLemmas.{fault_goes, faults_at, follows_on, goes_on, line_is, stop_follows}
+use Rattle.cap_judge.specs.{Logs.{MayLackMemory, Refuses}, Readings.{BeginsWhole, HasRead, IsRest}}
+use Rattle.cap_judge.specs.{Readings.stage_of, Turns.{Stage, unread}}
+use Rattle.cap_judge.proofs.TurnLaws.{begins, fault_reached, lacks_memory, never_faulty, reached}
 use Rattle.capcheck_judge.specs.declared.answers.LinesTaken.{LinesTaken}
 use Rattle.capcheck_judge.specs.{Handles.{HandsOverLines, HeldJudge, Holds, IsRefusedAfter}, Takings.{TakesLines, state_at}}
 use Rattle.capcheck_judge.proofs.HandleLemmas.{J, held_taken, there}
+use Rattle.cap_turns.specs.Readings.{Follows, StopsAt}
+use Rattle.cap_turns.specs.Turns.{Due, Goes, IsAtFault}
+use Rattle.cap_turns.proofs.FollowLemmas.{clear_goes, fault_stays, faults_at, follows_on, refused_in, stop_follows}
+use Rattle.cap_turns.proofs.TurnLemmas.{goes_on, line_is}
+use Rattle.cap_judge.specs.Turns.{log_turns}
+use Rattle.cap_judge.proofs.TurnLemmas.{log_spelled}
 
 -- the faulty line begins the rest that a judge stopped at, where none was faulty before
-refused_after : (old new : Stage) (front rest before : List ℕ) → StopsAt old front rest Fault new → Follows unread before old
+refused_after : (old new : Stage) (front rest before : List ℕ) → StopsAt log_turns old front rest Fault new → Follows log_turns unread before old
     → BeginsWhole before → IsRefusedAfter (before ++ front) rest
 refused_after old new front rest before (middle, goes, faults) read whole =
-    let goes_before = clear_goes unread before old read (never_faulty before old (reached before old read) whole) in
-    let on = goes_on unread old middle before front goes_before goes in
+    let goes_before = clear_goes log_turns unread before old read (never_faulty before old (reached before old read) whole) in
+    let on = goes_on log_turns unread old middle before front goes_before goes in
     let is = fault_reached (before ++ front) rest middle new on faults in
-    let fault = fault_in new.due (faults_at middle rest new faults) in
+    let fault = refused_in new.due (faults_at log_turns middle rest new faults) in
     let behind = subst (IsBehind ((before ++ front) ++ rest) is.0.beginning) is.1 is.0.behind in
     let found = subst (λ (d : Due). IsRest d is.0.beginning is.0.rest) fault.3 is.0.rest_is in
     (is.0.beginning, fault.1, behind, subst (λ (r : List ℕ). (more : List ℕ) → Refuses is.0.beginning (r ++ more) fault.1) is.1 found.2)
@@ -34,10 +39,10 @@ no_bytes [] (suc n) few none = absurd (omega (arith, few))
 no_bytes (b ∷ given) (suc n) few none = cc
 
 none_taken : (old new : Stage) (given : List ℕ) (n : ℕ) (before : List ℕ) → n ≤ length given
-    → StopsAt old (take n given) (drop n given) Fault new → Follows unread before old → (BeginsWhole before → ⊥) → n ≡ 0
+    → StopsAt log_turns old (take n given) (drop n given) Fault new → Follows log_turns unread before old → (BeginsWhole before → ⊥) → n ≡ 0
 none_taken old new given n before few (middle, goes, faults) read some =
     let is = faulty_at old.due (λ clear. some (begins before old (reached before old read) clear)) in
-    no_bytes given n few (fault_goes old (take n given) middle is goes)
+    no_bytes given n few (fault_stays log_turns old (take n given) middle is goes)
 
 -- the states of a call
 pub stop_of : (stop wanted : Stop) → state_at stop ≡ state_at wanted → stop ≡ wanted
@@ -52,7 +57,7 @@ few_states Fault = (omega arith, λ one. omega (arith, one))
 few_states NoMemory = (omega arith, λ one. omega (arith, one))
 
 -- unless a line is faulty, the front was read
-front_read : (old new : Stage) (front rest : List ℕ) (stop : Stop) → StopsAt old front rest stop new → state_at stop ≢ 2 → Goes old front new
+front_read : (old new : Stage) (front rest : List ℕ) (stop : Stop) → StopsAt log_turns old front rest stop new → state_at stop ≢ 2 → Goes log_turns old front new
 front_read old new front rest Cut stops other = stops.0
 front_read old new front rest Fault stops other = absurd (other refl)
 front_read old new front rest NoMemory stops other = stops.0
@@ -65,13 +70,13 @@ took_lines given held after old new answer is now takes =
     let rest = drop answer.bytes given in
     let state = takes.state_is in
     let few = few_states takes.stop in
-    let at : (stop : Stop) → answer.state ≡ state_at stop → StopsAt (stage_of old) front rest stop (stage_of new) = λ stop wanted.
-    subst (λ (s : Stop). StopsAt (stage_of old) front rest s (stage_of new)) (stop_of takes.stop stop (sym state ∙ wanted)) takes.stops in
-    let read : (bytes text : List ℕ) → Holds held bytes → Follows (stage_of old) text (stage_of new) → HasRead new (bytes ++ text) =
-    λ bytes text holds on. follows_on unread (stage_of old) (stage_of new) bytes text (held_taken held bytes holds old is) on in
-    let all : answer.state ≡ 2 → Follows (stage_of old) given (stage_of new) = λ two.
-    subst (λ (g : List ℕ). Follows (stage_of old) g (stage_of new)) (take-append-drop answer.bytes given)
-    (stop_follows (stage_of old) (stage_of new) front rest (at Fault two)) in
+    let at : (stop : Stop) → answer.state ≡ state_at stop → StopsAt log_turns (stage_of old) front rest stop (stage_of new) = λ stop wanted.
+    subst (λ (s : Stop). StopsAt log_turns (stage_of old) front rest s (stage_of new)) (stop_of takes.stop stop (sym state ∙ wanted)) takes.stops in
+    let read : (bytes text : List ℕ) → Holds held bytes → Follows log_turns (stage_of old) text (stage_of new) → HasRead new (bytes ++ text) =
+    λ bytes text holds on. follows_on log_turns unread (stage_of old) (stage_of new) bytes text (held_taken held bytes holds old is) on in
+    let all : answer.state ≡ 2 → Follows log_turns (stage_of old) given (stage_of new) = λ two.
+    subst (λ (g : List ℕ). Follows log_turns (stage_of old) g (stage_of new)) (take-append-drop answer.bytes given)
+    (stop_follows log_turns (stage_of old) (stage_of new) front rest (at Fault two)) in
     record {
       few = takes.few;
       answers = omega (arith, state, few.0);
@@ -90,7 +95,7 @@ took_lines given held after old new answer is now takes =
       at_fault = λ two bytes holds whole.
           let stop = at Fault two in
           never_faulty (bytes ++ given) (stage_of new) (reached (bytes ++ given) (stage_of new) (read bytes given holds (all two))) whole
-          (faults_at stop.0 rest (stage_of new) stop.2);
+          (faults_at log_turns stop.0 rest (stage_of new) stop.2);
       faulty = λ two bytes holds. refused_after (stage_of old) (stage_of new) front rest bytes (at Fault two)
           (held_taken held bytes holds old is);
       faulty_before = λ two bytes holds. none_taken (stage_of old) (stage_of new) given answer.bytes bytes takes.few (at Fault two)
@@ -100,7 +105,7 @@ took_lines given held after old new answer is now takes =
           let same = append_assoc bytes front rest ∙ ap (λ (g : List ℕ). bytes ++ g) (take-append-drop answer.bytes given) in (
             spelling stop.2.line,
             stop.1,
-            line_is stop.2.line rest stop.1 stop.2.begins,
+            line_is log_turns log_spelled stop.2.line rest stop.1 stop.2.begins,
             subst (λ (b : List ℕ). MayLackMemory b stop.1) same
                 (lacks_memory (bytes ++ front) rest stop.1 (stage_of new) (read bytes front holds (inl stop.0)) stop.2),
           );

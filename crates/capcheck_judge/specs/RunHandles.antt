@@ -9,14 +9,18 @@ use Rattle.cap_run.specs.declared.{asks.Asks.Asks, ends.RunRefusal.RunRefusal}
 use Rattle.cap_run.specs.Run.{Run}
 use Rattle.cap_run_judge.specs.contracts.judges.RunJudge.{the_row as run_judge_row}
 use Rattle.cap_run_judge.specs.declared.verdict.RunVerdict.{RunVerdict}
-use Rattle.cap_run_judge.specs.Readings.{Follows, RefusesNext, stage_of}
+use Rattle.cap_run_judge.specs.Readings.{stage_of}
 use Rattle.cap_judge.specs.declared.verdict.Expected.{Expected}
-use Rattle.cap_run_judge.specs.{Questions.ExpectsAt, Turns.{Goes, Stage, unread}, Verdicts.{IsRunVerdict, MayLackMemory}}
+use Rattle.cap_run_judge.specs.{Questions.ExpectsAt, Turns.{Stage, unread}, Verdicts.IsRunVerdict}
 use Rattle.cap_report.specs.Texts.{IsTold}
 use Rattle.cap_run_report.specs.Answers.{ExplainsRunEnd, ExplainsRunSoFar}
 use Rattle.capcheck_judge.specs.Handles.{IsGiven}
 use Rattle.capcheck_judge.specs.declared.{answers.{LinesTaken.LinesTaken, PassedExpected.PassedExpected}, run_handle.RunHandle.RunHandle, run_answers.RunAnswer.RunAnswer}
 use Rattle.capcheck_judge.specs.{Holding.IsNoStep, RunAnswers.{run_numbers_of, run_without_verdict}}
+use Rattle.cap_turns.specs.Readings.{Follows, RefusesNext}
+use Rattle.cap_turns.specs.Turns.{Goes}
+use Rattle.cap_turns.specs.Verdicts.{MayLackMemory}
+use Rattle.cap_run_judge.specs.Turns.{run_turns}
 
 -- a judge of run logs, over pages
 abbrev pub RunJudgeIn : Type 0
@@ -34,7 +38,7 @@ run_held_in handle = handle.judge
 pub record HoldsRun (held : HeldRunJudge) (asks : Asks) (bytes : List ℕ) : Type 0 where
   pub judge : RunJudgeIn
   pub held_is : held ≡ Some judge
-  pub taken : Follows (unread asks) bytes (stage_of judge)
+  pub taken : Follows run_turns (unread asks) bytes (stage_of judge)
 
 -- how far the judge of a handle has read, where there is one
 abbrev pub stage_in : HeldRunJudge → Option Stage
@@ -47,7 +51,7 @@ run_behind holds = (stage_of holds.judge).run
 
 -- the bytes are whole lines that begin a run log, none of them faulty
 abbrev pub BeginsRun : Asks → List ℕ → Type 0
-BeginsRun asks bytes = (stage : Stage) × Goes (unread asks) bytes stage
+BeginsRun asks bytes = (stage : Stage) × Goes run_turns (unread asks) bytes stage
 
 -- the verdict that stands whatever bytes follow these, or none while no line is faulty
 abbrev pub StandsRun : Asks → List ℕ → Option RunVerdict → Type 0
@@ -74,7 +78,7 @@ pub record AnswersRunEnd (asks : Asks) (bytes : List ℕ) (answer : RunAnswer) :
 -- C gets the verdict on these bytes, or learns that there is none for want of memory
 pub record AnswersRunBytes (asks : Asks) (bytes : List ℕ) (answer : RunAnswer) : Type 0 where
   pub verdict : answer.state ≢ 3 → AnswersRunEnd asks bytes answer
-  pub no_memory : answer.state ≡ 3 → (answer ≡ run_without_verdict 3) × ((more : List ℕ) × MayLackMemory asks bytes more)
+  pub no_memory : answer.state ≡ 3 → (answer ≡ run_without_verdict 3) × ((more : List ℕ) × MayLackMemory run_turns (unread asks) bytes more)
 
 -- what a call answers that hands over a text as one line: that it was taken, and no line so far is faulty; that it or one
 -- before it is faulty; that memory ran out at it; that there is no judge; or that it is none
@@ -87,7 +91,7 @@ pub record HandsOverRunText (text : List ℕ) (old new : HeldRunJudge) (state : 
       → (verdict : RunVerdict) × StandsRun asks (bytes ++ text) (Some verdict)
   pub unchanged : 2 < state → stage_in new ≡ stage_in old
   pub still_holds : 2 < state → (asks : Asks) (bytes : List ℕ) → HoldsRun old asks bytes → HoldsRun new asks bytes
-  pub no_memory : state ≡ 3 → (asks : Asks) (bytes : List ℕ) → HoldsRun old asks bytes → MayLackMemory asks (bytes ++ text) []
+  pub no_memory : state ≡ 3 → (asks : Asks) (bytes : List ℕ) → HoldsRun old asks bytes → MayLackMemory run_turns (unread asks) (bytes ++ text) []
   pub no_judge : (state ≡ 4) ↔ (old ≡ None)
   pub held : (new ≡ None) ↔ (old ≡ None)
 
@@ -105,7 +109,7 @@ HandsOverRunStep None old new state = IsNoStep old state × (new ≡ old)
 -- a front is the text of lines that begin a run log, and the line that begins the rest is refused, whatever follows
 abbrev pub IsRunRefusedAfter : Asks → List ℕ → List ℕ → Type 0
 IsRunRefusedAfter asks front rest =
-    (stage : Stage) × (refusal : RunRefusal) × Goes (unread asks) front stage × RefusesNext stage rest refusal
+    (stage : Stage) × (refusal : RunRefusal) × Goes run_turns (unread asks) front stage × RefusesNext run_turns stage rest refusal
 
 -- what a call answers that hands over as many whole lines as some bytes begin with: how many bytes were taken; and that
 -- no line so far is faulty, and less than a line is left; that a line is faulty, the next one, or an earlier one, and
@@ -126,7 +130,7 @@ pub record HandsOverRunLines (given : List ℕ) (old new : HeldRunJudge) (answer
   pub faulty_before : answer.state ≡ 2 → (asks : Asks) (bytes : List ℕ) → HoldsRun old asks bytes → (BeginsRun asks bytes → ⊥)
       → answer.bytes ≡ 0
   pub no_memory : answer.state ≡ 3 → (asks : Asks) (bytes : List ℕ) → HoldsRun old asks bytes
-      → (line : List ℕ) × (more : List ℕ) × IsLine (drop answer.bytes given) line more × MayLackMemory asks (bytes ++ given) more
+      → (line : List ℕ) × (more : List ℕ) × IsLine (drop answer.bytes given) line more × MayLackMemory run_turns (unread asks) (bytes ++ given) more
   pub no_judge : (answer.state ≡ 4) ↔ (old ≡ None)
   pub nothing : old ≡ None → answer.bytes ≡ 0
   pub held : (new ≡ None) ↔ (old ≡ None)

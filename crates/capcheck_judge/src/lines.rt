@@ -2,10 +2,11 @@
 
 ghost use Rattle.std.specs.Prelude.{◌≡◌, ◌≢◌, ◌↔◌, ◌⊎◌, ◌<◌, ℕ, List, [], ◌++◌, None};
 ghost use Rattle.cap_judge.specs.Logs.{MayLackMemory};
-ghost use Rattle.cap_judge.specs.Readings.{BeginsWhole, IsNoLine};
+ghost use Rattle.cap_judge.specs.Readings.{BeginsWhole};
 ghost use Rattle.cap_report.specs.Answers.{NamesEscapesIn, without_verdict};
 ghost use Rattle.capcheck_judge.specs.Handles.{AnswersEnd, AnswersSoFar, HandsOverLines, Holds, held_in, known_in};
 ghost use Rattle.capcheck_judge.specs.Takings.{TakesLine, TakesLines};
+ghost use Rattle.cap_turns.specs.Readings.{IsNoLine};
 
 use crate::answers::LinesTaken;
 use crate::handle::Handle;

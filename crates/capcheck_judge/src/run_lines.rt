@@ -1,11 +1,11 @@
 //! A judge of run logs that C opens, hands the lines of a run log to, and closes.
 
 ghost use Rattle.std.specs.Prelude.{◌≡◌, ◌≢◌, ◌↔◌, ◌⊎◌, ℕ, List, [], None};
-ghost use Rattle.cap_judge.specs.Readings.{IsNoLine};
 ghost use Rattle.cap_run.specs.declared.asks.Asks.{Asks as AsksIn};
 ghost use Rattle.capcheck_judge.specs.RunAnswers.{asks_passed, run_without_verdict};
 ghost use Rattle.capcheck_judge.specs.RunHandles.{AnswersRunBytes, AnswersRunEnd, AnswersRunSoFar, HandsOverRunLines, HandsOverRunText, HoldsRun};
 ghost use Rattle.capcheck_judge.specs.{RunHandles.run_held_in, RunTakings.{TakesRunLine, TakesRunLines}};
+ghost use Rattle.cap_turns.specs.Readings.{IsNoLine};
 
 use crate::answers::LinesTaken;
 use crate::run_answers::{PassedAsks, RunAnswer, asks_of, run_numbers_of, run_without_verdict};

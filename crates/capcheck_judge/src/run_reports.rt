@@ -2,8 +2,10 @@
 
 ghost use Rattle.std.specs.Prelude.{◌≡◌, ℕ, List, None};
 ghost use Rattle.cap_run.specs.declared.asks.Asks.{Asks as AsksIn};
-ghost use Rattle.cap_run_judge.specs.{Readings.{Follows, stage_of}, Turns.unread};
+ghost use Rattle.cap_run_judge.specs.{Readings.stage_of, Turns.unread};
 ghost use Rattle.capcheck_judge.specs.RunHandles.{AnswersRunEndReport, AnswersRunReport, HoldsRun, run_held_in};
+ghost use Rattle.cap_turns.specs.Readings.{Follows};
+ghost use Rattle.cap_run_judge.specs.Turns.{run_turns};
 
 use crate::run_handle::RunHandle;
 use cap_log::PushFault;
@@ -53,7 +55,7 @@ pub extern "C" fn capcheck_run_judge_end_report(
 
 // Writes the report of a judge's faulty line, and answers its length.
 fn write_run_report(judge: &RunJudge<PageStore>, text: &mut [u8]) -> u64
-    ensures { (asks : AsksIn) (bytes : List ℕ) → Follows (unread asks) bytes (stage_of judge.now)
+    ensures { (asks : AsksIn) (bytes : List ℕ) → Follows run_turns (unread asks) bytes (stage_of judge.now)
         → AnswersRunReport asks bytes text.old text.new result }
 {
     let mut sink = TextSink::new(text);
@@ -65,7 +67,7 @@ fn write_run_report(judge: &RunJudge<PageStore>, text: &mut [u8]) -> u64
 
 // Writes the text of the verdict on a judge's lines as a whole run log, and answers its length.
 fn write_run_end_report(judge: &RunJudge<PageStore>, text: &mut [u8]) -> u64
-    ensures { (asks : AsksIn) (bytes : List ℕ) → Follows (unread asks) bytes (stage_of judge.now)
+    ensures { (asks : AsksIn) (bytes : List ℕ) → Follows run_turns (unread asks) bytes (stage_of judge.now)
         → AnswersRunEndReport asks bytes text.old text.new result }
 {
     let mut sink = TextSink::new(text);

@@ -5,11 +5,13 @@ use Rattle.cap_streams.specs.declared.judging.judge_faults.JudgeFault.{JudgeFaul
 use Rattle.cap_streams.specs.declared.judging.judge_faults.JudgeToFault.{JudgeToFault, TheVariants.{Pull, NoMemory, Push}}
 use Rattle.cap_run.specs.{declared.asks.Asks.Asks, Run.Run}
 use Rattle.cap_run_judge.specs.declared.verdict.RunVerdict.{RunVerdict, TheVariants.{Yes, No}}
-use Rattle.cap_judge.proofs.{TurnLaws.ended_front, TurnLemmas.front_more}
-use Rattle.cap_run_judge.specs.{Judgings.{IsAnswerOf, StopsBefore}, Reports.IsRunPushed, Turns.unread, VerdictLines.run_verdict_status, Verdicts.IsFirstFault}
+use Rattle.cap_run_judge.specs.{Judgings.{IsAnswerOf, StopsWithRun}, Reports.IsRunPushed, Turns.unread, VerdictLines.run_verdict_status}
 use Rattle.cap_run_judge.proofs.GuardLemmas.{run_guarded}
 use Rattle.cap_program.specs.{Doings.IsDone, Judging.{StopsJudging, judged}}
 use Rattle.capdiag.specs.Judgings.{ShowsRun, TellsAsked}
+use Rattle.cap_turns.proofs.LineLemmas.{ended_front, front_more}
+use Rattle.cap_turns.specs.Verdicts.{IsFirstFault}
+use Rattle.cap_run_judge.specs.Turns.{run_turns}
 
 -- what was pushed for an answer is what was done for the order
 pub run_done : (asks : Asks) (owners why : Bool) (given : List ℕ) (ended : Bool) (took : List ℕ → Type 0) (answer : Result RunVerdict JudgeToFault)
@@ -22,8 +24,8 @@ run_done asks owners why given ended took (Err Push) p = (p.2, run_verdict_statu
 
 -- where a judge stopped in the bytes given, whatever follows them, it stopped in all bytes
 stops_known : (asks : Asks) (known given rest : List ℕ) (run : Run) (line : ℕ) (text : List ℕ) → known ≡ given ++ rest
-    → StopsBefore asks given false run line text → StopsBefore asks known true run line text
-stops_known asks known given rest run line text are stops = record {
+    → StopsWithRun asks given false run line text → StopsWithRun asks known true run line text
+stops_known asks known given rest run line text are (stops, run_is) = (record {
   stage = stops.stage;
   rest = stops.rest ++ rest;
   behind = record {
@@ -32,9 +34,8 @@ stops_known asks known given rest run line text are stops = record {
     goes = stops.behind.goes;
   };
   line_is = stops.line_is;
-  run_is = stops.run_is;
   front = ended_front (stops.rest ++ rest) true text (front_more stops.rest rest text stops.front);
-}
+}, run_is)
 
 -- a no on the bytes given, whatever follows them, is one on all bytes
 no_known : (asks : Asks) (owners why : Bool) (known given rest : List ℕ) (verdict : RunVerdict) (text : List ℕ) → known ≡ given ++ rest
@@ -42,11 +43,11 @@ no_known : (asks : Asks) (owners why : Bool) (known given rest : List ℕ) (verd
     → IsAnswerOf asks known true (Ok verdict) × TellsAsked asks owners why known true verdict text
 no_known asks owners why known given rest (Yes steps roots objects) text are answer tells = absurd answer.verdict
 no_known asks owners true known given rest (No line refusal) text are answer tells = (
-  record { verdict = subst (λ (bytes : List ℕ). IsFirstFault asks bytes line refusal) (sym are) (answer.verdict rest); guarded = run_guarded asks known; fault = tt },
+  record { verdict = subst (λ (bytes : List ℕ). IsFirstFault run_turns (unread asks) bytes line refusal) (sym are) (answer.verdict rest); guarded = run_guarded asks known; fault = tt },
   (tells.0, tells.1, stops_known asks known given rest tells.0 line tells.1 are tells.2, tells.3, tells.4, tells.5),
 )
 no_known asks owners false known given rest (No line refusal) text are answer tells = (
-  record { verdict = subst (λ (bytes : List ℕ). IsFirstFault asks bytes line refusal) (sym are) (answer.verdict rest); guarded = run_guarded asks known; fault = tt },
+  record { verdict = subst (λ (bytes : List ℕ). IsFirstFault run_turns (unread asks) bytes line refusal) (sym are) (answer.verdict rest); guarded = run_guarded asks known; fault = tt },
   (tells.0, tt, tells.2),
 )
 

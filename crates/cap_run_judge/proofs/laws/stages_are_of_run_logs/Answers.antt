@@ -1,10 +1,17 @@
-use Rattle.cap_run_judge.proofs.{EndLemmas.{end_told, fault_told, lacks_memory}, TurnLemmas.goes_on}
+use Rattle.std.proofs.Common.{[], ◌++◌, inr, refl}
+use Rattle.cap_run_judge.proofs.EndLemmas.{end_told, fault_told}
+use Rattle.cap_turns.proofs.FollowLemmas.{faults_at}
 use Rattle.cap_run_judge.proofs.laws.stages_are_of_run_logs.Goals as goal
+use Rattle.cap_turns.proofs.EndLemmas.{lacks_memory}
+use Rattle.cap_turns.proofs.TurnLemmas.{goes_on}
+use Rattle.cap_run_judge.specs.Turns.{run_turns}
+use Rattle.cap_run_judge.proofs.CountLemmas.{run_lawful}
 
 pub returns : goal.returns
 returns c = record {
-  goes_on = goes_on;
-  fault = λ asks front rest middle new ended verdict text goes. fault_told asks front rest middle goes new ended verdict text;
-  memory = λ asks front rest more stage goes. lacks_memory asks front rest stage goes more;
+  goes_on = goes_on run_turns;
+  fault = λ asks front rest middle new ended verdict text goes faults.
+      fault_told asks (front ++ rest) new [] ended verdict text (inr (front, rest, refl, middle, goes, faults)) (faults_at run_turns middle rest new faults);
+  memory = λ asks front rest more stage goes. lacks_memory run_turns (run_lawful asks) front rest stage goes more;
   ends = end_told;
 }

@@ -1,16 +1,18 @@
 use Rattle.std.proofs.Common.{◌≡◌, ◌+◌, ◌-◌, ◌*◌, ◌++◌, ℕ, List, length}
 use Rattle.cap_streams.specs.{Front.IsCut, ReadBuffers.items}
-use Rattle.cap_run_judge.specs.{Readings.{lines_read, stage_of}, Turns.{Goes, unread}}
+use Rattle.cap_run_judge.specs.{Readings.stage_of, Turns.unread}
 use Rattle.cap_run_judge.proofs.streams.judge_source.Given as goal
+use Rattle.cap_turns.specs.Turns.{Goes, lines_read}
+use Rattle.cap_run_judge.specs.Turns.{run_turns}
 
 -- what was given is lines that were read, except less than a line, which the pulled holds
 abbrev pub invariant-pieces : goal.invariant-pieces
 invariant-pieces g l = record {
-  here : (taken : List ℕ) × g.S.Source.gave l.fn.source l.source (taken ++ items l.pulled) × Goes (unread l.fn.judge.machine.asks) taken (stage_of l.judge);
+  here : (taken : List ℕ) × g.S.Source.gave l.fn.source l.source (taken ++ items l.pulled) × Goes run_turns (unread l.fn.judge.machine.asks) taken (stage_of l.judge);
   cut : IsCut (items l.pulled);
   counted : g.S.Source.faults l.source ≡ g.S.Source.faults l.fn.source;
 }
 
 -- the limits bound the lines, and each pull gives more of one
 abbrev pub decreases-pieces : goal.decreases-pieces
-decreases-pieces g l = 96 * (8589934700 - lines_read (stage_of l.judge)) + 96 - length (items l.pulled)
+decreases-pieces g l = 96 * (8589934700 - lines_read run_turns (stage_of l.judge)) + 96 - length (items l.pulled)

@@ -2,17 +2,18 @@ use Rattle.std.proofs.Common.{◌++◌, [], None, Some, arith, refl, subst}
 use Rattle.cap_streams.specs.FaultLines.{bytes_of}
 use Rattle.cap_run_judge.specs.{declared.verdict.RunVerdict.TheVariants.No, Readings.{stage_of}, Turns.unread}
 use Rattle.cap_run_judge.specs.VerdictLines.{run_verdict_line}
-use Rattle.cap_run_judge.proofs.FollowLemmas.{clear_goes}
 use Rattle.cap_report.proofs.WhyLemmas.{on_err, on_ok}
 use Rattle.cap_run_report.specs.LineReports.{IsRunLineReport}
 use Rattle.cap_run_report.proofs.WhyLemmas.{so_far}
 use Rattle.cap_run_report.proofs.explanations.push_run_refused.Goals as goal
 use Rattle.cap_run.specs.Machines.{run_in}
+use Rattle.cap_turns.proofs.FollowLemmas.{clear_goes}
+use Rattle.cap_run_judge.specs.Turns.{run_turns}
 
 pub returns-in-None-clause-ok : goal.returns-in-None-clause-ok
 returns-in-None-clause-ok g c = λ asks bytes read.
     let stage = stage_of c.args.judge.now in
-    (None, [], ((stage, clear_goes (unread asks) bytes stage read c.in-None.ensures.fault), refl), g.met.K.Sink.nothing c.args.sink.now, omega arith)
+    (None, [], ((stage, clear_goes run_turns (unread asks) bytes stage read c.in-None.ensures.fault), refl), g.met.K.Sink.nothing c.args.sink.now, omega arith)
 
 pub returns-in-Some-clause-ok : goal.returns-in-Some-clause-ok
 returns-in-Some-clause-ok g c =

@@ -1,7 +1,8 @@
 use Rattle.std.proofs.Common.{◌≡◌, ℕ, arith, inl, rules}
 use Rattle.cap_judge.specs.Turns.{unread}
-use Rattle.cap_judge.proofs.TurnLemmas.{goes_none}
 use Rattle.capcheck_judge.proofs.lines.capcheck_judge_open.Goals as goal
+use Rattle.cap_turns.proofs.TurnLemmas.{goes_none}
+use Rattle.cap_judge.specs.Turns.{log_turns}
 
 pub returns-in-Ok-clause-opened : goal.returns-in-Ok-clause-opened
 returns-in-Ok-clause-opened c = λ _.
@@ -9,7 +10,7 @@ returns-in-Ok-clause-opened c = λ _.
     record {
       judge = c.in-Ok.opened.value;
       held_is = c.put.ensures;
-      taken = inl (rw (same, c.over_pages.ensures.read) (goes_none unread));
+      taken = inl (rw (same, c.over_pages.ensures.read) (goes_none log_turns unread));
     }
 
 pub put-requires : goal.put-requires

@@ -1,10 +1,13 @@
 use Rattle.std.proofs.{Common.{[], length, refl}, Math.Nat.sub-le}
 use Rattle.cap_run_judge.specs.Readings.{stage_of}
-use Rattle.cap_run_judge.proofs.TurnLemmas.{goes_line, goes_more, goes_none, later_fits, later_shorter, stops_here}
+use Rattle.cap_run_judge.proofs.TurnLemmas.{later_shorter}
 use Rattle.cap_run_judge.proofs.judges.RunJudge.take.Goals as goal
+use Rattle.cap_turns.proofs.TurnLemmas.{goes_line, goes_more, goes_none, stops_here}
+use Rattle.cap_turns.proofs.LineLemmas.{later_fits}
+use Rattle.cap_run_judge.specs.Turns.{run_turns}
 
 pub lines-init : goal.lines-init
-lines-init g c = record { taken = ([], refl, goes_none (stage_of c.args.self.now)) }
+lines-init g c = record { taken = ([], refl, goes_none run_turns (stage_of c.args.self.now)) }
 
 pub lines-preserved : goal.lines-preserved
 lines-preserved g c =
@@ -13,11 +16,11 @@ lines-preserved g c =
     let so_far = c.lines.invariant.taken in
     let steps = c.take_front_steps-before.ensures in
     let here = c.take_front_steps-before.result.now in
-    let on = goes_more first (stage_of c.lines.self) middle c.args.bytes.now so_far.0 c.lines.rest.now steps.0 here
+    let on = goes_more run_turns first (stage_of c.lines.self) middle c.args.bytes.now so_far.0 c.lines.rest.now steps.0 here
     so_far.1 so_far.2 steps.1 steps.2 in
     let line = c.in-Ok.ensures.ok in
     record {
-      taken = goes_line first middle (stage_of c.take_any_line.new.self) c.args.bytes.now on.0 here c.in-Ok.behind.now line.0 on.1 on.2
+      taken = goes_line run_turns first middle (stage_of c.take_any_line.new.self) c.args.bytes.now on.0 here c.in-Ok.behind.now line.0 on.1 on.2
           line.1 line.2;
     }
 
@@ -28,9 +31,9 @@ returns-in-Err-clause-stops g c =
     let so_far = c.lines.invariant.taken in
     let steps = c.take_front_steps-before.ensures in
     let here = c.take_front_steps-before.result.now in
-    let on = goes_more first (stage_of c.lines.self) middle c.args.bytes.now so_far.0 c.lines.rest.now steps.0 here
+    let on = goes_more run_turns first (stage_of c.lines.self) middle c.args.bytes.now so_far.0 c.lines.rest.now steps.0 here
     so_far.1 so_far.2 steps.1 steps.2 in
-    stops_here first middle (stage_of c.take_any_line.new.self) c.args.bytes.now on.0 here c.in-Err.stop on.1 on.2 c.in-Err.ensures.err
+    stops_here run_turns first middle (stage_of c.take_any_line.new.self) c.args.bytes.now on.0 here [] here c.in-Err.stop on.1 refl on.2 c.in-Err.ensures.err
 
 pub lines-smaller : goal.lines-smaller
 lines-smaller g c =

@@ -1,12 +1,16 @@
 use Rattle.std.proofs.Common.{[], inl, refl, rules, subst, sym}
-use Rattle.cap_run_judge.specs.{Readings.{EndsBytes, IsAtFault, StopsAt, stage_of}, Turns.Stage}
-use Rattle.cap_run_judge.proofs.TurnLemmas.{clear_of, ends_at, goes_none}
+use Rattle.cap_run_judge.specs.{Readings.{EndsBytes, end_of, stage_of}, Turns.Stage}
+use Rattle.cap_run_judge.proofs.TurnLemmas.{clear_of, run_spelled}
 use Rattle.cap_run_judge.proofs.judges.RunJudge.take_any_line.Goals as goal
+use Rattle.cap_turns.specs.Turns.{IsAtFault}
+use Rattle.cap_turns.specs.Readings.{StopsAt}
+use Rattle.cap_turns.proofs.TurnLemmas.{ends_at, goes_none}
+use Rattle.cap_run_judge.specs.Turns.{run_turns}
 
 pub returns-in-Refused-clause-err : goal.returns-in-Refused-clause-err
 returns-in-Refused-clause-err g c =
     let stage = stage_of c.args.self.now in
-    (stage, goes_none stage, inl (search rules, refl))
+    (stage, goes_none run_turns stage, inl (search rules, refl))
 
 pub stop-requires : goal.stop-requires
 stop-requires g c =
@@ -17,12 +21,12 @@ stop-requires g c =
       found = c.front.ensures.found;
       clear = subst (λ (s : Stage). IsAtFault s.due → ⊥) (sym answer.1) (clear_of c.args.self.now.due c.in_default.not-Refused);
       ends = subst (λ (s : Stage). EndsBytes s bytes c.in-Err.end) (sym answer.1)
-          (ends_at old bytes c.in-Some.rest.now c.in-Some.line c.in-Err.end c.in-Some.ensures.some answer.0);
+          (ends_at run_turns run_spelled old bytes c.in-Some.rest.now c.in-Some.line (end_of c.in-Err.end) c.in-Some.ensures.some answer.0);
     }
 
 pub returns-in-Err : goal.returns-in-Err
 returns-in-Err g c = record {
   ok = tt;
-  err = subst (λ (s : Stage). StopsAt s [] c.args.bytes.now c.stop.result (stage_of c.stop.new.self)) c.in-Err.ensures.1
+  err = subst (λ (s : Stage). StopsAt run_turns s [] c.args.bytes.now c.stop.result (stage_of c.stop.new.self)) c.in-Err.ensures.1
       c.stop.ensures.stops;
 }

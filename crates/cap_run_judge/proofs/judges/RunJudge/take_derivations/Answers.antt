@@ -1,18 +1,20 @@
 use Rattle.std.proofs.Common.{[], refl, subst, sym}
 use Rattle.cap_run.proofs.StepTakingLemmas.{line_shorter}
-use Rattle.cap_run_judge.specs.{Readings.stage_of, Turns.{Goes, Stage}}
-use Rattle.cap_run_judge.proofs.TurnLemmas.{goes_line, goes_none}
+use Rattle.cap_run_judge.specs.{Readings.stage_of, Turns.Stage}
 use Rattle.cap_run_judge.proofs.judges.RunJudge.take_derivations.Goals as goal
+use Rattle.cap_turns.specs.Turns.{Goes}
+use Rattle.cap_turns.proofs.TurnLemmas.{goes_line, goes_none}
+use Rattle.cap_run_judge.specs.Turns.{run_turns}
 
 pub lines-init : goal.lines-init
-lines-init g c = record { taken = ([], refl, goes_none (stage_of c.args.self.now)); body = c.requires }
+lines-init g c = record { taken = ([], refl, goes_none run_turns (stage_of c.args.self.now)); body = c.requires }
 
 pub lines-preserved-in-Some : goal.lines-preserved-in-Some
 lines-preserved-in-Some g c =
     let so_far = c.lines.invariant.taken in
     let line = c.in-Some.ensures.some in
     record {
-      taken = goes_line (stage_of c.args.self.now) (stage_of c.lines.self) (stage_of c.take_exchange-front.new.self) c.args.bytes.now so_far.0
+      taken = goes_line run_turns (stage_of c.args.self.now) (stage_of c.lines.self) (stage_of c.take_exchange-front.new.self) c.args.bytes.now so_far.0
           c.lines.rest.now c.in-Some.behind.now line.0 so_far.1 so_far.2 line.1 line.2;
       body = c.take_exchange-front.ensures.body;
     }
@@ -24,8 +26,8 @@ lines-preserved g c =
     let so_far = c.lines.invariant.taken in
     let line = c.in-Some-take_derive.ensures.some in
     record {
-      taken = goes_line first middle (stage_of c.take_derive.new.self) c.args.bytes.now so_far.0 c.lines.rest.now c.in-Some-take_derive.behind.now
-          line.0 so_far.1 (subst (λ (stage : Stage). Goes first so_far.0 stage) (sym c.in-None.ensures.none) so_far.2) line.1 line.2;
+      taken = goes_line run_turns first middle (stage_of c.take_derive.new.self) c.args.bytes.now so_far.0 c.lines.rest.now c.in-Some-take_derive.behind.now
+          line.0 so_far.1 (subst (λ (stage : Stage). Goes run_turns first so_far.0 stage) (sym c.in-None.ensures.none) so_far.2) line.1 line.2;
       body = c.take_derive.ensures.body;
     }
 

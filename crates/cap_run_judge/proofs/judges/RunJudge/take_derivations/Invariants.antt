@@ -1,13 +1,15 @@
 use Rattle.std.proofs.Common.{◌≡◌, ◌++◌, ℕ, List, length}
 use Rattle.cap_run_judge.specs.declared.judges.Due.TheVariants.{Body}
-use Rattle.cap_run_judge.specs.{Readings.stage_of, Turns.Goes}
+use Rattle.cap_run_judge.specs.Readings.{stage_of}
 use Rattle.cap_run_judge.proofs.judges.RunJudge.take_derivations.Given as goal
+use Rattle.cap_turns.specs.Turns.{Goes}
+use Rattle.cap_run_judge.specs.Turns.{run_turns}
 
 -- the lines so far are the front of the bytes
 abbrev pub invariant-lines : goal.invariant-lines
 invariant-lines g l = record {
   taken : (front : List ℕ) × (l.fn.bytes ≡ front ++ l.rest)
-      × Goes (stage_of l.fn.self) front (stage_of l.self);
+      × Goes run_turns (stage_of l.fn.self) front (stage_of l.self);
   body : l.self.due ≡ Body;
 }
 

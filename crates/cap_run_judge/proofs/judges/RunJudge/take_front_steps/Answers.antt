@@ -1,7 +1,8 @@
 use Rattle.std.proofs.Common.{[], refl}
 use Rattle.cap_run_judge.specs.Readings.{stage_of}
-use Rattle.cap_run_judge.proofs.TurnLemmas.{goes_none}
 use Rattle.cap_run_judge.proofs.judges.RunJudge.take_front_steps.Goals as goal
+use Rattle.cap_turns.proofs.TurnLemmas.{goes_none}
+use Rattle.cap_run_judge.specs.Turns.{run_turns}
 
 pub returns : goal.returns
-returns g c = ([], refl, goes_none (stage_of c.args.self.now))
+returns g c = ([], refl, goes_none run_turns (stage_of c.args.self.now))

@@ -3,22 +3,30 @@ use Rattle.cap_judge.specs.declared.verdict.TakeFault.TheVariants.{NoLine, NoMem
 use Rattle.cap_log.specs.declared.kinds.Step.{Step}
 use Rattle.cap_run.specs.{declared.{asks.Asks.Asks, ends.RunEnd.RunEnd}, Run.Run, RunChanges.usual_after, RunChecks.{Answers, usual_end, usual_wants}, StepLines.TakesAlone}
 use Rattle.cap_run_log.specs.{declared.lines.RunLine.RunLine, RunLines.run_spelling}
-use Rattle.cap_run_judge.specs.{Readings.{AnswersLine, EndsLine, Follows, due_of, stage_of}, Turns.{Body, Due, Stage}, Verdicts.Lacks}
-use Rattle.cap_run_judge.proofs.{FollowLemmas.{line_whole, ok_no_err, whole_taken}, TurnLemmas.{body, body_answers, line_is}}
+use Rattle.cap_run_judge.specs.{Readings.{AnswersLine, EndsLine, due_of, stage_of}, Turns.Stage}
+use Rattle.cap_run_judge.proofs.{FollowLemmas.ok_no_err, TurnLemmas.{body, body_answers}}
 use Rattle.cap_run.proofs.StepTakingLemmas.{err_same}
 use Rattle.cap_run_judge.proofs.judges.RunJudge.take_line.Goals as goal
 use Rattle.cap_run.specs.Machines.{run_in}
+use Rattle.cap_turns.specs.Readings.{Follows}
+use Rattle.cap_turns.specs.Turns.{Body, Due}
+use Rattle.cap_turns.specs.Verdicts.{Lacks}
+use Rattle.cap_turns.proofs.FollowLemmas.{line_whole, whole_taken}
+use Rattle.cap_turns.proofs.TurnLemmas.{line_is}
+use Rattle.cap_run_judge.specs.Turns.{run_turns}
+use Rattle.cap_run_judge.proofs.TurnLemmas.{run_spelled, asked}
+use Rattle.cap_run.specs.declared.ends.RunRefusal.{RunRefusal}
 
 -- a machine that changed nothing leads to the same stage
-abbrev stage_by : Asks → Run → Due → Stage
-stage_by asks_are run_is due_is = record { asks = asks_are; run = run_is; due = due_is }
+abbrev stage_by : Asks → Run → Due RunRefusal → Stage
+stage_by asks_are run_is due_is = record { state = asked asks_are run_is; due = due_is }
 
-same_stage : (asks_are asks_then : Asks) (old new : Run) (due_is : Due) → asks_then ≡ asks_are → new ≡ old
+same_stage : (asks_are asks_then : Asks) (old new : Run) (due_is : Due RunRefusal) → asks_then ≡ asks_are → new ≡ old
     → stage_by asks_then new due_is ≡ stage_by asks_are old due_is
 same_stage asks_are asks_then old new due_is asked same =
     ap (λ (a : Asks). stage_by a new due_is) asked ∙ ap (λ (r : Run). stage_by asks_are r due_is) same
 
-alone_same : (asks_are asks_then : Asks) (old new : Run) (due_is : Due) (line : List ℕ) (end : RunEnd)
+alone_same : (asks_are asks_then : Asks) (old new : Run) (due_is : Due RunRefusal) (line : List ℕ) (end : RunEnd)
     → TakesAlone asks_are old line (Some (Err end)) asks_then new → stage_by asks_then new due_is ≡ stage_by asks_are old due_is
 alone_same asks_are asks_then old new due_is line end taken =
     same_stage asks_are asks_then old new due_is taken.3
@@ -55,14 +63,14 @@ returns-in-Some-Ok-clause-taken g c =
     let taken = rw (c.in-Some-Ok.is ∙ ap Some c.in-Some-Ok.field-0-is) at c.take_lone_step.ensures.taken in
     let line = RunLine.Step taken.0 in
     rw (c.in-Body.is, taken.3)
-    (whole_taken (body s.machine.asks (run_in s.machine)) (body s.machine.asks (run_in n)) c.args.line.now [] line (line_whole c.args.line.now line taken.1) taken.1
+    (whole_taken run_turns run_spelled (body s.machine.asks (run_in s.machine)) (body s.machine.asks (run_in n)) c.args.line.now [] line (line_whole run_turns run_spelled c.args.line.now line taken.1) taken.1
     (step_answers s.machine.asks (run_in s.machine) (run_in n) taken.0 (Ok tt) taken.2))
 
 pub returns-in-Some-Ok-clause-no_line : goal.returns-in-Some-Ok-clause-no_line
 returns-in-Some-Ok-clause-no_line g c =
     let taken = rw (c.in-Some-Ok.is ∙ ap Some c.in-Some-Ok.field-0-is) at c.take_lone_step.ensures.taken in (
       λ e. absurd (ok_no_err tt NoLine e),
-      λ none. absurd (none.0 (run_spelling (RunLine.Step taken.0)) (line_is (RunLine.Step taken.0) c.args.line.now [] taken.1)),
+      λ none. absurd (none.0 (run_spelling (RunLine.Step taken.0)) (line_is run_turns run_spelled (RunLine.Step taken.0) c.args.line.now [] taken.1)),
     )
 
 pub returns-in-Some-Err-clause-taken : goal.returns-in-Some-Err-clause-taken
@@ -72,7 +80,7 @@ returns-in-Some-Err-clause-taken g c =
     let old = run_in s.machine in
     let taken = subst (λ (r : Result (Unit {0}) RunEnd). TakesAlone s.machine.asks (run_in s.machine) c.args.line.now (Some r) n.asks (run_in n))
     c.in-Some-Err.field-0-is c.in-Some-Err.ensures.taken in
-    subst (λ (st : Stage). OnOk c.take_ended_step.result (Follows st c.args.line.now (stage_of c.take_ended_step.new.self)))
+    subst (λ (st : Stage). OnOk c.take_ended_step.result (Follows run_turns st c.args.line.now (stage_of c.take_ended_step.new.self)))
     (alone_same s.machine.asks n.asks old (run_in n) (due_of s.due) c.args.line.now c.in-Some-Err.end taken) c.take_ended_step.ensures.taken
 
 pub returns-in-Some-Err-clause-unchanged : goal.returns-in-Some-Err-clause-unchanged
@@ -89,7 +97,7 @@ pub returns-in-Some-Err-clause-no_line : goal.returns-in-Some-Err-clause-no_line
 returns-in-Some-Err-clause-no_line g c =
     let taken = rw (c.in-Some-Err.is ∙ ap Some c.in-Some-Err.field-0-is) at c.take_lone_step.ensures.taken in (
       λ e. absurd (c.take_ended_step.ensures.line e),
-      λ none. absurd (none.0 (run_spelling (RunLine.Step taken.0)) (line_is (RunLine.Step taken.0) c.args.line.now [] taken.1)),
+      λ none. absurd (none.0 (run_spelling (RunLine.Step taken.0)) (line_is run_turns run_spelled (RunLine.Step taken.0) c.args.line.now [] taken.1)),
     )
 
 pub returns-in-Some-Err-clause-no_memory : goal.returns-in-Some-Err-clause-no_memory
@@ -99,7 +107,7 @@ returns-in-Some-Err-clause-no_memory g c =
     let old = run_in s.machine in
     let taken = subst (λ (r : Result (Unit {0}) RunEnd). TakesAlone s.machine.asks (run_in s.machine) c.args.line.now (Some r) n.asks (run_in n))
     c.in-Some-Err.field-0-is c.in-Some-Err.ensures.taken in
-    subst (λ (st : Stage). c.take_ended_step.result ≡ Err NoMemory → Lacks st c.args.line.now [])
+    subst (λ (st : Stage). c.take_ended_step.result ≡ Err NoMemory → Lacks run_turns st c.args.line.now [])
     (alone_same s.machine.asks n.asks old (run_in n) (due_of s.due) c.args.line.now c.in-Some-Err.end taken) c.take_ended_step.ensures.no_memory
 
 pub returns-in-None-clause-taken : goal.returns-in-None-clause-taken
@@ -107,7 +115,7 @@ returns-in-None-clause-taken g c =
     let s = c.args.self.now in
     let n = c.take_lone_step.new.self in
     let same = c.in-None.ensures.taken in
-    subst (λ (st : Stage). OnOk c.take_lone_line.result (Follows st c.args.line.now (stage_of c.take_lone_line.new.self)))
+    subst (λ (st : Stage). OnOk c.take_lone_line.result (Follows run_turns st c.args.line.now (stage_of c.take_lone_line.new.self)))
     (same_stage s.machine.asks n.asks (run_in s.machine) (run_in n) (due_of s.due) same.1 same.0) c.take_lone_line.ensures.taken
 
 pub returns-in-None-clause-unchanged : goal.returns-in-None-clause-unchanged
@@ -123,5 +131,5 @@ returns-in-None-clause-no_memory g c =
     let s = c.args.self.now in
     let n = c.take_lone_step.new.self in
     let same = c.in-None.ensures.taken in
-    subst (λ (st : Stage). c.take_lone_line.result ≡ Err NoMemory → Lacks st c.args.line.now [])
+    subst (λ (st : Stage). c.take_lone_line.result ≡ Err NoMemory → Lacks run_turns st c.args.line.now [])
     (same_stage s.machine.asks n.asks (run_in s.machine) (run_in n) (due_of s.due) same.1 same.0) c.take_lone_line.ensures.no_memory
