@@ -7,7 +7,6 @@ pub mod OneVerdict
 pub mod FaultPlaces
 mod OriginLemmas
 pub mod ReportLemmas
-mod SomeVerdict
 pub mod InTurn
 pub mod ExpectedLemmas
 pub mod TurnLemmas

@@ -7,24 +7,26 @@ use Rattle.cap_ops.specs.Checks.{first_of}
 use Rattle.cap_log.specs.{declared.{kinds.Step.Step, lines.Line.Line}, Lines.{IsInRange, Spells, spelling}}
 use Rattle.cap_log.specs.Parts.{ReadsAs as Spelled}
 use Rattle.cap_streams.specs.Front.{IsCut}
-use Rattle.cap_streams.proofs.FrontLemmas.{IsLine-more, IsTooLong-more}
 use Rattle.cap_log.proofs.SpellingLemmas.{one_spelling}
 use Rattle.cap_machine.specs.{declared.rules.Rules.{Rules, TheVariants.One}, Accounts.{Account, is_new}, Helds.{Held, account_of}}
 use Rattle.cap_machine.specs.States.{DeclaredRoot}
 use Rattle.cap_machine.proofs.AccountLemmas.{account_after-grows}
 use Rattle.cap_turns.specs.Turns.{AreTurns, Body, Due, Ended, First, Goes, IsAtFault, Refused, Second, lines_by, refusal_by}
-use Rattle.cap_turns.specs.Verdicts.{IsLastFront, Lacks, long_refusal}
-use Rattle.cap_turns.specs.Readings.{Faults, Follows, RefusesNext, due_at_end, refused_by}
-use Rattle.cap_turns.proofs.{FollowLemmas.{clear_goes, faults_at, follows_more, refused_in}, LineLemmas.ended_front, OneEnd.one_reading}
+use Rattle.cap_turns.specs.Verdicts.{IsLastFront, IsNo, Lacks, RefusesCut, long_refusal}
+use Rattle.cap_turns.specs.Verdicts as turns
+use Rattle.cap_turns.specs.Readings.{Faults, Follows, RefusesNext}
+use Rattle.cap_turns.proofs.EndLemmas.{StopsWith, cut_told, refused_told, refuses_next}
+use Rattle.cap_turns.proofs.EndLemmas as turns_told
+use Rattle.cap_turns.proofs.{FollowLemmas.{clear_goes, fault_end, faults_at, follows_more, refused_in}, OneEnd.one_reading, SomeEnd.some_end}
 use Rattle.cap_judge.specs.declared.verdict.Verdict.{Verdict, TheVariants.{Yes, No}}
-use Rattle.cap_judge.specs.Judgings.{IsBehind, IsVerdictOf, account_before}
+use Rattle.cap_judge.specs.Judgings.{IsBehind, IsVerdictOf, StopsBefore, account_before}
 use Rattle.cap_judge.specs.Logs.{Beginning, Empty, NoMode, Body as BodyOf, Whole, body_lines, header_lines, lines_of}
-use Rattle.cap_judge.specs.Logs.{text_of, account_after, IsAccepted, IsFirstFault, LacksRoom, MayLackMemory, Refuses, RefusesLine}
+use Rattle.cap_judge.specs.Logs.{text_of, account_after, IsAccepted, IsFirstFault, IsLogOf, LacksRoom, MayLackMemory, Refuses, RefusesLine}
 use Rattle.cap_judge.specs.{Logs.{RefusesWhole, RunsBy, has_form, line_checks, named_by_line}, Readings.{BeginsWhole, VerdictAtEnd}}
 use Rattle.cap_judge.specs.Readings.{IsReached, IsRest, Stands, VerdictWith, verdict_so_far}
-use Rattle.cap_judge.specs.Turns.{Stage, log_turns, unread}
+use Rattle.cap_judge.specs.{Turns.{Stage, log_turns, unread}, Verdicts.IsVerdict}
 use Rattle.cap_judge.proofs.InTurn.{accepted_read, all_longer, due_after, stage_after, with_lines}
-use Rattle.cap_judge.proofs.JudgeLemmas.{no_form, IsUnended, behind_more, fault_behind, front_refused}
+use Rattle.cap_judge.proofs.JudgeLemmas.{no_form, IsUnended, behind_more, fault_behind, front_refused, yes_of}
 use Rattle.cap_judge.proofs.{LogLemmas.accepted_in_range, OneVerdict.{IsAnswerFor, answer_stops}}
 use Rattle.cap_judge.proofs.TurnLemmas.{allowed_form, log_spelled}
 
@@ -149,31 +151,41 @@ long_is : (beginning : Beginning) → IsUnended beginning → long_refusal log_t
 long_is (Whole rules_are roots steps) goes = absurd goes
 long_is beginning goes = refl
 
--- such bytes are some
-some_next : (stage : Stage) (bytes after : List ℕ) (refusal : Refusal) → RefusesNext log_turns stage bytes refusal → bytes ++ after ≢ []
-some_next stage bytes after refusal (inl (text, more, whole, refused)) = λ none.
-    omega (arith, ap length (sym (IsLine-more bytes text more after whole).whole ∙ none), length-append text (10 ∷ more ++ after))
-some_next stage bytes after refusal (inr long) = λ none. omega (arith, long.0.0, ap length none, length-append bytes after)
+cut_is : (beginning : Beginning) (rest : List ℕ) (refusal : Refusal) → IsUnended beginning
+    → RefusesCut log_turns (due_after beginning) rest refusal → refusal ≡ Truncated
+cut_is (Whole rules_are roots steps) rest refusal goes is = absurd goes
+cut_is beginning rest refusal goes is = is
 
 unended_refuses : (beginning : Beginning) (rest : List ℕ) (refusal : Refusal) → IsUnended beginning
-    → RefusesNext log_turns (stage_after beginning) rest refusal → (after : List ℕ) → Refuses beginning (rest ++ after) refusal
-unended_refuses beginning rest refusal goes (inl (text, more, whole, (line, is, refused))) after =
-    front_refused beginning (rest ++ after) refusal goes
-    (inr (inr (text, more ++ after, IsLine-more rest text more after whole, refuses_text beginning text line refusal goes is refused)))
-unended_refuses beginning rest refusal goes (inr long) after =
-    front_refused beginning (rest ++ after) refusal goes (inl (IsTooLong-more rest after long.0, long.1 ∙ long_is beginning goes))
+    → turns.Refuses log_turns (stage_after beginning) rest refusal → Refuses beginning rest refusal
+unended_refuses beginning rest refusal goes (inl long) =
+    front_refused beginning rest refusal goes (inl (long.0, long.1 ∙ long_is beginning goes))
+unended_refuses beginning rest refusal goes (inr (inl cut)) =
+    front_refused beginning rest refusal goes (inr (inl (cut.0, cut_is beginning rest refusal goes cut.1)))
+unended_refuses beginning rest refusal goes (inr (inr (text, more, whole, (line, is, refused)))) =
+    front_refused beginning rest refusal goes (inr (inr (text, more, whole, refuses_text beginning text line refusal goes is refused)))
 
-ended_refuses : (account : Account) (rest : List ℕ) (refusal : Refusal)
-    → RefusesNext log_turns (record { state = account; due = Ended }) rest refusal → refusal ≡ Misplaced
-ended_refuses account rest refusal (inl (text, more, whole, (line, is, refused))) = sym (same_Some Misplaced refusal refused)
-ended_refuses account rest refusal (inr long) = long.1
+refuses : (beginning : Beginning) (rest : List ℕ) (refusal : Refusal) → turns.Refuses log_turns (stage_after beginning) rest refusal
+    → Refuses beginning rest refusal
+refuses (Whole rules_are roots steps) rest refusal (inl long) = (λ none. omega (arith, long.0.0, ap length none), long.1)
+refuses (Whole rules_are roots steps) rest refusal (inr (inl cut)) = cut.1
+refuses (Whole rules_are roots steps) rest refusal (inr (inr (text, more, whole, (line, is, refused)))) =
+    (λ none. omega (arith, ap length (sym whole.whole ∙ none), length-append text (10 ∷ more)), sym (same_Some Misplaced refusal refused))
+refuses beginning rest refusal refused = unended_refuses beginning rest refusal tt refused
 
-refuses : (beginning : Beginning) (rest : List ℕ) (refusal : Refusal) → RefusesNext log_turns (stage_after beginning) rest refusal
-    → (after : List ℕ) → Refuses beginning (rest ++ after) refusal
-refuses (Whole rules_are roots steps) rest refusal refused after =
-    let stage = stage_after (Whole rules_are roots steps) in
-    (some_next stage rest after refusal refused, ended_refuses stage.state rest refusal refused)
-refuses beginning rest refusal refused after = unended_refuses beginning rest refusal tt refused after
+-- the first fault and the end of a log, told of stages
+pub first_fault_of : (bytes : List ℕ) (line : ℕ) (refusal : Refusal) → turns.IsFirstFault log_turns unread bytes line refusal
+    → IsFirstFault bytes line refusal
+first_fault_of bytes line refusal fault =
+    let b = begun fault.behind.front fault.stage fault.behind.goes in
+    record {
+      beginning = b.0;
+      rest = fault.rest;
+      bytes_are = fault.behind.bytes_are ∙ ap (λ (f : List ℕ). f ++ fault.rest) (fault.behind.goes.bytes_are ∙ ap text_of (sym b.2));
+      accepted = b.1;
+      number_is = fault.number_is ∙ ap (λ (ls : List Line). length ls + 1) (sym b.2);
+      refused = refuses b.0 fault.rest refusal (subst (λ (s : Stage). turns.Refuses log_turns s fault.rest refusal) (sym b.3) fault.refused);
+    }
 
 -- A stage that is reached
 
@@ -192,7 +204,9 @@ fault_reached front rest middle new goes (inr (clear, refusal, text, refused, is
         rest_is = subst (λ (s : Stage). IsRest s.due b.0 rest) (sym new_is) (
           ap (λ (n : ℕ). n + 1) (subst (λ (s : Stage). lines_by log_turns s.state s.due ≡ length (lines_of b.0)) b.3 (counted b.0)),
           is_front,
-          refuses b.0 rest refusal (subst (λ (s : Stage). RefusesNext log_turns s rest refusal) (sym b.3) refused),
+          λ more. refuses b.0 (rest ++ more) refusal
+              (refuses_next log_turns (stage_after b.0) rest refusal
+              (subst (λ (s : Stage). RefusesNext log_turns s rest refusal) (sym b.3) refused) more),
         );
       },
       refl,
@@ -239,21 +253,6 @@ module _ (bytes : List ℕ) (stage : Stage) (line : ℕ) (refusal : Refusal) (te
   pub fault_stands : (ended : Bool) → IsVerdictOf bytes ended (No line refusal)
   fault_stands true = subst (λ (b : List ℕ). IsFirstFault b line refusal) (append-nil bytes) (first_fault [])
   fault_stands false = first_fault
-
-  -- and the machine stands before it
-  pub fault_ends : (held : Held) → account_of held ≡ stage.state → (ended : Bool) → VerdictWith bytes ended held (No line refusal) text
-  fault_ends held same ended = (
-    fault_stands ended,
-    tt,
-    record {
-      beginning = is.beginning;
-      rest = is.rest;
-      behind = is.behind;
-      line_is = found.0;
-      account = same ∙ is.account;
-      front = ended_front is.rest ended text found.1;
-    },
-  )
 
 pub stands_so_far : (bytes : List ℕ) (account_is : Account) (due : Due Refusal) → IsReached (record { state = account_is; due = due }) bytes
     → Stands bytes (verdict_so_far due)
@@ -357,84 +356,94 @@ lacks_room room bytes rest more stage goes lacks many =
 
 -- Where the bytes end
 
+no_told : (bytes : List ℕ) (ended : Bool) (account : Account) (held : Held) (line : ℕ) (refusal : Refusal) (text : List ℕ)
+    → IsNo log_turns unread bytes ended line refusal → StopsWith log_turns unread bytes ended account line text → account_of held ≡ account
+    → VerdictWith bytes ended held (No line refusal) text
+no_told bytes ended account held line refusal text is (before, same) here = (by_end ended is, tt, stops)
+  where
+    by_end : (ended : Bool) → IsNo log_turns unread bytes ended line refusal → IsVerdictOf bytes ended (No line refusal)
+    by_end true is = first_fault_of bytes line refusal is
+    by_end false is = λ more. first_fault_of (bytes ++ more) line refusal (is more)
+
+    stops : StopsBefore bytes ended held line text
+    stops =
+        let b = begun before.behind.front before.stage before.behind.goes in
+        record {
+          beginning = b.0;
+          rest = before.rest;
+          behind = record {
+            bytes_are = before.behind.bytes_are ∙ ap (λ (f : List ℕ). f ++ before.rest) (before.behind.goes.bytes_are ∙ ap text_of (sym b.2));
+            accepted = b.1;
+          };
+          line_is = before.line_is ∙ ap (λ (ls : List Line). length ls + 1) (sym b.2);
+          account = here ∙ same ∙ ap (λ (s : Stage). s.state) (sym b.3);
+          front = before.front;
+        }
+
 -- a log
-whole_told : (rules_are : Rules) (roots : List DeclaredRoot) (steps : List Step) (bytes : List ℕ) (held : Held)
-    (verdict : Verdict) (text : List ℕ) → RunsBy rules_are roots steps → bytes ≡ text_of (lines_of (Whole rules_are roots steps))
-    → account_of held ≡ account_after rules_are roots steps
-    → VerdictAtEnd (stage_after (Whole rules_are roots steps)) [] verdict text → VerdictWith bytes true held verdict text
-whole_told rules_are roots steps bytes held (Yes step_count root_count) text runs are account ends =
-    let counts = account_after-grows rules_are roots steps in (
+whole_told : (beginning : Beginning) (bytes : List ℕ) (held : Held) (steps roots : ℕ) (text : List ℕ) → IsAccepted beginning
+    → due_after beginning ≡ Ended → bytes ≡ text_of (lines_of beginning) → account_of held ≡ account_before beginning
+    → steps ≡ (account_before beginning).steps → roots ≡ (account_before beginning).roots
+    → VerdictWith bytes true held (Yes steps roots) text
+whole_told (Whole rules_are roots steps) bytes held step_count root_count text runs ended are account steps_are roots_are =
+    let counts = account_after-grows rules_are roots steps in
+    let log : IsLogOf bytes rules_are roots steps = record { bytes_are = are; runs = runs } in (
       record {
         rules = rules_are;
         roots = roots;
         steps = steps;
-        log = record { bytes_are = are; runs = runs };
-        step_count_is = omega (arith, ends.1, counts.steps_are);
-        root_count_is = omega (arith, ends.2, counts.roots_are);
+        log = log;
+        step_count_is = omega (arith, steps_are, counts.steps_are);
+        root_count_is = omega (arith, roots_are, counts.roots_are);
       },
-      record { rules = rules_are; roots = roots; steps = steps; log = record { bytes_are = are; runs = runs }; account = account },
+      record { rules = rules_are; roots = roots; steps = steps; log = log; account = account },
       tt,
     )
-whole_told rules_are roots steps bytes held (No line refusal) text runs are account ends = let no : ⊥ = cc in absurd no
-
--- a faulty line, cut or after the end line
-cut_told : (beginning : Beginning) (rest bytes : List ℕ) (held : Held) (refusal : Refusal) (verdict : Verdict) (text : List ℕ)
-    → IsBehind bytes beginning rest → IsCut rest → Refuses beginning rest refusal → account_of held ≡ account_before beginning
-    → (let stage = stage_after beginning in due_at_end log_turns stage.state stage.due rest ≡ refused_by log_turns stage.state stage.due refusal rest)
-    → VerdictAtEnd (stage_after beginning) rest verdict text → VerdictWith bytes true held verdict text
-cut_told beginning rest bytes held refusal (Yes steps roots) text here cut refused account is ends =
-    let at = sym is ∙ ends.0 in let no : ⊥ = cc in absurd no
-cut_told beginning rest bytes held refusal (No line why) text here cut refused account is ends =
-    let at = sym is ∙ ends in
-    let number : lines_by log_turns (stage_after beginning).state (stage_after beginning).due + 1 ≡ line = cc in
-    let same : refusal ≡ why = cc in
-    let whole : rest ≡ text = cc in
-    let line_is : line ≡ length (lines_of beginning) + 1 = sym number ∙ ap (λ (n : ℕ). n + 1) (counted beginning) in (
-      subst (λ (n : ℕ). IsFirstFault bytes n why) (sym line_is)
-          (fault_behind bytes rest beginning why here (subst (Refuses beginning rest) same refused)),
-      tt,
-      record {
-        beginning = beginning;
-        rest = rest;
-        behind = here;
-        line_is = line_is;
-        account = account;
-        front = inr (inl (cut, (sym whole, refl)));
-      },
-    )
-
-end_told : (beginning : Beginning) (rest bytes : List ℕ) (held : Held) (verdict : Verdict) (text : List ℕ) → IsBehind bytes beginning rest
-    → IsCut rest → account_of held ≡ account_before beginning → VerdictAtEnd (stage_after beginning) rest verdict text
-    → VerdictWith bytes true held verdict text
-end_told (Whole rules_are roots steps) [] bytes held verdict text here cut account ends =
-    whole_told rules_are roots steps bytes held verdict text here.accepted (here.bytes_are ∙ append-nil _) account ends
-end_told (Whole rules_are roots steps) (b ∷ rest) bytes held verdict text here cut account ends =
-    cut_told (Whole rules_are roots steps) (b ∷ rest) bytes held Misplaced verdict text here cut (λ e. cc, refl) account refl ends
-end_told beginning rest bytes held verdict text here cut account ends =
-    cut_told beginning rest bytes held Truncated verdict text here cut (inr (inl (cut, refl))) account refl ends
+whole_told beginning bytes held steps roots text runs ended are account steps_are roots_are = let never : ⊥ = cc in absurd never
 
 -- after a faulty line
-pub refused_told : (bytes rest : List ℕ) (stage : Stage) (held : Held) (verdict : Verdict) (text : List ℕ) → IsReached stage bytes
+pub fault_ends : (bytes : List ℕ) (stage : Stage) (line : ℕ) (refusal : Refusal) (text : List ℕ) → Follows log_turns unread bytes stage
+    → stage.due ≡ Refused line refusal text → (held : Held) → account_of held ≡ stage.state → (ended : Bool)
+    → VerdictWith bytes ended held (No line refusal) text
+fault_ends bytes stage line refusal text follows due held same ended =
+    let told = refused_told log_turns log_lawful bytes stage ended line refusal text follows due in
+    no_told bytes ended stage.state held line refusal text told.0 told.1 same
+
+pub fault_told : (bytes rest : List ℕ) (stage : Stage) (held : Held) (verdict : Verdict) (text : List ℕ) → Follows log_turns unread bytes stage
     → IsAtFault stage.due → account_of held ≡ stage.state → VerdictAtEnd stage rest verdict text → (ended : Bool)
     → VerdictWith bytes ended held verdict text
-refused_told bytes rest stage held (Yes steps roots) text is at_fault same ends ended =
-    let due = (refused_in stage.due at_fault).3 in
-    let at = subst (λ (d : Due Refusal). due_at_end log_turns stage.state d rest ≡ Ended) due ends.0 in let no : ⊥ = cc in absurd no
-refused_told bytes rest stage held (No line refusal) text is at_fault same ends ended =
-    let due = (refused_in stage.due at_fault).3 in
-    let at = due ∙ subst (λ (d : Due Refusal). due_at_end log_turns stage.state d rest ≡ Refused line refusal text) due ends in
-    fault_ends bytes stage line refusal text is at held same ended
+fault_told bytes rest stage held (Yes steps roots) text follows at_fault same ends ended =
+    absurd (subst IsAtFault (sym (fault_end log_turns stage.state stage.due rest at_fault) ∙ ends.0) at_fault)
+fault_told bytes rest stage held (No line refusal) text follows at_fault same ends ended =
+    fault_ends bytes stage line refusal text follows (sym (fault_end log_turns stage.state stage.due rest at_fault) ∙ ends) held same ended
 
 pub told : (bytes rest : List ℕ) (stage : Stage) (held : Held) (verdict : Verdict) (text : List ℕ) → Follows log_turns unread bytes stage
     → account_of held ≡ stage.state → IsCut rest → VerdictAtEnd stage rest verdict text → VerdictWith (bytes ++ rest) true held verdict text
-told bytes rest stage held verdict text (inl goes) same cut ends =
-    let b = begun bytes stage goes in
-    let here : IsBehind (bytes ++ rest) b.0 rest = record {
-      bytes_are = ap (λ (t : List ℕ). t ++ rest) (goes.bytes_are ∙ ap text_of (sym b.2));
-      accepted = b.1;
-    } in
-    end_told b.0 rest (bytes ++ rest) held verdict text here cut (same ∙ ap (λ (s : Stage). s.state) (sym b.3))
-    (subst (λ (s : Stage). VerdictAtEnd s rest verdict text) (sym b.3) ends)
+told bytes rest stage held (Yes steps roots) text (inl goes) same cut ends =
+    let whole = turns_told.whole_told log_turns log_lawful bytes rest stage goes ends.0 in
+    let b = begun (bytes ++ rest) stage whole.goes in
+    whole_told b.0 (bytes ++ rest) held steps roots text b.1 (ap (λ (s : Stage). s.due) b.3 ∙ whole.ended)
+    (whole.goes.bytes_are ∙ ap text_of (sym b.2)) (same ∙ ap (λ (s : Stage). s.state) (sym b.3))
+    (ends.1 ∙ ap (λ (s : Stage). s.state.steps) (sym b.3)) (ends.2 ∙ ap (λ (s : Stage). s.state.roots) (sym b.3))
+told bytes rest stage held (No line refusal) text (inl goes) same cut ends =
+    let told = cut_told log_turns log_lawful bytes rest stage goes line refusal text cut ends in
+    no_told (bytes ++ rest) true stage.state held line refusal text told.0 told.1 same
 told bytes rest stage held verdict text (inr faulty) same cut ends =
-    refused_told (bytes ++ rest) rest stage held verdict text (reached (bytes ++ rest) stage (follows_more log_turns unread bytes rest stage faulty))
+    fault_told (bytes ++ rest) rest stage held verdict text (follows_more log_turns unread bytes rest stage faulty)
     (faults_at log_turns faulty.3 faulty.1 stage faulty.5) same ends true
+
+-- All bytes have a verdict
+
+whole_yes : (bytes : List ℕ) (beginning : Beginning) → IsAccepted beginning → due_after beginning ≡ Ended
+    → bytes ≡ text_of (lines_of beginning) → (verdict : Verdict) × IsVerdict bytes verdict
+whole_yes bytes (Whole rules_are roots steps) runs ended are = (Yes (length steps) (length roots), yes_of bytes rules_are roots steps are runs)
+whole_yes bytes beginning runs ended are = let never : ⊥ = cc in absurd never
+
+pub some_verdict : (bytes : List ℕ) → (verdict : Verdict) × IsVerdict bytes verdict
+some_verdict bytes =
+    elim (some_end log_turns log_lawful bytes) [
+      | inl whole ↦
+          let b = begun bytes whole.0 whole.1.goes in
+          whole_yes bytes b.0 b.1 (ap (λ (s : Stage). s.due) b.3 ∙ whole.1.ended) (whole.1.goes.bytes_are ∙ ap text_of (sym b.2))
+      | inr fault ↦ (No fault.0 fault.1, first_fault_of bytes fault.0 fault.1 fault.2)
+    ]

@@ -13,7 +13,7 @@ returns c = record {
   stands = λ bytes stage follows. stands_so_far bytes stage.state stage.due (reached bytes stage follows);
   none = λ bytes stage follows. none_so_far bytes stage.state stage.due (reached bytes stage follows);
   fault = λ bytes stage held line refusal text ended follows same due.
-      fault_ends bytes stage line refusal text (reached bytes stage follows) due held same ended;
+      fault_ends bytes stage line refusal text follows due held same ended;
   memory = lacks_memory;
   ends = told;
   expects = λ bytes stage result follows. expects bytes stage.state stage.due result (reached bytes stage follows);

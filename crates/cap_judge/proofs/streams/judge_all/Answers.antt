@@ -3,7 +3,7 @@ use Rattle.std.proofs.{Common.{length-drop, take-append-drop, take_all}, lemmas.
 use Rattle.cap_streams.specs.FaultLines.{bytes_of}
 use Rattle.cap_judge.specs.{Logs.{LacksRoom, MayLackMemory}, Readings.{VerdictWith, room_of, stage_of}, Turns.unread}
 use Rattle.cap_judge.proofs.SourceLemmas.{all_judged, all_lack, answered_some, ended_answer}
-use Rattle.cap_judge.proofs.TurnLaws.{lacks_memory, lacks_room, reached, refused_told, told}
+use Rattle.cap_judge.proofs.TurnLaws.{fault_told, lacks_memory, lacks_room, told}
 use Rattle.cap_judge.proofs.streams.judge_all.Goals as goal
 use Rattle.cap_turns.specs.Readings.{Follows}
 use Rattle.cap_turns.proofs.FollowLemmas.{faults_at, stop_follows}
@@ -41,7 +41,7 @@ returns-in-Fault g c = record {
       let read = subst (λ (b : List ℕ). Follows log_turns unread b new) (take-append-drop count bytes)
       (stop_follows log_turns unread new (take count bytes) (drop count bytes) stop) in
       all_judged bytes text held c.answered-in-Fault.result.0 answer.0 answer.1
-      (refused_told bytes [] new held answer.0 text (reached bytes new read) (faults_at log_turns stop.0 (drop count bytes) new stop.2)
+      (fault_told bytes [] new held answer.0 text read (faults_at log_turns stop.0 (drop count bytes) new stop.2)
       refl answer.2 true);
   full = λ none. absurd (answered_some c.ending-in-Fault.result c.answered-in-Fault.result.0 _ c.answered-in-Fault.ensures none);
 }

@@ -5,7 +5,7 @@ use Rattle.cap_streams.specs.declared.judging.judge_faults.JudgeFault.{JudgeFaul
 use Rattle.cap_judge.specs.{Readings.{AnswerAtEnd, IsAnswered, stage_of}, Turns.unread}
 use Rattle.cap_judge.specs.declared.{faults.RefusedLine.RefusedLine, verdict.Verdict.Verdict}
 use Rattle.cap_judge.proofs.SourceLemmas.{ended_answer, given_more, lacking_judged, nothing_more, pull_judged}
-use Rattle.cap_judge.proofs.{SourceLemmas.verdict_judged, TurnLaws.{count_read, lacks_memory, log_lawful, reached, refused_told, told}}
+use Rattle.cap_judge.proofs.{SourceLemmas.verdict_judged, TurnLaws.{count_read, lacks_memory, fault_told, log_lawful, told}}
 use Rattle.cap_judge.proofs.streams.judge_source.Goals as goal
 use Rattle.cap_turns.proofs.FollowLemmas.{faults_at, follows_on, stop_follows}
 use Rattle.cap_turns.proofs.{EndLemmas.closer, TurnLemmas.{goes_none, goes_on}}
@@ -101,7 +101,7 @@ returns-in-Fault-clause-judged g c =
     let answer = ended_answer new [] text c.ending-in-Fault.result c.answered-in-Fault.result.0 c.answered-in-Fault.ensures ends in
     verdict_judged g.S.Source.gave g.S.Source.ended c.args.source.now c.fill.new.source held text (here.0 ++ given)
     c.answered-in-Fault.result.0 answer.0 answer.1
-    (refused_told (here.0 ++ given) [] new held answer.0 text (reached (here.0 ++ given) new follows)
+    (fault_told (here.0 ++ given) [] new held answer.0 text follows
     (faults_at log_turns stop.0 rest new stop.2) refl answer.2
     (g.S.Source.ended c.fill.new.source))
     (given_more g.S.Source.gave here.0 (items c.pieces.pulled) given g.met.S.Source.joined here.1 ok.3 (sym taken.1 ∙ ok.2))
