@@ -18,13 +18,12 @@ use Rattle.cap_machine.proofs.{EscapeLemmas.never_wrong, StepLemmas.is_recorded}
 use Rattle.cap_judge.specs.declared.verdict.Expected.{Expected, TheVariants.{Capability, Number}}
 use Rattle.cap_judge.specs.declared.verdict.Verdict.TheVariants.{No}
 use Rattle.cap_judge.specs.Expectations.{Expects, ExpectsAt, IsExpected, GivesFor, GivesForText, expected_of, given_in}
-use Rattle.cap_judge.specs.{Judgings.{IsBehind, account_before}, Logs.{Beginning, Body, Whole, Refuses}}
-use Rattle.cap_judge.specs.Logs.{account_after, body_lines, IsAccepted, RunsBy, lines_of, text_of}
+use Rattle.cap_judge.specs.Judgings.{IsBehind, account_before}
+use Rattle.cap_judge.specs.Logs.{Beginning, Body, Whole, Refuses, account_after, body_lines, IsAccepted, RunsBy, lines_of, text_of}
 use Rattle.cap_judge.specs.{Readings.{IsReached, IsRest}, Turns.Stage}
 use Rattle.cap_judge.proofs.{EscapeLaws.{is_of_step, is_step, never_front}, OneVerdict.one_verdict}
 use Rattle.cap_judge.proofs.TurnLaws.{begins, fault_stands, nothing_left, some_bytes}
-use Rattle.cap_turns.specs.Verdicts.{IsLastFront}
-use Rattle.cap_turns.specs.Turns.{Due, IsAtFault, Refused}
+use Rattle.cap_turns.specs.{Verdicts.IsLastFront, Turns.{Due, IsAtFault, Refused}}
 
 other_recorded : (recorded limit : Bool) → first_of ((not recorded, WrongResult) ∷ (limit, LimitPassed) ∷ [])
     ≡ Some WrongResult → recorded ≡ false

@@ -7,11 +7,10 @@ use Rattle.cap_log.specs.{declared.lines.Line.Line, Lines.IsInRange}
 use Rattle.cap_streams.specs.Front.{IsFrontText}
 use Rattle.cap_streams.proofs.FrontLemmas.{IsLine-more, IsTooLong-more}
 use Rattle.cap_machine.specs.{Accounts.Account, Helds.{Held, account_of}}
-use Rattle.cap_judge.specs.{declared.verdict.Verdict.TheVariants.No, Judgings.{IsBehind, IsVerdictOf, account_before}}
-use Rattle.cap_judge.specs.{Judgings.StopsBefore, Logs.{Beginning, lines_of, text_of, IsFirstFault}}
-use Rattle.cap_judge.proofs.{InTurn.same_beginning, JudgeLemmas.behind_more, LogLemmas.accepted_in_range}
-use Rattle.cap_judge.proofs.{SourceLemmas.whole_verdict, TurnLemmas.log_spelled}
-use Rattle.cap_judge.specs.Turns.{log_turns}
+use Rattle.cap_judge.specs.{declared.verdict.Verdict.TheVariants.No, Judgings.{IsBehind, IsVerdictOf, account_before, StopsBefore}}
+use Rattle.cap_judge.specs.{Logs.{Beginning, lines_of, text_of, IsFirstFault}, Turns.log_turns}
+use Rattle.cap_judge.proofs.{InTurn.same_beginning, JudgeLemmas.behind_more, LogLemmas.accepted_in_range, SourceLemmas.whole_verdict}
+use Rattle.cap_judge.proofs.TurnLemmas.{log_spelled}
 use Rattle.cap_turns.proofs.OneEnd.{text_cons, same_front}
 use Rattle.cap_turns.specs.Verdicts.{IsLastFront}
 

@@ -18,15 +18,15 @@ use Rattle.cap_machine.specs.{States.{DeclaredRoot, State, start, key_of, tagged
 use Rattle.cap_machine.proofs.AccountLemmas.{account_after-grows, first_of-none, after_roots, with_root-grows}
 use Rattle.cap_machine.proofs.AccountLemmas.{with_step-grows, after_roots-grows, after_steps-grows, root_free}
 use Rattle.cap_machine.proofs.{AccountLemmas.{step_free, after_steps}, OriginLemmas.{keys, IsFree, roots_start}}
-use Rattle.cap_judge.specs.{Judgings.account_before, Logs.{Beginning, Empty, NoMode, Body, Whole, header_lines}}
-use Rattle.cap_judge.specs.Logs.{body_lines, lines_of, account_after, RunsBy, IsAccepted, has_form, line_checks}
-use Rattle.cap_judge.specs.Turns.{Stage, rules_of}
-use Rattle.cap_judge.specs.Turns.{unread}
-use Rattle.cap_judge.proofs.LogLemmas.{after_roots-push, after_steps-push, steps_push, roots_push, accepted_in_range}
-use Rattle.cap_judge.proofs.{LogLemmas.{step_runs, root_runs, no_roots}, TurnLemmas.{body, by_checks}}
+use Rattle.cap_judge.specs.Judgings.{account_before}
+use Rattle.cap_judge.specs.Logs.{Beginning, Empty, NoMode, Body, Whole, header_lines, body_lines, lines_of, account_after, RunsBy}
+use Rattle.cap_judge.specs.Logs.{IsAccepted, has_form, line_checks}
+use Rattle.cap_judge.specs.Turns.{Stage, rules_of, unread, log_turns}
+use Rattle.cap_judge.proofs.LogLemmas.{after_roots-push, after_steps-push, steps_push, roots_push, accepted_in_range, step_runs}
+use Rattle.cap_judge.proofs.LogLemmas.{root_runs, no_roots}
+use Rattle.cap_judge.proofs.TurnLemmas.{body, by_checks}
 use Rattle.cap_turns.specs.Turns.{Allows, Body as BodyDue, Due, Ended, First, Reads, Second, next_stage}
 use Rattle.cap_turns.proofs.TurnLemmas.{Reads-append}
-use Rattle.cap_judge.specs.Turns.{log_turns}
 
 -- Distinct roots
 

@@ -7,11 +7,10 @@ use Rattle.cap_streams.specs.Front.{IsLine}
 use Rattle.cap_streams.proofs.FrontLemmas.{IsLine-same, IsLine-not_too_long, IsLine-not_cut, IsTooLong-not_cut}
 use Rattle.cap_log.proofs.SpellingLemmas.{one_spelling, IsLine-spelling}
 use Rattle.cap_judge.specs.{declared.verdict.Verdict.{Verdict, TheVariants.{Yes, No}}, Judgings.IsBehind}
-use Rattle.cap_judge.specs.Logs.{Beginning, Empty, NoMode, Body, Whole, account_after, lines_of, text_of, line_checks}
-use Rattle.cap_judge.specs.{Logs.{Refuses, RefusesWhole}, Turns.{log_turns, unread}}
-use Rattle.cap_judge.specs.Verdicts.{IsVerdict}
-use Rattle.cap_judge.proofs.{InTurn.{accepted_read, same_beginning, stage_after}, JudgeLemmas.RefusesFront}
-use Rattle.cap_judge.proofs.{LogLemmas.accepted_in_range, TurnLemmas.{allowed_form, log_spelled}}
+use Rattle.cap_judge.specs.Logs.{Beginning, Empty, NoMode, Body, Whole, account_after, lines_of, line_checks, Refuses, RefusesWhole}
+use Rattle.cap_judge.specs.{Turns.{log_turns, unread}, Verdicts.IsVerdict}
+use Rattle.cap_judge.proofs.{InTurn.{accepted_read, same_beginning, stage_after}, JudgeLemmas.RefusesFront, LogLemmas.accepted_in_range}
+use Rattle.cap_judge.proofs.TurnLemmas.{allowed_form, log_spelled}
 use Rattle.cap_turns.{specs.Turns.Allows, proofs.OneEnd.{Stops, one_reading}}
 
 -- the verdict on what follows a beginning

@@ -4,13 +4,12 @@ use Rattle.std.proofs.Common.{subst, ◌∙◌, append-nil, append_assoc, arith,
 use Rattle.std.proofs.Common.{length-append}
 use Rattle.cap_streams.specs.{declared.judging.judge_faults.JudgeFault.{JudgeFault, TheVariants.{Pull, NoMemory}}, Front.IsCut}
 use Rattle.cap_machine.specs.Helds.{Held}
-use Rattle.cap_judge.specs.declared.{faults.RefusedLine.RefusedLine, verdict.Verdict.{Verdict, TheVariants.{Yes, No}}}
-use Rattle.cap_judge.specs.{Judgings.{IsVerdictOf, BeginsLog, IsAnswerOf, JudgedBy, JudgedAll}, Logs.MayLackMemory}
-use Rattle.cap_judge.specs.{Logs.text_of, Readings.{AnswerAtEnd, VerdictAtEnd, VerdictWith, IsAnswered}}
-use Rattle.cap_judge.specs.{Turns.{Stage, unread}, Verdicts.{IsVerdict, NoVerdictIn}}
+use Rattle.cap_judge.specs.{declared.faults.RefusedLine.RefusedLine, declared.verdict.Verdict.{Verdict, TheVariants.{Yes, No}}}
+use Rattle.cap_judge.specs.{Judgings.{IsVerdictOf, BeginsLog, IsAnswerOf, JudgedBy, JudgedAll}, Logs.{MayLackMemory, text_of}}
+use Rattle.cap_judge.specs.{Readings.{AnswerAtEnd, VerdictAtEnd, VerdictWith, IsAnswered}, Turns.{Stage, unread, log_turns}}
+use Rattle.cap_judge.specs.Verdicts.{IsVerdict, NoVerdictIn}
 use Rattle.cap_judge.proofs.{JudgeLemmas.{guarded, no_lack}, TurnLaws.begun}
 use Rattle.cap_turns.specs.Turns.{Goes}
-use Rattle.cap_judge.specs.Turns.{log_turns}
 
 -- a verdict, want of memory, and a fault of the source
 pub answer_ok : (given : List ℕ) (ended : Bool) (verdict : Verdict) → IsVerdictOf given ended verdict → IsAnswerOf given ended (Ok verdict)

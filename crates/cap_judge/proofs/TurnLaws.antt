@@ -12,23 +12,22 @@ use Rattle.cap_machine.specs.{declared.rules.Rules.{Rules, TheVariants.One}, Acc
 use Rattle.cap_machine.specs.States.{DeclaredRoot}
 use Rattle.cap_machine.proofs.AccountLemmas.{account_after-grows}
 use Rattle.cap_turns.specs.Turns.{AreTurns, Body, Due, Ended, First, Goes, IsAtFault, Refused, Second, lines_by, refusal_by}
-use Rattle.cap_turns.specs.Verdicts.{IsLastFront, IsNo, Lacks, RefusesCut, long_refusal}
+use Rattle.cap_turns.specs.{Verdicts.{IsLastFront, IsNo, Lacks, RefusesCut, long_refusal}, Readings.{Faults, Follows, RefusesNext}}
 use Rattle.cap_turns.specs.Verdicts as turns
-use Rattle.cap_turns.specs.Readings.{Faults, Follows, RefusesNext}
 use Rattle.cap_turns.proofs.EndLemmas.{StopsWith, cut_told, refused_told, refuses_next}
+use Rattle.cap_turns.proofs.{FollowLemmas.{clear_goes, fault_end, faults_at, follows_more, refused_in}, OneEnd.one_reading}
+use Rattle.cap_turns.proofs.SomeEnd.{some_end}
 use Rattle.cap_turns.proofs.EndLemmas as turns_told
-use Rattle.cap_turns.proofs.{FollowLemmas.{clear_goes, fault_end, faults_at, follows_more, refused_in}, OneEnd.one_reading, SomeEnd.some_end}
 use Rattle.cap_judge.specs.declared.verdict.Verdict.{Verdict, TheVariants.{Yes, No}}
 use Rattle.cap_judge.specs.Judgings.{IsBehind, IsVerdictOf, StopsBefore, account_before}
-use Rattle.cap_judge.specs.Logs.{Beginning, Empty, NoMode, Body as BodyOf, Whole, body_lines, header_lines, lines_of}
-use Rattle.cap_judge.specs.Logs.{text_of, account_after, IsAccepted, IsFirstFault, IsLogOf, LacksRoom, MayLackMemory, Refuses, RefusesLine}
-use Rattle.cap_judge.specs.{Logs.{RefusesWhole, RunsBy, has_form, line_checks, named_by_line}, Readings.{BeginsWhole, VerdictAtEnd}}
-use Rattle.cap_judge.specs.Readings.{IsReached, IsRest, Stands, VerdictWith, verdict_so_far}
+use Rattle.cap_judge.specs.Logs.{Beginning, Empty, NoMode, Body as BodyOf, Whole, body_lines, header_lines, lines_of, text_of}
+use Rattle.cap_judge.specs.Logs.{account_after, IsAccepted, IsFirstFault, IsLogOf, LacksRoom, MayLackMemory, Refuses, RefusesLine}
+use Rattle.cap_judge.specs.Logs.{RefusesWhole, has_form, line_checks, named_by_line}
+use Rattle.cap_judge.specs.Readings.{BeginsWhole, VerdictAtEnd, IsReached, IsRest, Stands, VerdictWith, verdict_so_far}
 use Rattle.cap_judge.specs.{Turns.{Stage, log_turns, unread}, Verdicts.IsVerdict}
 use Rattle.cap_judge.proofs.InTurn.{accepted_read, all_longer, due_after, stage_after, with_lines}
 use Rattle.cap_judge.proofs.JudgeLemmas.{no_form, IsUnended, behind_more, fault_behind, front_refused, yes_of}
-use Rattle.cap_judge.proofs.{LogLemmas.accepted_in_range, OneVerdict.{IsAnswerFor, answer_stops}}
-use Rattle.cap_judge.proofs.TurnLemmas.{allowed_form, log_spelled}
+use Rattle.cap_judge.proofs.{LogLemmas.accepted_in_range, OneVerdict.{IsAnswerFor, answer_stops}, TurnLemmas.{allowed_form, log_spelled}}
 
 -- What a stage says of a beginning
 

@@ -16,11 +16,12 @@ use Rattle.cap_machine.specs.Helds.{Held, account_of, AnswersStep, EndsRoot, End
 use Rattle.cap_machine.proofs.AccountLemmas.{first_of-none}
 use Rattle.cap_turns.specs.Turns.{AreSpelled, Body, Goes, IsAtFault, lines_by, refusal_by}
 use Rattle.cap_turns.specs.Readings.{Follows, IsNoLine, IsWholeLine, Takes, due_at_end, refused_by}
-use Rattle.cap_turns.proofs.{FollowLemmas.line_whole, LineLemmas.cut_text, TurnLemmas.{ends_at, goes_line, goes_more, goes_none, goes_on, one_goes}}
-use Rattle.cap_judge.specs.declared.{faults.RefusedLine.RefusedLine, verdict.TakeFault.TakeFault}
-use Rattle.cap_judge.specs.declared.verdict.{TakeFault.TheVariants.{NoLine, NoMemory}, Verdict.Verdict}
-use Rattle.cap_judge.specs.declared.verdict.Verdict.TheVariants.{Yes, No}
-use Rattle.cap_judge.specs.{Logs.{has_form, line_checks}, Turns.{Stage, log_turns}}
+use Rattle.cap_turns.proofs.{FollowLemmas.line_whole, LineLemmas.cut_text}
+use Rattle.cap_turns.proofs.TurnLemmas.{ends_at, goes_line, goes_more, goes_none, goes_on, one_goes}
+use Rattle.cap_judge.specs.declared.faults.RefusedLine.{RefusedLine}
+use Rattle.cap_judge.specs.declared.verdict.TakeFault.{TakeFault, TheVariants.{NoLine, NoMemory}}
+use Rattle.cap_judge.specs.{declared.verdict.Verdict.{Verdict, TheVariants.{Yes, No}}, Logs.{has_form, line_checks}}
+use Rattle.cap_judge.specs.Turns.{Stage, log_turns}
 use Rattle.cap_judge.specs.Readings.{AnswersLine, AnswerAtEnd, EndsText, EndsBytes, EndsLine, GoesOrStops, IsFullAt, Known, MakesSteps}
 use Rattle.cap_judge.specs.Readings.{TakesAll, TakesStep, VerdictAtEnd, at, due_of, end_of}
 use Rattle.cap_judge.specs.declared.judges.Due as code

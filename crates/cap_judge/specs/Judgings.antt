@@ -6,9 +6,10 @@ use Rattle.cap_turns.specs.Verdicts.{IsLastFront}
 use Rattle.cap_log.specs.declared.kinds.Step.{Step}
 use Rattle.cap_machine.specs.{declared.rules.Rules.{Rules, TheVariants.One}, Accounts.{Account, limits_of, no_account}}
 use Rattle.cap_machine.specs.{Helds.{Held, account_of}, States.DeclaredRoot}
-use Rattle.cap_judge.specs.{declared.verdict.Verdict.{Verdict, TheVariants.{Yes, No}}, Logs.{Beginning, Empty, NoMode}}
-use Rattle.cap_judge.specs.Logs.{Body, Whole, lines_of, text_of, account_after, IsAccepted, IsLogOf, IsFirstFault}
-use Rattle.cap_judge.specs.{Logs.{MayLackMemory, NamesNoGranules}, Verdicts.{IsVerdict, IsGuarded}}
+use Rattle.cap_judge.specs.declared.verdict.Verdict.{Verdict, TheVariants.{Yes, No}}
+use Rattle.cap_judge.specs.Logs.{Beginning, Empty, NoMode, Body, Whole, lines_of, text_of, account_after, IsAccepted, IsLogOf}
+use Rattle.cap_judge.specs.Logs.{IsFirstFault, MayLackMemory, NamesNoGranules}
+use Rattle.cap_judge.specs.Verdicts.{IsVerdict, IsGuarded}
 
 -- the verdict on these bytes, if their source has ended; otherwise a `no` that holds whatever bytes follow
 abbrev pub IsVerdictOf : List ℕ → Bool → Verdict → Type 0

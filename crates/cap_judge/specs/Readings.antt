@@ -7,14 +7,12 @@ use Rattle.cap_log.specs.{declared.{kinds.Step.Step, lines.Line.Line}, Lines.{Is
 use Rattle.cap_log.specs.declared.lines.Line.TheVariants as lines
 use Rattle.cap_machine.specs.{declared.ends.StepEnd.StepEnd, Helds.{Held, IsFull, account_of}}
 use Rattle.cap_machine.specs.declared.ends.StepEnd.TheVariants as ends
-use Rattle.cap_turns.specs.declared.stops.Stop.{Stop}
-use Rattle.cap_turns.specs.Turns.{Body, Due, Ended, First, Goes, IsAtFault, Refused, Second}
+use Rattle.cap_turns.specs.{declared.stops.Stop.Stop, Turns.{Body, Due, Ended, First, Goes, IsAtFault, Refused, Second}}
 use Rattle.cap_turns.specs.{Readings.{Follows, StopsAt, Takes, due_at_end}, Verdicts.{IsLastFront, RefusesWhole}}
 use Rattle.cap_turns.specs.Readings as turns
-use Rattle.cap_judge.specs.declared.{judges.Judge.Judge, verdict.Verdict.{Verdict, TheVariants.{Yes, No}}}
+use Rattle.cap_judge.specs.{declared.judges.Judge.Judge, declared.verdict.Verdict.{Verdict, TheVariants.{Yes, No}}}
 use Rattle.cap_judge.specs.Judgings.{IsBehind, IsVerdictOf, LeadsAfter, StopsIn, account_before}
-use Rattle.cap_judge.specs.Logs.{Beginning, lines_of, text_of, IsAccepted, Refuses}
-use Rattle.cap_judge.specs.Turns.{Stage, log_turns, unread}
+use Rattle.cap_judge.specs.{Logs.{Beginning, lines_of, text_of, IsAccepted, Refuses}, Turns.{Stage, log_turns, unread}}
 use Rattle.cap_judge.specs.declared.faults.RefusedLine as faults
 use Rattle.cap_judge.specs.declared.judges.Due as code
 use Rattle.cap_judge.specs.declared.judges.Due.TheVariants as dues

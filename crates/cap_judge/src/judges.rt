@@ -10,21 +10,17 @@ ghost use Rattle.cap_streams.specs.{FaultLines.bytes_of, Front.{IsCut, IsFront, 
 ghost use Rattle.cap_log.specs.declared.lines.Line.TheVariants as lines;
 ghost use Rattle.cap_machine.specs.declared.ends.StepEnd.TheVariants as ends;
 ghost use Rattle.cap_machine.specs.States.{granule_key, key_of, untagged_null};
-ghost use Rattle.cap_judge.specs.declared.{faults.RefusedLine.RefusedLine as FaultIn, judges.Due.TheVariants.Body};
-ghost use Rattle.cap_judge.specs.declared.judges.Due.TheVariants.{Refused as RefusedIn};
+ghost use Rattle.cap_judge.specs.declared.faults.RefusedLine.{RefusedLine as FaultIn};
+ghost use Rattle.cap_judge.specs.declared.judges.Due.TheVariants.{Body, Refused as RefusedIn};
 ghost use Rattle.cap_judge.specs.{declared.verdict.TakeFault.TheVariants.{NoLine, NoMemory}, Expectations.ExpectsAt};
-ghost use Rattle.cap_judge.specs.{Logs.{has_form, header_lines}, Readings.{AnswersLine, AnswerAtEnd, EndsBytes, VerdictAtEnd, EndsStepLine}};
-ghost use Rattle.cap_judge.specs.Readings.{EndsText, GoesOrStops, IsFullAt, IsFullJudge};
-ghost use Rattle.cap_judge.specs.Readings.{IsUnmade, room_of};
-ghost use Rattle.cap_judge.specs.Readings.{IsFaultOf, known_of};
-ghost use Rattle.cap_judge.specs.Readings.{stage_of, verdict_so_far};
-ghost use Rattle.cap_judge.specs.{Turns.{rules_of, unread}, Verdicts.NamesEscapes};
+ghost use Rattle.cap_judge.specs.Logs.{has_form, header_lines};
+ghost use Rattle.cap_judge.specs.Readings.{AnswersLine, AnswerAtEnd, EndsBytes, VerdictAtEnd, EndsStepLine, EndsText, GoesOrStops};
+ghost use Rattle.cap_judge.specs.Readings.{IsFullAt, IsFullJudge, IsUnmade, room_of, IsFaultOf, known_of, stage_of, verdict_so_far};
+ghost use Rattle.cap_judge.specs.{Turns.{rules_of, unread, log_turns}, Verdicts.NamesEscapes};
 ghost use Rattle.cap_turns.specs.declared.stops.Stop.TheVariants as stops;
 ghost use Rattle.cap_turns.specs.Turns as turns;
-ghost use Rattle.cap_turns.specs.Readings.{Follows, IsNoLine, StopsAt, Takes};
-ghost use Rattle.cap_turns.specs.Turns.{Goes, IsAtFault, lines_by, refusal_by};
+ghost use Rattle.cap_turns.specs.{Readings.{Follows, IsNoLine, StopsAt, Takes}, Turns.{Goes, IsAtFault, lines_by, refusal_by}};
 ghost use Rattle.cap_turns.specs.Verdicts.{Lacks, long_refusal};
-ghost use Rattle.cap_judge.specs.Turns.{log_turns};
 
 use crate::expectation::expected_by;
 use crate::faults::RefusedLine;

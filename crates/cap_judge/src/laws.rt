@@ -6,16 +6,12 @@ ghost use Rattle.cap_log.specs.{declared.kinds.Step.Step, Lines.IsInRange};
 ghost use Rattle.cap_streams.specs.Front.{IsCut};
 ghost use Rattle.cap_machine.specs.{declared.rules.Rules.Rules, Escapes.ClearsExactly, Helds.{Held, account_of}};
 ghost use Rattle.cap_machine.specs.{Runs.IsRun, States.{DeclaredRoot, State, start}};
-ghost use Rattle.cap_judge.specs.declared.verdict.{Expected.Expected, Verdict.{Verdict, TheVariants.No}};
-ghost use Rattle.cap_judge.specs.{Expectations.{Expects, ExpectsAt}, Logs.{Beginning, IsAccepted, IsLogOf}};
-ghost use Rattle.cap_judge.specs.{Logs.{MayLackMemory, lines_of}, Readings.{BeginsWhole, VerdictAtEnd, VerdictWith}};
-ghost use Rattle.cap_judge.specs.Readings.{IsReached, Stands, verdict_so_far};
-ghost use Rattle.cap_judge.specs.{Turns.{Stage, unread}, Verdicts.{IsByVersionOne, IsGuarded}};
-ghost use Rattle.cap_judge.specs.Verdicts.{IsOfVersionOne, IsVerdict, IsVerdictOne, NamesEscapes};
-ghost use Rattle.cap_turns.specs.Readings.{Faults, Follows};
-ghost use Rattle.cap_turns.specs.Turns.{IsAtFault, Reads, Refused};
-ghost use Rattle.cap_turns.specs.Verdicts.{Lacks};
-ghost use Rattle.cap_judge.specs.Turns.{log_turns};
+ghost use Rattle.cap_judge.specs.{declared.verdict.Expected.Expected, declared.verdict.Verdict.{Verdict, TheVariants.No}};
+ghost use Rattle.cap_judge.specs.{Expectations.{Expects, ExpectsAt}, Logs.{Beginning, IsAccepted, IsLogOf, MayLackMemory, lines_of}};
+ghost use Rattle.cap_judge.specs.Readings.{BeginsWhole, VerdictAtEnd, VerdictWith, IsReached, Stands, verdict_so_far};
+ghost use Rattle.cap_judge.specs.Turns.{Stage, unread, log_turns};
+ghost use Rattle.cap_judge.specs.Verdicts.{IsByVersionOne, IsGuarded, IsOfVersionOne, IsVerdict, IsVerdictOne, NamesEscapes};
+ghost use Rattle.cap_turns.specs.{Readings.{Faults, Follows}, Turns.{IsAtFault, Reads, Refused}, Verdicts.Lacks};
 
 /// Whatever bytes are read: where they are a log whose steps have a run, then along it, at every moment,
 /// each tagged capability in a register or memory has bounds inside and permissions among those of the

@@ -5,10 +5,9 @@ ghost use Rattle.std.specs.FinMap as map;
 ghost use Rattle.cap_streams.specs.{declared.judging.judge_faults.JudgeFault.TheVariants.{NoMemory, Pull}, FaultLines.bytes_of};
 ghost use Rattle.cap_streams.specs.{ReadBuffers.items, Streams.CountsOnly};
 ghost use Rattle.cap_judge.specs.{Judgings.{Judged, JudgedAll, JudgedBy}, Logs.{LacksRoom, NamesNoGranules}};
-ghost use Rattle.cap_judge.specs.{Readings.{IsAnswered, room_of, stage_of}, Turns.unread};
+ghost use Rattle.cap_judge.specs.{Readings.{IsAnswered, room_of, stage_of}, Turns.{unread, log_turns}};
 ghost use Rattle.cap_judge.specs.Verdicts.{EscapesExactly, NoVerdictIn, IsGuarded, IsVerdict, NamesEscapes};
 ghost use Rattle.cap_turns.specs.Readings.{StopsAt};
-ghost use Rattle.cap_judge.specs.Turns.{log_turns};
 
 use crate::faults::RefusedLine;
 use crate::judges::Judge;

@@ -4,17 +4,15 @@ use Rattle.std.proofs.Common.{IfOk, OnErr, Some, if◌then◌else◌}
 use Rattle.cap_ops.specs.declared.refusal.Refusal.{Refusal}
 use Rattle.cap_streams.specs.{declared.judging.judge_faults.JudgeFault.JudgeFault, FaultLines.bytes_of, Front.IsCut}
 use Rattle.cap_machine.specs.{Accounts.Account, Helds.{Held, account_of}}
-use Rattle.cap_judge.specs.declared.{faults.RefusedLine.RefusedLine, judges.Due.Due, verdict.Verdict.Verdict}
-use Rattle.cap_judge.specs.declared.verdict.Verdict.TheVariants.{Yes, No}
-use Rattle.cap_judge.specs.Judgings.{IsVerdictOf, IsAnswerOf, LeadsAfter, StopsBefore, StopsIn}
-use Rattle.cap_judge.specs.{OriginLists.report_text, Readings.{AnswerAtEnd, VerdictWith, IsFaultOf, at, due_of}}
-use Rattle.cap_judge.specs.{Reports.Tells, Turns.unread, VerdictLines.verdict_line}
-use Rattle.cap_judge.proofs.{FaultPlaces.at_fault, ReportLemmas.{IsHeld, tells}}
-use Rattle.cap_judge.proofs.TurnLaws.{fault_ends, reached, told as told_at_end}
+use Rattle.cap_judge.specs.{declared.faults.RefusedLine.RefusedLine, declared.judges.Due.Due}
+use Rattle.cap_judge.specs.declared.verdict.Verdict.{Verdict, TheVariants.{Yes, No}}
+use Rattle.cap_judge.specs.{Judgings.{IsVerdictOf, IsAnswerOf, LeadsAfter, StopsBefore, StopsIn}, OriginLists.report_text}
+use Rattle.cap_judge.specs.{Readings.{AnswerAtEnd, VerdictWith, IsFaultOf, at, due_of}, Reports.Tells, Turns.{unread, log_turns}}
+use Rattle.cap_judge.specs.VerdictLines.{verdict_line}
+use Rattle.cap_judge.proofs.{FaultPlaces.at_fault, ReportLemmas.{IsHeld, tells}, TurnLaws.{fault_ends, reached, told as told_at_end}}
 use Rattle.cap_report.specs.FaultReports.{IsLineReport, IsReport}
 use Rattle.cap_report.specs.Whys.{Explains, ExplainsEnd, ExplainsSoFar, IsWhyText}
 use Rattle.cap_turns.specs.Readings.{Follows}
-use Rattle.cap_judge.specs.Turns.{log_turns}
 
 -- where a judge stopped, the report of that line is the report of the first fault, whatever bytes follow where the source has not ended
 pub reported : (given : List ℕ) (ended : Bool) (held : Held) (line : ℕ) (refusal : Refusal) (text report : List ℕ)

@@ -12,7 +12,7 @@ use Rattle.tagmem.specs.Granules.{AreStored}
 use Rattle.cap_machine.specs.Accounts.{Account, named_by, row_in, step_checks, with_step}
 use Rattle.cap_machine.specs.{Helds.{Held, account_of}, Runs.parent_of, States.{State, key_of, untagged_null}}
 use Rattle.cap_machine.specs.Steps.{Access, row_of, state_with}
-use Rattle.cap_judge.specs.{Logs.text_of, Readings.{MakesSteps, at}, Turns.Stage}
+use Rattle.cap_judge.specs.{Logs.text_of, Readings.{MakesSteps, at}, Turns.{Stage, log_turns}}
 use Rattle.cap_judge.specs.declared.judges.Due.TheVariants as dues
 use Rattle.cap_judge.proofs.TurnLemmas.{allowed_form, body}
 use Rattle.cap_objects.specs.{Counts.{CountsAre, Owners, count_below}, declared.handouts.Handouts.Handouts, Handed.held_of, HandoutsIn.objects_of}
@@ -26,7 +26,6 @@ use Rattle.cap_run.proofs.{AloneLemmas.{main-unowned, then_none, unowned}, Asked
 use Rattle.cap_run.proofs.UsualLemmas.{owners-main, owners-special, place-low, under_then}
 use Rattle.cap_run.proofs.UsualNumberLemmas.{last_checks, naming-apart, naming-rest, passed, state-far, usual_check, usual_with, ruled-low}
 use Rattle.cap_turns.specs.Turns.{Reads}
-use Rattle.cap_judge.specs.Turns.{log_turns}
 
 -- no place past the granules holds anything
 IsNear : State → Type 0

@@ -6,16 +6,12 @@ use Rattle.cap_run_log.specs.{declared.lines.RunLine.RunLine, RunLines.{IsRunLin
 use Rattle.cap_run.specs.declared.{asks.Asks.Asks, ends.RunRefusal.RunRefusal}
 use Rattle.cap_run.specs.{Choices.{EndsEarlier, IsAfterHeld, IsAfterOwned, IsAfterUsed}, Run.Run, RunChecks.line_end}
 use Rattle.cap_run.proofs.ChoiceLemmas.{by_choice}
-use Rattle.cap_run_judge.specs.declared.verdict.RunVerdict.{RunVerdict, TheVariants.{Yes, No}}
-use Rattle.cap_run_judge.specs.Turns.{Stage, unread}
-use Rattle.cap_run_judge.specs.Verdicts.{IsRunVerdict}
-use Rattle.cap_run_judge.specs.ChosenVerdicts.{IsFaultyEarlier, VerdictsByChoice}
-use Rattle.cap_run_judge.proofs.OneVerdict.{one_verdict}
+use Rattle.cap_run_judge.specs.{declared.verdict.RunVerdict.{RunVerdict, TheVariants.{Yes, No}}, Turns.{Stage, unread, run_turns}}
+use Rattle.cap_run_judge.specs.{Verdicts.IsRunVerdict, ChosenVerdicts.{IsFaultyEarlier, VerdictsByChoice}}
+use Rattle.cap_run_judge.proofs.{OneVerdict.one_verdict, TurnLemmas.{run_spelled, asked}}
 use Rattle.cap_turns.specs.Turns.{Body, Due, First, Reads, Second, next_stage, refusal_by, text_of}
 use Rattle.cap_turns.specs.Verdicts.{IsBehind, IsFirstFault, Refuses}
 use Rattle.cap_turns.proofs.TurnLemmas.{IsLine-spelling}
-use Rattle.cap_run_judge.specs.Turns.{run_turns}
-use Rattle.cap_run_judge.proofs.TurnLemmas.{run_spelled, asked}
 use Rattle.cap_run.specs.declared.ends.RunRefusal.{RunRefusal}
 
 module _ (less more : Asks) (why : RunRefusal) (IsAfter : Option RunRefusal → Type 0)

@@ -5,8 +5,8 @@ use Rattle.cap_streams.specs.Front.{IsCut}
 use Rattle.cap_turns.specs.{Readings.Follows, Turns.{Goes, IsAtFault, Refused}, Verdicts.IsNo}
 use Rattle.cap_turns.proofs.{EndLemmas.{StopsWith, cut_told, refused_told, whole_told}, FollowLemmas.{fault_end, faults_at}}
 use Rattle.cap_run.specs.declared.{asks.Asks.Asks, ends.RunRefusal.RunRefusal}
-use Rattle.cap_run_judge.specs.declared.verdict.RunVerdict.{RunVerdict, TheVariants.{Yes, No}}
-use Rattle.cap_run_judge.specs.{Readings.{VerdictAtEnd, VerdictWith}, Turns.{Asked, Stage, run_turns, unread}, Verdicts.IsRunVerdict}
+use Rattle.cap_run_judge.specs.{declared.verdict.RunVerdict.{RunVerdict, TheVariants.{Yes, No}}, Readings.{VerdictAtEnd, VerdictWith}}
+use Rattle.cap_run_judge.specs.{Turns.{Asked, Stage, run_turns, unread}, Verdicts.IsRunVerdict}
 use Rattle.cap_run_judge.proofs.CountLemmas.{run_lawful}
 
 module _ (asks_are : Asks) where

@@ -11,12 +11,9 @@ use Rattle.cap_run.specs.declared.{asks.Asks.Asks, ends.RunRefusal.{TheVariants.
 use Rattle.cap_run.specs.{Allowed.{AreAllowed, IsLineAllowed}, Descents.run_along, Erasure.{erased, erased_after, is_of_objects, object_lines}}
 use Rattle.cap_run.specs.{Run.Run, RunChanges.{line_after, no_run, run_after}, RunChecks.line_end}
 use Rattle.cap_run.proofs.{DescentLemmas.{along, along-fold}, ErasureLemmas.erased_allowed}
-use Rattle.cap_run_judge.specs.Turns.{Stage, unread}
-use Rattle.cap_run_judge.specs.Verdicts.{IsRunYes}
-use Rattle.cap_run_judge.proofs.GuardLemmas.{read_allowed}
+use Rattle.cap_run_judge.specs.{Turns.{Stage, unread, run_turns}, Verdicts.IsRunYes}
+use Rattle.cap_run_judge.proofs.{GuardLemmas.read_allowed, TurnLemmas.asked}
 use Rattle.cap_turns.specs.Turns.{Body, Due, First, Reads, Second, next_stage, refusal_by, text_of}
-use Rattle.cap_run_judge.specs.Turns.{run_turns}
-use Rattle.cap_run_judge.proofs.TurnLemmas.{asked}
 use Rattle.cap_run.specs.declared.ends.RunRefusal.{RunRefusal}
 
 -- the run after lines

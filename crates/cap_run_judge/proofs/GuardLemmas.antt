@@ -8,10 +8,8 @@ use Rattle.cap_run.specs.{Allowed.{AreAllowed, IsLineAllowed}, declared.asks.Ask
 use Rattle.cap_run.specs.declared.ends.RunRefusal.TheVariants.{Usual}
 use Rattle.cap_run.specs.Run.{Run}
 use Rattle.cap_run.proofs.{ApartLemmas.safe_at_each, DescentLemmas.{allowed_by, lie_in_roots, stay_within_roots}, OneRootLemmas.descend_from_one, OwnedLemmas.accesses_own}
-use Rattle.cap_run_judge.specs.Turns.{Stage, unread}
-use Rattle.cap_run_judge.specs.Verdicts.{AreGuarded, IsRunGuarded}
+use Rattle.cap_run_judge.specs.{Turns.{Stage, unread, run_turns}, Verdicts.{AreGuarded, IsRunGuarded}}
 use Rattle.cap_turns.specs.Turns.{Due, Reads, next_stage, refusal_by}
-use Rattle.cap_run_judge.specs.Turns.{run_turns}
 use Rattle.cap_run_judge.proofs.TurnLemmas.{asked}
 use Rattle.cap_run.specs.declared.ends.RunRefusal.{RunRefusal}
 

@@ -2,11 +2,9 @@
 use Rattle.std.proofs.Common.{◌≡◌, ℕ, inl, inr, List, ap, refl, sym, ◌∙◌}
 use Rattle.cap_turns.proofs.{OneEnd.{never_both, one_fault, one_whole}, SomeEnd.some_end}
 use Rattle.cap_run.specs.declared.asks.Asks.{Asks}
-use Rattle.cap_run_judge.specs.declared.verdict.RunVerdict.{RunVerdict, TheVariants.{Yes, No}}
-use Rattle.cap_run_judge.specs.{Turns.{Stage, run_turns}, Verdicts.IsRunVerdict}
+use Rattle.cap_run_judge.specs.{declared.verdict.RunVerdict.{RunVerdict, TheVariants.{Yes, No}}, Turns.{Stage, run_turns}}
+use Rattle.cap_run_judge.specs.Verdicts.{IsRunVerdict}
 use Rattle.cap_run_judge.proofs.{CountLemmas.run_lawful, TurnLemmas.run_spelled}
-use Rattle.cap_run_judge.proofs.TurnLemmas.{run_spelled}
-use Rattle.cap_run_judge.proofs.CountLemmas.{run_lawful}
 
 pub one_verdict : (asks_are : Asks) (bytes : List ℕ) (a b : RunVerdict) → IsRunVerdict asks_are bytes a → IsRunVerdict asks_are bytes b → a ≡ b
 one_verdict asks_are bytes (Yes steps roots objects) (Yes steps' roots' objects') h k =

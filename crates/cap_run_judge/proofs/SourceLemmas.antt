@@ -3,15 +3,12 @@ use Rattle.std.proofs.Common.{◌≡◌, ◌≢◌, ℕ, ◌+◌, ◌≤◌, Boo
 use Rattle.std.proofs.Common.{subst, ◌∙◌, append-nil, append_assoc, arith, Result, Ok, Err, IfOk, IfErr, ◌-◌, ◌*◌, ◌<◌}
 use Rattle.cap_streams.specs.{declared.judging.judge_faults.JudgeFault.{JudgeFault, TheVariants.{Pull, NoMemory}}, Front.IsCut, Streams.CountsOnly}
 use Rattle.cap_run.specs.{declared.asks.Asks.Asks, Run.Run}
-use Rattle.cap_run_judge.specs.declared.{faults.RefusedRunLine.RefusedRunLine, verdict.RunVerdict.{RunVerdict, TheVariants.{Yes, No}}}
-use Rattle.cap_run_judge.specs.Turns.{Stage, unread}
-use Rattle.cap_run_judge.specs.Verdicts.{IsRunVerdict, NoRunVerdictIn}
-use Rattle.cap_run_judge.specs.Judgings.{IsAnswerOf, IsVerdictOf, JudgedBy}
+use Rattle.cap_run_judge.specs.declared.faults.RefusedRunLine.{RefusedRunLine}
+use Rattle.cap_run_judge.specs.{declared.verdict.RunVerdict.{RunVerdict, TheVariants.{Yes, No}}, Turns.{Stage, unread, run_turns}}
+use Rattle.cap_run_judge.specs.{Verdicts.{IsRunVerdict, NoRunVerdictIn}, Judgings.{IsAnswerOf, IsVerdictOf, JudgedBy}}
 use Rattle.cap_run_judge.specs.Readings.{AnswerAtEnd, VerdictAtEnd, VerdictWith, IsAnswered}
 use Rattle.cap_run_judge.proofs.GuardLemmas.{run_guarded}
-use Rattle.cap_turns.specs.Turns.{Goes}
-use Rattle.cap_turns.specs.Verdicts.{MayLackMemory}
-use Rattle.cap_run_judge.specs.Turns.{run_turns}
+use Rattle.cap_turns.specs.{Turns.Goes, Verdicts.MayLackMemory}
 
 -- want of memory with more bytes after it
 lack-more : (asks_are : Asks) (bytes rest more : List ℕ) → MayLackMemory run_turns (unread asks_are) bytes rest → MayLackMemory run_turns (unread asks_are) (bytes ++ more) (rest ++ more)

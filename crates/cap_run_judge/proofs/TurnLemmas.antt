@@ -15,10 +15,10 @@ use Rattle.cap_run.specs.declared.{asks.Asks.Asks, ends.{RunEnd.RunEnd, RunRefus
 use Rattle.cap_run.specs.StepLines.{LeadBy, MakesUsualSteps, text_of_steps}
 use Rattle.cap_run.specs.{Run.Run, RunChanges.{line_after, usual_after}, RunChecks.{Answers, line_end, line_wants}}
 use Rattle.cap_run.proofs.StepTakingLemmas.{line_shorter}
-use Rattle.cap_run_judge.specs.declared.{faults.RefusedRunLine.RefusedRunLine}
+use Rattle.cap_run_judge.specs.{declared.faults.RefusedRunLine.RefusedRunLine, Turns.{Asked, Stage, run_turns}}
+use Rattle.cap_run_judge.specs.Readings.{AnswersLine, AnswerAtEnd, due_of}
 use Rattle.cap_run_judge.specs.declared.judges.Due as code
 use Rattle.cap_run_judge.specs.declared.judges.Due.TheVariants as dues
-use Rattle.cap_run_judge.specs.{Turns.{Asked, Stage, run_turns}, Readings.{AnswersLine, AnswerAtEnd, due_of}}
 
 -- what is asked, and a run
 abbrev pub asked : Asks → Run → Asked

@@ -8,25 +8,24 @@ use Rattle.cap_log.specs.{declared.{kinds.Step.Step, lines.{Line.Line, Mode.Mode
 use Rattle.cap_log.proofs.{DecidedLines.{front_decided, line_decided}, ElementLemmas.AllByRecursion-append}
 use Rattle.cap_machine.specs.{Accounts.Account, declared.rules.Rules.{Rules, TheVariants.{TwoClear, TwoStrict}}, States.DeclaredRoot}
 use Rattle.cap_machine.proofs.AccountLemmas.{account_after-grows}
-use Rattle.cap_judge.specs.{declared.verdict.Verdict.{Verdict, TheVariants.{No, Yes}}, Judgings.{IsBehind, account_before}, Verdicts.IsVerdict}
+use Rattle.cap_judge.specs.{declared.verdict.Verdict.{Verdict, TheVariants.{No, Yes}}, Judgings.{IsBehind, account_before}}
+use Rattle.cap_judge.specs.Verdicts.{IsVerdict}
 use Rattle.cap_judge.specs.Logs.{Beginning, Body, Empty, IsAccepted, NoMode, Whole, account_after, has_form, line_checks, lines_of}
 use Rattle.cap_judge.specs.Logs.{Refuses as LogRefuses, text_of as log_text}
 use Rattle.cap_judge.specs.Turns.{Stage as LogStage, log_turns}
-use Rattle.cap_judge.proofs.{InTurn.{longer, stage_after as log_stage, with_line}, JudgeLemmas.{fault_behind, front_refused, text_push, yes_of}}
-use Rattle.cap_judge.proofs.{OneVerdict.one_verdict as one_log_verdict, TurnLaws.refuses_text}
+use Rattle.cap_judge.proofs.InTurn.{longer, stage_after as log_stage, with_line}
+use Rattle.cap_judge.proofs.{JudgeLemmas.{fault_behind, front_refused, text_push, yes_of}, OneVerdict.one_verdict as one_log_verdict}
+use Rattle.cap_judge.proofs.TurnLaws.{refuses_text}
 use Rattle.cap_run_log.specs.{declared.lines.RunLine.RunLine, RunLines.{IsRunLineInRange, SpellsRun, run_spelling}, UsualLines.{IsUsualLine, as_run}}
 use Rattle.cap_run_log.proofs.UsualLineLemmas.{in_range_alike, reads_alike, spelled_alike}
 use Rattle.cap_run.specs.{declared.{asks.Asks.Asks, ends.RunRefusal.{TheVariants.Usual}}, Run.Run}
 use Rattle.cap_run.specs.{RunChanges.{line_after, no_run}, UsualRuns.{IsOfLog, log_refusal, run_by}}
 use Rattle.cap_run.proofs.UsualRunLemmas.{means_the_same}
-use Rattle.cap_run_judge.specs.declared.verdict.RunVerdict.{RunVerdict}
-use Rattle.cap_run_judge.specs.Turns.{Stage, unread}
+use Rattle.cap_run_judge.specs.{declared.verdict.RunVerdict.RunVerdict, Turns.{Stage, unread, run_turns}}
 use Rattle.cap_run_judge.specs.{UsualLogs.{AreUsual, NamesNoLimit, as_run_verdict}, Verdicts.IsRunVerdict}
 use Rattle.cap_run_judge.proofs.{FollowLemmas.staged, OneVerdict.one_verdict, TurnLemmas.asked}
-use Rattle.cap_turns.specs.Turns.{Allows, Due, Goes, next_stage, refusal_by, text_of}
-use Rattle.cap_turns.specs.Verdicts.{Refuses}
+use Rattle.cap_turns.specs.{Turns.{Allows, Due, Goes, next_stage, refusal_by, text_of}, Verdicts.Refuses}
 use Rattle.cap_turns.proofs.TurnLemmas.{Reads-append}
-use Rattle.cap_run_judge.specs.Turns.{run_turns}
 
 -- Bytes whose lines logs have, too
 

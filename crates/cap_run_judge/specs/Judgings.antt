@@ -3,8 +3,8 @@ use Rattle.std.specs.Prelude.{◌≡◌, ℕ, Bool, true, false, List, Result, I
 use Rattle.cap_streams.specs.declared.judging.judge_faults.JudgeFault.{JudgeFault, TheVariants.{Pull, NoMemory}}
 use Rattle.cap_turns.specs.Verdicts.{BeginsLog, IsBehind, IsNo, IsWhole, MayLackMemory, StopsBefore}
 use Rattle.cap_run.specs.{declared.asks.Asks.Asks, Run.Run}
-use Rattle.cap_run_judge.specs.declared.verdict.RunVerdict.{RunVerdict, TheVariants.{Yes, No}}
-use Rattle.cap_run_judge.specs.{Turns.{Stage, run_turns, unread}, Verdicts.{IsRunGuarded, IsRunVerdict}}
+use Rattle.cap_run_judge.specs.{declared.verdict.RunVerdict.{RunVerdict, TheVariants.{Yes, No}}, Turns.{Stage, run_turns, unread}}
+use Rattle.cap_run_judge.specs.Verdicts.{IsRunGuarded, IsRunVerdict}
 
 -- the verdict on these bytes, if their source has ended; otherwise a `no` that holds whatever bytes follow
 abbrev pub IsVerdictOf : Asks → List ℕ → Bool → RunVerdict → Type 0

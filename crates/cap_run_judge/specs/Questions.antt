@@ -7,8 +7,7 @@ use Rattle.cap_machine.specs.Accounts.{row_in}
 use Rattle.cap_judge.specs.{declared.verdict.Expected.Expected, Expectations.given_in}
 use Rattle.cap_run.specs.declared.{asks.Asks.Asks, ends.RunRefusal.{RunRefusal, TheVariants.Usual}}
 use Rattle.cap_run.specs.{Run.Run, RunChanges.account_in, RunChecks.usual_end}
-use Rattle.cap_run_judge.specs.declared.verdict.RunVerdict.{RunVerdict, TheVariants.No}
-use Rattle.cap_run_judge.specs.Turns.{Stage}
+use Rattle.cap_run_judge.specs.{declared.verdict.RunVerdict.{RunVerdict, TheVariants.No}, Turns.Stage}
 use Rattle.cap_turns.specs.Turns.{Due, Refused}
 
 -- the `no` that stands whatever bytes follow, once a line is faulty

@@ -3,18 +3,16 @@ use Rattle.std.specs.Prelude.{◌≡◌, ℕ, Bool, List, [], Option, None, Some
 use Rattle.cap_streams.specs.{declared.judging.judge_faults.JudgeFault.JudgeFault, FaultLines.bytes_of}
 use Rattle.tagmem.specs.declared.store.TaggedStore.{Ghosts}
 use Rattle.cap_run_log.specs.declared.lines.RunLine.{RunLine}
-use Rattle.cap_turns.specs.Turns.{Body, Due, Ended, First, IsAtFault, Refused, Second}
-use Rattle.cap_turns.specs.Readings.{Takes, due_at_end}
+use Rattle.cap_turns.specs.{Turns.{Body, Due, Ended, First, IsAtFault, Refused, Second}, Readings.{Takes, due_at_end}}
 use Rattle.cap_turns.specs.Readings as turns
 use Rattle.cap_run.specs.declared.{asks.Asks.Asks, ends.{RunEnd.RunEnd, RunRefusal.RunRefusal}}
 use Rattle.cap_run.specs.declared.ends.RunEnd.TheVariants as ends
 use Rattle.cap_run.specs.{Machines.run_in, Run.Run}
 use Rattle.cap_run_judge.specs.declared.faults.RefusedRunLine as faults
-use Rattle.cap_run_judge.specs.declared.judges.RunJudge.{RunJudge}
+use Rattle.cap_run_judge.specs.{declared.judges.RunJudge.RunJudge, declared.verdict.RunVerdict.{RunVerdict, TheVariants.{Yes, No}}}
+use Rattle.cap_run_judge.specs.{Judgings.{IsVerdictOf, StopsIn}, Turns.{Stage, run_turns}}
 use Rattle.cap_run_judge.specs.declared.judges.Due as code
 use Rattle.cap_run_judge.specs.declared.judges.Due.TheVariants as dues
-use Rattle.cap_run_judge.specs.declared.verdict.RunVerdict.{RunVerdict, TheVariants.{Yes, No}}
-use Rattle.cap_run_judge.specs.{Judgings.{IsVerdictOf, StopsIn}, Turns.{Stage, run_turns}}
 
 -- what the code's stage says
 abbrev pub due_of : code.Due → Due RunRefusal

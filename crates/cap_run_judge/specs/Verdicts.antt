@@ -5,8 +5,7 @@ use Rattle.cap_run_log.specs.declared.lines.RunLine.{RunLine}
 use Rattle.cap_turns.specs.{Turns.Goes, Verdicts.{IsFirstFault, IsWhole, MayLackMemory}}
 use Rattle.cap_run.specs.declared.asks.Asks.{Asks}
 use Rattle.cap_run.specs.{Allowed.DescendsFromOne, Descents.{LiesInRoot, StaysWithinRoots, run_along}, OwnedAccesses.AccessesOwn, Safety.IsSafe}
-use Rattle.cap_run_judge.specs.declared.verdict.RunVerdict.{RunVerdict, TheVariants.{Yes, No}}
-use Rattle.cap_run_judge.specs.Turns.{Stage, run_turns, unread}
+use Rattle.cap_run_judge.specs.{declared.verdict.RunVerdict.{RunVerdict, TheVariants.{Yes, No}}, Turns.{Stage, run_turns, unread}}
 
 -- what is true along the lines of a run log, at every moment
 pub record AreGuarded (asks : Asks) (lines : List RunLine) : Type 0 where

@@ -8,14 +8,9 @@ ghost use Rattle.cap_turns.specs.declared.stops.Stop.TheVariants as stops;
 ghost use Rattle.cap_run_log.specs.{declared.lines.RunLine.RunLine, RunLines.{IsRunLineInRange, run_spelling}};
 ghost use Rattle.cap_run_judge.specs.declared.faults.RefusedRunLine.{RefusedRunLine as FaultIn};
 ghost use Rattle.cap_run_judge.specs.declared.judges.Due.TheVariants.{Body, Refused as RefusedIn};
-ghost use Rattle.cap_run_judge.specs.Readings.{AnswersLine, AnswerAtEnd, EndsBytes, IsFaultOf};
-ghost use Rattle.cap_run_judge.specs.Readings.{stage_of};
-ghost use Rattle.cap_run_judge.specs.Turns.{unread};
+ghost use Rattle.cap_run_judge.specs.{Readings.{AnswersLine, AnswerAtEnd, EndsBytes, IsFaultOf, stage_of}, Turns.{unread, run_turns}};
 ghost use Rattle.cap_run.specs.{declared.ends.RunRefusal.TheVariants.Usual, RunChanges.rules_of};
-ghost use Rattle.cap_turns.specs.Turns.{Goes, IsAtFault, lines_read, refusal_at};
-ghost use Rattle.cap_turns.specs.Readings.{StopsAt, Takes};
-ghost use Rattle.cap_turns.specs.Verdicts.{long_refusal};
-ghost use Rattle.cap_run_judge.specs.Turns.{run_turns};
+ghost use Rattle.cap_turns.specs.{Turns.{Goes, IsAtFault, lines_read, refusal_at}, Readings.{StopsAt, Takes}, Verdicts.long_refusal};
 
 use crate::faults::RefusedRunLine;
 use crate::verdict::RunVerdict;

@@ -4,13 +4,11 @@ ghost use Rattle.std.specs.Prelude.{◌≡◌, ◌-◌, ◌++◌, ℕ, Bool, Lis
 ghost use Rattle.cap_streams.specs.Front.{IsCut};
 ghost use Rattle.cap_judge.specs.{Verdicts.IsVerdict, declared.verdict.Verdict.Verdict};
 ghost use Rattle.cap_run.specs.{declared.asks.Asks.Asks, Descents.run_along, Erasure.{erased, object_lines}};
-ghost use Rattle.cap_run_judge.specs.{declared.verdict.RunVerdict.RunVerdict, Turns.{Stage, unread}};
-ghost use Rattle.cap_run_judge.specs.Readings.{VerdictAtEnd, VerdictWith};
-ghost use Rattle.cap_run_judge.specs.{ChosenVerdicts.VerdictsByChoice, UsualLogs.{AreUsual, NamesNoLimit, as_run_verdict}, Verdicts.{IsRunGuarded, IsRunVerdict, IsRunYes}};
-ghost use Rattle.cap_turns.specs.Turns.{Goes, text_of};
-ghost use Rattle.cap_turns.specs.Readings.{Faults};
-ghost use Rattle.cap_turns.specs.Verdicts.{Lacks, MayLackMemory};
-ghost use Rattle.cap_run_judge.specs.Turns.{run_turns};
+ghost use Rattle.cap_run_judge.specs.{declared.verdict.RunVerdict.RunVerdict, Turns.{Stage, unread, run_turns}};
+ghost use Rattle.cap_run_judge.specs.{Readings.{VerdictAtEnd, VerdictWith}, ChosenVerdicts.VerdictsByChoice};
+ghost use Rattle.cap_run_judge.specs.UsualLogs.{AreUsual, NamesNoLimit, as_run_verdict};
+ghost use Rattle.cap_run_judge.specs.Verdicts.{IsRunGuarded, IsRunVerdict, IsRunYes};
+ghost use Rattle.cap_turns.specs.{Turns.{Goes, text_of}, Readings.Faults, Verdicts.{Lacks, MayLackMemory}};
 
 /// Whatever bytes are read, and whatever is asked: if they are lines that begin a run log, then along them, at every moment, each
 /// tagged capability has bounds inside and permissions among those of the one root that it descends from, and each access

@@ -7,11 +7,8 @@ ghost use Rattle.cap_log.specs.Parts.{Begins};
 ghost use Rattle.cap_run_log.specs.declared.lines.RunLine.{RunLine};
 ghost use Rattle.cap_run_log.specs.declared.lines.RunLine.TheVariants as lines;
 ghost use Rattle.cap_run_log.specs.RunLines.{IsRunLineInRange, IsRunStepInRange, run_spelling};
-ghost use Rattle.cap_run_judge.specs.Readings.{IsUnmade, stage_of};
-ghost use Rattle.cap_turns.specs.Readings.{Follows, IsNoLine};
-ghost use Rattle.cap_turns.specs.Turns.{Body, IsAtFault};
-ghost use Rattle.cap_turns.specs.Verdicts.{Lacks};
-ghost use Rattle.cap_run_judge.specs.Turns.{run_turns};
+ghost use Rattle.cap_run_judge.specs.{Readings.{IsUnmade, stage_of}, Turns.run_turns};
+ghost use Rattle.cap_turns.specs.{Readings.{Follows, IsNoLine}, Turns.{Body, IsAtFault}, Verdicts.Lacks};
 
 use crate::judges::{Due, RunJudge};
 use cap_judge::TakeFault;

@@ -4,12 +4,10 @@ ghost use Rattle.std.specs.Prelude.{◌≡◌, ◌≤◌, ℕ, List, [], ◌++�
 ghost use Rattle.std.specs.FinMap as map;
 ghost use Rattle.cap_streams.specs.{declared.judging.judge_faults.JudgeFault.TheVariants.Pull, FaultLines.bytes_of};
 ghost use Rattle.cap_streams.specs.{ReadBuffers.items, Streams.CountsOnly};
-ghost use Rattle.cap_run_judge.specs.{Judgings.{Judged, JudgedBy}, Turns.unread, Verdicts.{IsRunGuarded, IsRunVerdict, NoRunVerdictIn}};
-ghost use Rattle.cap_run_judge.specs.Readings.{IsAnswered, stage_of};
+ghost use Rattle.cap_run_judge.specs.{Judgings.{Judged, JudgedBy}, Turns.{unread, run_turns}};
+ghost use Rattle.cap_run_judge.specs.{Verdicts.{IsRunGuarded, IsRunVerdict, NoRunVerdictIn}, Readings.{IsAnswered, stage_of}};
 ghost use Rattle.cap_run.specs.Machines.{run_in};
-ghost use Rattle.cap_turns.specs.Readings.{StopsAt};
-ghost use Rattle.cap_turns.specs.Turns.{lines_read};
-ghost use Rattle.cap_run_judge.specs.Turns.{run_turns};
+ghost use Rattle.cap_turns.specs.{Readings.StopsAt, Turns.lines_read};
 
 use crate::faults::RefusedRunLine;
 use crate::judges::RunJudge;

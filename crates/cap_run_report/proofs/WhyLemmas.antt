@@ -2,15 +2,14 @@
 use Rattle.std.proofs.Common.{◌≡◌, ℕ, Bool, false, List, [], ◌++◌, refl, sym, subst, Some, Ok, Err, Result}
 use Rattle.cap_streams.specs.FaultLines.{bytes_of}
 use Rattle.cap_run.specs.{declared.{asks.Asks.Asks, ends.RunRefusal.RunRefusal}, Run.Run}
-use Rattle.cap_run_judge.specs.declared.{faults.RefusedRunLine.RefusedRunLine, verdict.RunVerdict.{RunVerdict, TheVariants.{Yes, No}}}
-use Rattle.cap_run_judge.specs.{Judgings.StopsIn, OwnerLists.run_report_text, Reports.AreNumbered, VerdictLines.run_verdict_line}
-use Rattle.cap_run_judge.specs.{Readings.AnswerAtEnd, Turns.{Stage, unread}}
+use Rattle.cap_run_judge.specs.declared.faults.RefusedRunLine.{RefusedRunLine}
+use Rattle.cap_run_judge.specs.{declared.verdict.RunVerdict.{RunVerdict, TheVariants.{Yes, No}}, Judgings.StopsIn}
+use Rattle.cap_run_judge.specs.{OwnerLists.run_report_text, Reports.AreNumbered, VerdictLines.run_verdict_line, Readings.AnswerAtEnd}
+use Rattle.cap_run_judge.specs.Turns.{Stage, unread, run_turns}
 use Rattle.cap_run_judge.proofs.EndLemmas.{all_ends, no_ends}
 use Rattle.cap_run_report.specs.Answers.{ExplainsRun, ExplainsRunEnd, ExplainsRunSoFar, IsRunWhyText}
 use Rattle.cap_run_report.specs.LineReports.{IsRunLineReport}
-use Rattle.cap_turns.specs.Readings.{Follows}
-use Rattle.cap_turns.specs.Turns.{Refused}
-use Rattle.cap_run_judge.specs.Turns.{run_turns}
+use Rattle.cap_turns.specs.{Readings.Follows, Turns.Refused}
 
 pub told : (asks : Asks) (owners : Bool) (given : List ℕ) (ended : Bool) (run : Run) (fault : List ℕ) (verdict : RunVerdict) (said : List ℕ)
     → AreNumbered run → StopsIn asks given ended run fault verdict → IsRunWhyText owners run fault verdict said

@@ -1,9 +1,9 @@
 -- What a judge of run logs that explains a no writes (this profile's own).
 use Rattle.std.specs.Prelude.{◌≡◌, ℕ, Bool, true, false, List, [], ◌++◌, Option, None, Some}
 use Rattle.cap_run.specs.{declared.asks.Asks.Asks, Run.Run}
-use Rattle.cap_run_judge.specs.declared.verdict.RunVerdict.{RunVerdict, TheVariants.{Yes, No}}
-use Rattle.cap_run_judge.specs.{Judgings.{IsVerdictOf, StopsWithRun}, OwnerLists.run_report_text, Reports.TellsRun}
-use Rattle.cap_run_judge.specs.{Turns.{Stage, run_turns, unread}, VerdictLines.run_verdict_line, Verdicts.IsRunVerdict}
+use Rattle.cap_run_judge.specs.{declared.verdict.RunVerdict.{RunVerdict, TheVariants.{Yes, No}}, Judgings.{IsVerdictOf, StopsWithRun}}
+use Rattle.cap_run_judge.specs.{OwnerLists.run_report_text, Reports.TellsRun, Turns.{Stage, run_turns, unread}}
+use Rattle.cap_run_judge.specs.{VerdictLines.run_verdict_line, Verdicts.IsRunVerdict}
 use Rattle.cap_run_report.specs.LineReports.{IsRunLineReport}
 use Rattle.cap_turns.specs.Turns.{Goes}
 

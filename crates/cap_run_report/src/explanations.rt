@@ -5,13 +5,11 @@ ghost use Rattle.std.specs.FinMap as map;
 ghost use Rattle.cap_streams.specs.declared.judging.judge_faults.JudgeToFault.TheVariants.{Pull, Push};
 ghost use Rattle.cap_streams.specs.{FaultLines.bytes_of, Streams.{CountsFault, CountsOnly}};
 ghost use Rattle.cap_run.specs.declared.asks.Asks.{Asks as AsksIn};
-ghost use Rattle.cap_run_judge.specs.declared.verdict.RunVerdict.{RunVerdict as RunVerdictIn, TheVariants.No};
-ghost use Rattle.cap_run_judge.specs.Readings.{stage_of};
-ghost use Rattle.cap_run_judge.specs.{Reports.RunReported, Turns.unread, VerdictLines.run_verdict_line};
+ghost use Rattle.cap_run_judge.specs.{declared.verdict.RunVerdict.{RunVerdict as RunVerdictIn, TheVariants.No}, Readings.stage_of};
+ghost use Rattle.cap_run_judge.specs.{Reports.RunReported, Turns.{unread, run_turns}, VerdictLines.run_verdict_line};
 ghost use Rattle.cap_run_report.specs.{Answers.{ExplainsRun, ExplainsRunEnd, ExplainsRunSoFar, IsRunWhyText}, LineReports.IsRunLineReport};
 ghost use Rattle.cap_run.specs.Machines.{run_in};
 ghost use Rattle.cap_turns.specs.Readings.{Follows};
-ghost use Rattle.cap_run_judge.specs.Turns.{run_turns};
 
 use crate::line_reports::put_run_report;
 use cap_log::buffers::put;

@@ -6,9 +6,9 @@ use Rattle.cap_word.specs.declared.word.Cap.{Cap}
 use Rattle.cap_log.specs.{declared.{kinds.Step.Step, lines.{Line.Line, Place.Place}}, Lines.{IsInRange, IsStepInRange, spelling}}
 use Rattle.cap_halves.specs.PassedRuns.{IsStepFrom}
 use Rattle.tagmem.specs.contracts.page_store.{PageStore.the_row as store_row, PageStoreTaggedStore.TheImpl.ghosts}
-use Rattle.cap_judge.specs.{declared.verdict.Verdict.Verdict, Logs.MayLackMemory, Readings.BeginsWhole}
-use Rattle.cap_judge.specs.Readings.{HasRead, Known, Stands, at, stage_of, verdict_so_far}
-use Rattle.cap_judge.specs.{Turns.unread, contracts.judges.Judge.the_row as judge_row}
+use Rattle.cap_judge.specs.{declared.verdict.Verdict.Verdict, Logs.MayLackMemory}
+use Rattle.cap_judge.specs.{Readings.{BeginsWhole, HasRead, Known, Stands, at, stage_of, verdict_so_far}, Turns.{unread, log_turns}}
+use Rattle.cap_judge.specs.contracts.judges.Judge.{the_row as judge_row}
 use Rattle.cap_judge.proofs.TurnLaws.{lacks_memory, none_so_far, reached, stands_so_far}
 use Rattle.cap_report.specs.declared.answers.Answer.{Answer}
 use Rattle.capcheck_judge.specs.Handles.{AnswersSoFar, IsPassed, Standing, HandsOver, HandsOverStep, HeldJudge, Holds, known_in, origin_behind}
@@ -16,7 +16,6 @@ use Rattle.cap_halves.specs.declared.values.PassedPlace.{PassedPlace}
 use Rattle.capcheck_judge.specs.{Handles.state_behind, Holding.IsNoStep, Takings.TakesLine}
 use Rattle.cap_turns.specs.Readings.{Follows}
 use Rattle.cap_turns.proofs.FollowLemmas.{follows_on}
-use Rattle.cap_judge.specs.Turns.{log_turns}
 
 -- a judge over pages
 abbrev pub J : Type 0

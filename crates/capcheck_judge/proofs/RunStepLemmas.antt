@@ -3,8 +3,7 @@ use Rattle.std.proofs.Common.{◌≡◌, ◌≢◌, ◌<◌, ◌⊎◌, ◌∙�
 use Rattle.cap_run.specs.{Run.Run, declared.asks.Asks.Asks}
 use Rattle.cap_run_log.specs.declared.lines.{RunLine.RunLine, RunPlace.RunPlace}
 use Rattle.cap_run_log.specs.RunLines.{IsRunLineInRange, IsRunPlace, run_spelling}
-use Rattle.cap_run_judge.specs.declared.verdict.RunVerdict.TheVariants.{No}
-use Rattle.cap_run_judge.specs.{Readings.stage_of, Turns.unread}
+use Rattle.cap_run_judge.specs.{declared.verdict.RunVerdict.TheVariants.No, Readings.stage_of, Turns.{unread, run_turns}}
 use Rattle.cap_run_judge.proofs.EndLemmas.{no_stands}
 use Rattle.cap_halves.specs.{PassedRuns.IsStepFrom, declared.values.PassedPlace.PassedPlace}
 use Rattle.cap_run_report.specs.ObjectParts.{HasNoHolder, IsFirstHolder}
@@ -14,7 +13,6 @@ use Rattle.capcheck_judge.specs.{Holding.IsNoStep, RunTakings.TakesRunLine}
 use Rattle.capcheck_judge.proofs.RunTakingLemmas.{held_taken, lacking, there}
 use Rattle.cap_turns.specs.Readings.{Follows}
 use Rattle.cap_turns.proofs.FollowLemmas.{clear_goes, follows_on, refused_in}
-use Rattle.cap_run_judge.specs.Turns.{run_turns}
 
 -- the states of a call on a judge that is there
 IsState : ℕ → Type 0

@@ -1,12 +1,9 @@
 -- What a judge of run logs takes that is handed lines (this profile's own).
 use Rattle.std.specs.Prelude.{◌≡◌, ◌≤◌, ◌<◌, ℕ, List, [], length, drop, take}
 use Rattle.cap_judge.specs.declared.judges.Stop.{Stop}
-use Rattle.cap_run_judge.specs.Readings.{stage_of}
+use Rattle.cap_run_judge.specs.{Readings.stage_of, Turns.run_turns}
 use Rattle.capcheck_judge.specs.{RunHandles.RunJudgeIn, Takings.state_at, declared.answers.LinesTaken.LinesTaken}
-use Rattle.cap_turns.specs.Readings.{Follows, StopsAt}
-use Rattle.cap_turns.specs.Turns.{IsAtFault}
-use Rattle.cap_turns.specs.Verdicts.{Lacks}
-use Rattle.cap_run_judge.specs.Turns.{run_turns}
+use Rattle.cap_turns.specs.{Readings.{Follows, StopsAt}, Turns.IsAtFault, Verdicts.Lacks}
 
 -- a judge took whole lines from the front of some bytes, and stopped
 pub record TakesRunLines (old : RunJudgeIn) (given : List ℕ) (answer : LinesTaken) (new : RunJudgeIn) : Type 0 where

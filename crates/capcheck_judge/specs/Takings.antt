@@ -3,12 +3,9 @@ use Rattle.std.specs.Prelude.{◌≡◌, ◌≢◌, ◌≤◌, ◌<◌, ℕ, Lis
 use denote.RattleType.{RattleType}
 use Rattle.tagmem.specs.contracts.page_store.{PageStore.the_row as store_row, PageStoreTaggedStore.TheImpl.ghosts}
 use Rattle.cap_judge.specs.declared.judges.Stop.{Stop, TheVariants.{Cut, Fault, NoMemory}}
-use Rattle.cap_judge.specs.Readings.{known_of, stage_of, verdict_so_far}
-use Rattle.cap_judge.specs.contracts.judges.Judge.{the_row as judge_row}
+use Rattle.cap_judge.specs.{Readings.{known_of, stage_of, verdict_so_far}, contracts.judges.Judge.the_row as judge_row, Turns.log_turns}
 use Rattle.capcheck_judge.specs.declared.answers.LinesTaken.{LinesTaken}
-use Rattle.cap_turns.specs.Readings.{Follows, StopsAt}
-use Rattle.cap_turns.specs.Verdicts.{Lacks}
-use Rattle.cap_judge.specs.Turns.{log_turns}
+use Rattle.cap_turns.specs.{Readings.{Follows, StopsAt}, Verdicts.Lacks}
 
 -- the state of a stop
 abbrev pub state_at : Stop → ℕ

@@ -1,8 +1,7 @@
 //! A judge that C opens, hands the lines of a log to, and closes.
 
 ghost use Rattle.std.specs.Prelude.{◌≡◌, ◌≢◌, ◌↔◌, ◌⊎◌, ◌<◌, ℕ, List, [], ◌++◌, None};
-ghost use Rattle.cap_judge.specs.Logs.{MayLackMemory};
-ghost use Rattle.cap_judge.specs.Readings.{BeginsWhole};
+ghost use Rattle.cap_judge.specs.{Logs.MayLackMemory, Readings.BeginsWhole};
 ghost use Rattle.cap_report.specs.Answers.{NamesEscapesIn, without_verdict};
 ghost use Rattle.capcheck_judge.specs.Handles.{AnswersEnd, AnswersSoFar, HandsOverLines, Holds, held_in, known_in};
 ghost use Rattle.capcheck_judge.specs.Takings.{TakesLine, TakesLines};

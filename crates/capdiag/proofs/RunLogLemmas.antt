@@ -4,14 +4,13 @@ use Rattle.std.proofs.Common.{◌≡◌, ◌≢◌, ◌≤◌, ℕ, Bool, true, 
 use Rattle.cap_streams.specs.declared.judging.judge_faults.JudgeFault.{JudgeFault}
 use Rattle.cap_streams.specs.declared.judging.judge_faults.JudgeToFault.{JudgeToFault, TheVariants.{Pull, NoMemory, Push}}
 use Rattle.cap_run.specs.{declared.asks.Asks.Asks, Run.Run}
-use Rattle.cap_run_judge.specs.declared.verdict.RunVerdict.{RunVerdict, TheVariants.{Yes, No}}
-use Rattle.cap_run_judge.specs.{Judgings.{IsAnswerOf, StopsWithRun}, Reports.IsRunPushed, Turns.unread, VerdictLines.run_verdict_status}
+use Rattle.cap_run_judge.specs.{declared.verdict.RunVerdict.{RunVerdict, TheVariants.{Yes, No}}, Judgings.{IsAnswerOf, StopsWithRun}}
+use Rattle.cap_run_judge.specs.{Reports.IsRunPushed, Turns.{unread, run_turns}, VerdictLines.run_verdict_status}
 use Rattle.cap_run_judge.proofs.GuardLemmas.{run_guarded}
 use Rattle.cap_program.specs.{Doings.IsDone, Judging.{StopsJudging, judged}}
 use Rattle.capdiag.specs.Judgings.{ShowsRun, TellsAsked}
 use Rattle.cap_turns.proofs.LineLemmas.{ended_front, front_more}
 use Rattle.cap_turns.specs.Verdicts.{IsFirstFault}
-use Rattle.cap_run_judge.specs.Turns.{run_turns}
 
 -- what was pushed for an answer is what was done for the order
 pub run_done : (asks : Asks) (owners why : Bool) (given : List ℕ) (ended : Bool) (took : List ℕ → Type 0) (answer : Result RunVerdict JudgeToFault)

@@ -1,9 +1,8 @@
-use Rattle.cap_judge.specs.Turns.{unread}
-use Rattle.cap_judge.proofs.{ExpectedLemmas.expects, TurnLaws.{fault_ends, fault_reached, lacks_memory}}
-use Rattle.cap_judge.proofs.TurnLaws.{none_so_far, reached, stands_so_far, told}
+use Rattle.cap_judge.specs.Turns.{unread, log_turns}
+use Rattle.cap_judge.proofs.ExpectedLemmas.{expects}
+use Rattle.cap_judge.proofs.TurnLaws.{fault_ends, fault_reached, lacks_memory, none_so_far, reached, stands_so_far, told}
 use Rattle.cap_judge.proofs.laws.stages_are_of_logs.Goals as goal
 use Rattle.cap_turns.proofs.FollowLemmas.{clear_goes, follows_on}
-use Rattle.cap_judge.specs.Turns.{log_turns}
 
 pub returns : goal.returns
 returns c = record {

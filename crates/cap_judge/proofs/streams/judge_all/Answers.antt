@@ -1,13 +1,12 @@
 use Rattle.std.proofs.Common.{◌≡◌, ◌≢◌, ◌≤◌, ◌-◌, [], List, ℕ, arith, drop, inl, length, refl, subst, take, true}
 use Rattle.std.proofs.{Common.{length-drop, take-append-drop, take_all}, lemmas.List.Elements.All-nil}
 use Rattle.cap_streams.specs.FaultLines.{bytes_of}
-use Rattle.cap_judge.specs.{Logs.{LacksRoom, MayLackMemory}, Readings.{VerdictWith, room_of, stage_of}, Turns.unread}
+use Rattle.cap_judge.specs.{Logs.{LacksRoom, MayLackMemory}, Readings.{VerdictWith, room_of, stage_of}, Turns.{unread, log_turns}}
 use Rattle.cap_judge.proofs.SourceLemmas.{all_judged, all_lack, answered_some, ended_answer}
 use Rattle.cap_judge.proofs.TurnLaws.{fault_told, lacks_memory, lacks_room, told}
 use Rattle.cap_judge.proofs.streams.judge_all.Goals as goal
 use Rattle.cap_turns.specs.Readings.{Follows}
 use Rattle.cap_turns.proofs.FollowLemmas.{faults_at, stop_follows}
-use Rattle.cap_judge.specs.Turns.{log_turns}
 
 pub returns-in-Cut : goal.returns-in-Cut
 returns-in-Cut g c = record {

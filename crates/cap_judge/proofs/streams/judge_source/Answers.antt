@@ -2,14 +2,12 @@ use Rattle.std.proofs.Common.{◌≡◌, ◌≢◌, ◌++◌, [], ℕ, List, ap,
 use Rattle.std.proofs.{Common.{Result, Ok, Err, subst, sym, true, ◌∙◌}, lemmas.List.Elements.All-nil}
 use Rattle.cap_streams.specs.{FaultLines.bytes_of, Front.IsCut, ReadBuffers.items, Streams.next_count}
 use Rattle.cap_streams.specs.declared.judging.judge_faults.JudgeFault.{JudgeFault}
-use Rattle.cap_judge.specs.{Readings.{AnswerAtEnd, IsAnswered, stage_of}, Turns.unread}
-use Rattle.cap_judge.specs.declared.{faults.RefusedLine.RefusedLine, verdict.Verdict.Verdict}
-use Rattle.cap_judge.proofs.SourceLemmas.{ended_answer, given_more, lacking_judged, nothing_more, pull_judged}
-use Rattle.cap_judge.proofs.{SourceLemmas.verdict_judged, TurnLaws.{count_read, lacks_memory, fault_told, log_lawful, told}}
+use Rattle.cap_judge.specs.{Readings.{AnswerAtEnd, IsAnswered, stage_of}, Turns.{unread, log_turns}}
+use Rattle.cap_judge.specs.{declared.faults.RefusedLine.RefusedLine, declared.verdict.Verdict.Verdict}
+use Rattle.cap_judge.proofs.SourceLemmas.{ended_answer, given_more, lacking_judged, nothing_more, pull_judged, verdict_judged}
+use Rattle.cap_judge.proofs.TurnLaws.{count_read, lacks_memory, fault_told, log_lawful, told}
 use Rattle.cap_judge.proofs.streams.judge_source.Goals as goal
-use Rattle.cap_turns.proofs.FollowLemmas.{faults_at, follows_on, stop_follows}
-use Rattle.cap_turns.proofs.{EndLemmas.closer, TurnLemmas.{goes_none, goes_on}}
-use Rattle.cap_judge.specs.Turns.{log_turns}
+use Rattle.cap_turns.proofs.{FollowLemmas.{faults_at, follows_on, stop_follows}, EndLemmas.closer, TurnLemmas.{goes_none, goes_on}}
 
 pub pieces-init : goal.pieces-init
 pieces-init g c =

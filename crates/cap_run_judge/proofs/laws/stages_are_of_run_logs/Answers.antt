@@ -1,11 +1,8 @@
 use Rattle.std.proofs.Common.{[], ◌++◌, inr, refl}
-use Rattle.cap_run_judge.proofs.EndLemmas.{end_told, fault_told}
-use Rattle.cap_turns.proofs.FollowLemmas.{faults_at}
+use Rattle.cap_run_judge.proofs.{EndLemmas.{end_told, fault_told}, CountLemmas.run_lawful}
+use Rattle.cap_turns.proofs.{FollowLemmas.faults_at, EndLemmas.lacks_memory, TurnLemmas.goes_on}
 use Rattle.cap_run_judge.proofs.laws.stages_are_of_run_logs.Goals as goal
-use Rattle.cap_turns.proofs.EndLemmas.{lacks_memory}
-use Rattle.cap_turns.proofs.TurnLemmas.{goes_on}
 use Rattle.cap_run_judge.specs.Turns.{run_turns}
-use Rattle.cap_run_judge.proofs.CountLemmas.{run_lawful}
 
 pub returns : goal.returns
 returns c = record {

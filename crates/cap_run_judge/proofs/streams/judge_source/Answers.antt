@@ -2,14 +2,12 @@ use Rattle.std.proofs.Common.{◌≢◌, ◌++◌, [], ℕ, List, ap, append-nil
 use Rattle.std.proofs.{Common.{subst, sym, ◌∙◌}, lemmas.List.Elements.All-nil}
 use Rattle.cap_streams.specs.{FaultLines.bytes_of, Front.IsCut, ReadBuffers.items, Streams.next_count}
 use Rattle.cap_judge.proofs.SourceLemmas.{given_more, nothing_more}
-use Rattle.cap_run_judge.specs.{Readings.{AnswerAtEnd, VerdictWith, stage_of}, Turns.unread}
+use Rattle.cap_run_judge.specs.{Readings.{AnswerAtEnd, VerdictWith, stage_of}, Turns.{unread, run_turns}}
 use Rattle.cap_run_judge.proofs.SourceLemmas.{answered_counts, ended_answer, lacking_counts, lacking_judged, pull_judged, verdict_judged}
-use Rattle.cap_run_judge.proofs.EndLemmas.{end_told, fault_told}
+use Rattle.cap_run_judge.proofs.{EndLemmas.{end_told, fault_told}, CountLemmas.run_lawful}
 use Rattle.cap_run_judge.proofs.streams.judge_source.Goals as goal
 use Rattle.cap_run.specs.Machines.{run_in}
 use Rattle.cap_turns.proofs.{EndLemmas.{closer, lacks_memory}, FollowLemmas.faults_at, TurnLemmas.{goes_none, goes_on}}
-use Rattle.cap_run_judge.specs.Turns.{run_turns}
-use Rattle.cap_run_judge.proofs.CountLemmas.{run_lawful}
 
 pub pieces-init : goal.pieces-init
 pieces-init g c =

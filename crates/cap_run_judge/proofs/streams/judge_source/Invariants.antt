@@ -1,9 +1,8 @@
 use Rattle.std.proofs.Common.{◌≡◌, ◌+◌, ◌-◌, ◌*◌, ◌++◌, ℕ, List, length}
 use Rattle.cap_streams.specs.{Front.IsCut, ReadBuffers.items}
-use Rattle.cap_run_judge.specs.{Readings.stage_of, Turns.unread}
+use Rattle.cap_run_judge.specs.{Readings.stage_of, Turns.{unread, run_turns}}
 use Rattle.cap_run_judge.proofs.streams.judge_source.Given as goal
 use Rattle.cap_turns.specs.Turns.{Goes, lines_read}
-use Rattle.cap_run_judge.specs.Turns.{run_turns}
 
 -- what was given is lines that were read, except less than a line, which the pulled holds
 abbrev pub invariant-pieces : goal.invariant-pieces

@@ -1,9 +1,8 @@
 use Rattle.std.proofs.Common.{ℕ, List, ◌++◌, ◌∙◌, ap, subst, sym, take, take-append-drop}
 use Rattle.cap_streams.specs.ReadBuffers.{items}
-use Rattle.cap_run_judge.specs.Readings.{stage_of}
+use Rattle.cap_run_judge.specs.{Readings.stage_of, Turns.run_turns}
 use Rattle.cap_run_judge.proofs.streams.take_pulled.Goals as goal
 use Rattle.cap_turns.specs.Readings.{StopsAt}
-use Rattle.cap_run_judge.specs.Turns.{run_turns}
 
 pub returns-clause-taken : goal.returns-clause-taken
 returns-clause-taken g c =

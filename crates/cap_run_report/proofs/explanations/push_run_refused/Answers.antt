@@ -1,6 +1,6 @@
 use Rattle.std.proofs.Common.{◌++◌, [], None, Some, arith, refl, subst}
 use Rattle.cap_streams.specs.FaultLines.{bytes_of}
-use Rattle.cap_run_judge.specs.{declared.verdict.RunVerdict.TheVariants.No, Readings.{stage_of}, Turns.unread}
+use Rattle.cap_run_judge.specs.{declared.verdict.RunVerdict.TheVariants.No, Readings.stage_of, Turns.{unread, run_turns}}
 use Rattle.cap_run_judge.specs.VerdictLines.{run_verdict_line}
 use Rattle.cap_report.proofs.WhyLemmas.{on_err, on_ok}
 use Rattle.cap_run_report.specs.LineReports.{IsRunLineReport}
@@ -8,7 +8,6 @@ use Rattle.cap_run_report.proofs.WhyLemmas.{so_far}
 use Rattle.cap_run_report.proofs.explanations.push_run_refused.Goals as goal
 use Rattle.cap_run.specs.Machines.{run_in}
 use Rattle.cap_turns.proofs.FollowLemmas.{clear_goes}
-use Rattle.cap_run_judge.specs.Turns.{run_turns}
 
 pub returns-in-None-clause-ok : goal.returns-in-None-clause-ok
 returns-in-None-clause-ok g c = λ asks bytes read.

@@ -1,8 +1,7 @@
 use Rattle.std.proofs.Common.{◌≢◌, [], rules}
 use Rattle.cap_machine.specs.Helds.{account_of}
-use Rattle.cap_judge.specs.Readings.{stage_of}
+use Rattle.cap_judge.specs.{Readings.stage_of, Turns.log_turns}
 use Rattle.cap_judge.proofs.TurnLemmas.{ends_refused, unended}
-use Rattle.cap_judge.specs.Turns.{log_turns}
 use Rattle.cap_turns.proofs.TurnLemmas.{ended_some}
 use Rattle.cap_judge.proofs.judges.Judge.ending.Goals as goal
 

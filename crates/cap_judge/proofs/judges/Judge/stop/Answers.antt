@@ -1,9 +1,8 @@
 use Rattle.std.proofs.Common.{inr, subst}
 use Rattle.cap_streams.specs.FaultLines.{bytes_of}
-use Rattle.cap_judge.specs.Readings.{EndsBytes, stage_of}
+use Rattle.cap_judge.specs.{Readings.{EndsBytes, stage_of}, Turns.log_turns}
 use Rattle.cap_judge.proofs.judges.Judge.stop.Goals as goal
 use Rattle.cap_turns.proofs.TurnLemmas.{goes_none, last_front}
-use Rattle.cap_judge.specs.Turns.{log_turns}
 
 pub returns-in-NoMemory-clause-stops : goal.returns-in-NoMemory-clause-stops
 returns-in-NoMemory-clause-stops g c =

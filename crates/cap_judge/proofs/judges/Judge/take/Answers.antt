@@ -1,8 +1,7 @@
 use Rattle.std.proofs.Common.{◌≡◌, ◌∙◌, [], None, Some, refl, rules}
-use Rattle.cap_judge.specs.Readings.{stage_of}
+use Rattle.cap_judge.specs.{Readings.stage_of, Turns.log_turns}
 use Rattle.cap_judge.proofs.judges.Judge.take.Goals as goal
 use Rattle.cap_turns.proofs.TurnLemmas.{goes_more, goes_none, stops_here}
-use Rattle.cap_judge.specs.Turns.{log_turns}
 
 pub lines-init : goal.lines-init
 lines-init g c = record { taken = ([], refl, goes_none log_turns (stage_of c.args.self.now)); same_room = refl }

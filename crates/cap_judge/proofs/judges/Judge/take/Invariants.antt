@@ -1,8 +1,7 @@
 use Rattle.std.proofs.Common.{◌≡◌, ◌++◌, ℕ, List, length}
-use Rattle.cap_judge.specs.Readings.{room_of, stage_of}
+use Rattle.cap_judge.specs.{Readings.{room_of, stage_of}, Turns.log_turns}
 use Rattle.cap_judge.proofs.judges.Judge.take.Given as goal
 use Rattle.cap_turns.specs.Turns.{Goes}
-use Rattle.cap_judge.specs.Turns.{log_turns}
 
 -- the lines so far are the front of the bytes
 abbrev pub invariant-lines : goal.invariant-lines

@@ -1,13 +1,10 @@
 use Rattle.std.proofs.Common.{[], ◌≡◌, ◌≢◌, ◌⊎◌, inl, inr, refl, subst}
 use Rattle.cap_log.specs.declared.lines.Line.{Line}
-use Rattle.cap_judge.specs.declared.judges.Due.TheVariants.{Body}
-use Rattle.cap_turns.specs.declared.stops.Stop.{Stop, TheVariants.{Cut, Fault}}
-use Rattle.cap_judge.specs.Readings.{Known, at, end_of, stage_of}
+use Rattle.cap_judge.specs.{declared.judges.Due.TheVariants.Body, Readings.{Known, at, end_of, stage_of}, Turns.log_turns}
+use Rattle.cap_turns.specs.{declared.stops.Stop.{Stop, TheVariants.{Cut, Fault}}, Verdicts.Lacks}
 use Rattle.cap_judge.proofs.TurnLemmas.{log_spelled, step_whole}
 use Rattle.cap_judge.proofs.judges.Judge.take_ended_step.Goals as goal
-use Rattle.cap_turns.specs.Verdicts.{Lacks}
 use Rattle.cap_turns.proofs.{FollowLemmas.{stop_follows, whole_lacks}, TurnLemmas.ends_at}
-use Rattle.cap_judge.specs.Turns.{log_turns}
 
 pub stop-requires-clause-ends : goal.stop-requires-clause-ends
 stop-requires-clause-ends g c =

@@ -1,10 +1,9 @@
 use Rattle.std.proofs.Common.{inl, inr, refl, rules, subst, sym, drop, take, ◌+◌}
 use Rattle.cap_streams.specs.Front.{IsFront}
-use Rattle.cap_judge.specs.Readings.{EndsBytes, Known, at, stage_of}
+use Rattle.cap_judge.specs.{Readings.{EndsBytes, Known, at, stage_of}, Turns.log_turns}
 use Rattle.cap_judge.proofs.TurnLemmas.{begins_by, text_ends_at}
 use Rattle.cap_judge.proofs.judges.Judge.take_found_line.Goals as goal
 use Rattle.cap_turns.proofs.TurnLemmas.{goes_none}
-use Rattle.cap_judge.specs.Turns.{log_turns}
 
 pub returns-in-Refused-clause-err : goal.returns-in-Refused-clause-err
 returns-in-Refused-clause-err g c =

@@ -1,9 +1,8 @@
 use Rattle.std.proofs.Common.{[], refl}
-use Rattle.cap_judge.specs.Readings.{stage_of}
+use Rattle.cap_judge.specs.{Readings.stage_of, Turns.log_turns}
 use Rattle.cap_judge.proofs.TurnLemmas.{front_end}
 use Rattle.cap_judge.proofs.judges.Judge.take_front_steps.Goals as goal
 use Rattle.cap_turns.proofs.TurnLemmas.{goes_none}
-use Rattle.cap_judge.specs.Turns.{log_turns}
 
 pub returns-in-Body-clause-taken : goal.returns-in-Body-clause-taken
 returns-in-Body-clause-taken g c = rw c.in-Body.is (let taken = c.take_steps.ensures.taken in (taken.0, taken.1, taken.2.goes))

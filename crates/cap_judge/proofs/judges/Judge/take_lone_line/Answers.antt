@@ -1,11 +1,9 @@
 use Rattle.std.proofs.Common.{[], ◌≡◌, ◌∙◌, Err, ap, rules, subst, true}
-use Rattle.cap_judge.specs.Readings.{Known, at, stage_of}
+use Rattle.cap_judge.specs.{Readings.{Known, at, stage_of}, Turns.log_turns}
 use Rattle.cap_judge.proofs.TurnLemmas.{log_spelled}
 use Rattle.cap_judge.proofs.judges.Judge.take_lone_line.Goals as goal
 use Rattle.cap_turns.specs.Verdicts.{Lacks}
-use Rattle.cap_turns.proofs.FollowLemmas.{stop_follows, whole_lacks, whole_taken}
-use Rattle.cap_turns.proofs.LineLemmas.{whole_uncut}
-use Rattle.cap_judge.specs.Turns.{log_turns}
+use Rattle.cap_turns.proofs.{FollowLemmas.{stop_follows, whole_lacks, whole_taken}, LineLemmas.whole_uncut}
 
 pub returns-in-Err-NoMemory-clause-no_memory : goal.returns-in-Err-NoMemory-clause-no_memory
 returns-in-Err-NoMemory-clause-no_memory g c = λ _.

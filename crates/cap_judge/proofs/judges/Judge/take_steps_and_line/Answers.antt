@@ -1,8 +1,7 @@
-use Rattle.cap_judge.specs.Readings.{stage_of}
+use Rattle.cap_judge.specs.{Readings.stage_of, Turns.log_turns}
 use Rattle.cap_judge.proofs.TurnLemmas.{goes_line_some}
 use Rattle.cap_judge.proofs.judges.Judge.take_steps_and_line.Goals as goal
 use Rattle.cap_turns.proofs.TurnLemmas.{stops_after}
-use Rattle.cap_judge.specs.Turns.{log_turns}
 
 pub returns-in-Some-clause-taken : goal.returns-in-Some-clause-taken
 returns-in-Some-clause-taken g c =

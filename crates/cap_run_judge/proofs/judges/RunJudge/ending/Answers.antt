@@ -1,7 +1,6 @@
 use Rattle.std.proofs.{Common.{◌≡◌, ◌≢◌, [], refl, rules}, lemmas.List.nil_from_length}
-use Rattle.cap_run_judge.specs.Readings.{stage_of}
+use Rattle.cap_run_judge.specs.{Readings.stage_of, Turns.run_turns}
 use Rattle.cap_run_judge.proofs.TurnLemmas.{ended_clear, ends_refused, unended}
-use Rattle.cap_run_judge.specs.Turns.{run_turns}
 use Rattle.cap_turns.proofs.TurnLemmas.{ended_some}
 use Rattle.cap_run_judge.proofs.judges.RunJudge.ending.Goals as goal
 

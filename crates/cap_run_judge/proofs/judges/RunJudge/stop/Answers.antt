@@ -1,9 +1,8 @@
 use Rattle.std.proofs.Common.{inr, subst}
 use Rattle.cap_streams.specs.FaultLines.{bytes_of}
-use Rattle.cap_run_judge.specs.Readings.{EndsBytes, stage_of}
+use Rattle.cap_run_judge.specs.{Readings.{EndsBytes, stage_of}, Turns.run_turns}
 use Rattle.cap_run_judge.proofs.judges.RunJudge.stop.Goals as goal
 use Rattle.cap_turns.proofs.TurnLemmas.{goes_none, last_front}
-use Rattle.cap_run_judge.specs.Turns.{run_turns}
 
 pub returns-in-NoMemory : goal.returns-in-NoMemory
 returns-in-NoMemory g c = record {

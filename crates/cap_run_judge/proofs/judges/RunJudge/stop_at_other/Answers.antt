@@ -1,9 +1,8 @@
 use Rattle.std.proofs.Common.{Some, ap, inr, sym, ◌∙◌}
-use Rattle.cap_run_judge.specs.Readings.{stage_of}
+use Rattle.cap_run_judge.specs.{Readings.stage_of, Turns.run_turns}
 use Rattle.cap_run_judge.proofs.judges.RunJudge.stop_at_other.Goals as goal
 use Rattle.cap_run_judge.proofs.judges.RunJudge.stop_at_other.Goals.{in-Line, in-TooLong}
 use Rattle.cap_turns.proofs.TurnLemmas.{formless, goes_none}
-use Rattle.cap_run_judge.specs.Turns.{run_turns}
 
 pub returns-in-Cut : goal.returns-in-Cut
 returns-in-Cut g c = record { stops = (goes_none run_turns (stage_of c.args.self.now), c.in-Cut.ensures.found, c.requires.clear) }

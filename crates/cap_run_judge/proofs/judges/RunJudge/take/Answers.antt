@@ -1,10 +1,8 @@
 use Rattle.std.proofs.{Common.{[], length, refl}, Math.Nat.sub-le}
-use Rattle.cap_run_judge.specs.Readings.{stage_of}
+use Rattle.cap_run_judge.specs.{Readings.stage_of, Turns.run_turns}
 use Rattle.cap_run_judge.proofs.TurnLemmas.{later_shorter}
 use Rattle.cap_run_judge.proofs.judges.RunJudge.take.Goals as goal
-use Rattle.cap_turns.proofs.TurnLemmas.{goes_line, goes_more, goes_none, stops_here}
-use Rattle.cap_turns.proofs.LineLemmas.{later_fits}
-use Rattle.cap_run_judge.specs.Turns.{run_turns}
+use Rattle.cap_turns.proofs.{TurnLemmas.{goes_line, goes_more, goes_none, stops_here}, LineLemmas.later_fits}
 
 pub lines-init : goal.lines-init
 lines-init g c = record { taken = ([], refl, goes_none run_turns (stage_of c.args.self.now)) }

@@ -1,11 +1,9 @@
 use Rattle.std.proofs.Common.{[], inl, refl, rules, subst, sym}
-use Rattle.cap_run_judge.specs.{Readings.{EndsBytes, end_of, stage_of}, Turns.Stage}
+use Rattle.cap_run_judge.specs.{Readings.{EndsBytes, end_of, stage_of}, Turns.{Stage, run_turns}}
 use Rattle.cap_run_judge.proofs.TurnLemmas.{clear_of, run_spelled}
 use Rattle.cap_run_judge.proofs.judges.RunJudge.take_any_line.Goals as goal
-use Rattle.cap_turns.specs.Turns.{IsAtFault}
-use Rattle.cap_turns.specs.Readings.{StopsAt}
+use Rattle.cap_turns.specs.{Turns.IsAtFault, Readings.StopsAt}
 use Rattle.cap_turns.proofs.TurnLemmas.{ends_at, goes_none}
-use Rattle.cap_run_judge.specs.Turns.{run_turns}
 
 pub returns-in-Refused-clause-err : goal.returns-in-Refused-clause-err
 returns-in-Refused-clause-err g c =

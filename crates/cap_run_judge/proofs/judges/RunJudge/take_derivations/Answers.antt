@@ -1,10 +1,9 @@
 use Rattle.std.proofs.Common.{[], refl, subst, sym}
 use Rattle.cap_run.proofs.StepTakingLemmas.{line_shorter}
-use Rattle.cap_run_judge.specs.{Readings.stage_of, Turns.Stage}
+use Rattle.cap_run_judge.specs.{Readings.stage_of, Turns.{Stage, run_turns}}
 use Rattle.cap_run_judge.proofs.judges.RunJudge.take_derivations.Goals as goal
 use Rattle.cap_turns.specs.Turns.{Goes}
 use Rattle.cap_turns.proofs.TurnLemmas.{goes_line, goes_none}
-use Rattle.cap_run_judge.specs.Turns.{run_turns}
 
 pub lines-init : goal.lines-init
 lines-init g c = record { taken = ([], refl, goes_none run_turns (stage_of c.args.self.now)); body = c.requires }

@@ -1,9 +1,7 @@
 use Rattle.std.proofs.Common.{◌≡◌, ◌++◌, ℕ, List, length}
-use Rattle.cap_run_judge.specs.declared.judges.Due.TheVariants.{Body}
-use Rattle.cap_run_judge.specs.Readings.{stage_of}
+use Rattle.cap_run_judge.specs.{declared.judges.Due.TheVariants.Body, Readings.stage_of, Turns.run_turns}
 use Rattle.cap_run_judge.proofs.judges.RunJudge.take_derivations.Given as goal
 use Rattle.cap_turns.specs.Turns.{Goes}
-use Rattle.cap_run_judge.specs.Turns.{run_turns}
 
 -- the lines so far are the front of the bytes
 abbrev pub invariant-lines : goal.invariant-lines

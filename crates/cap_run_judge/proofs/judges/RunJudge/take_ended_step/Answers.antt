@@ -1,16 +1,11 @@
 use Rattle.std.proofs.Common.{[], ◌≡◌, ◌≢◌, ◌⊎◌, inl, inr, subst}
 use Rattle.cap_judge.specs.declared.verdict.TakeFault.TheVariants.{NoLine, NoMemory}
-use Rattle.cap_turns.specs.declared.stops.Stop.{Stop, TheVariants.{Cut, Fault}}
-use Rattle.cap_run_judge.specs.{Readings.{end_of, stage_of}, Turns.Stage}
-use Rattle.cap_run_judge.proofs.FollowLemmas.{ok_no_err}
+use Rattle.cap_turns.specs.{declared.stops.Stop.{Stop, TheVariants.{Cut, Fault}}, Readings.StopsAt, Verdicts.Lacks}
+use Rattle.cap_run_judge.specs.{Readings.{end_of, stage_of}, Turns.{Stage, run_turns}}
+use Rattle.cap_run_judge.proofs.{FollowLemmas.ok_no_err, TurnLemmas.run_spelled}
 use Rattle.cap_run_judge.proofs.judges.RunJudge.take_ended_step.Goals as goal
-use Rattle.cap_turns.proofs.LineLemmas.{whole_uncut}
-use Rattle.cap_turns.specs.Readings.{StopsAt}
-use Rattle.cap_turns.specs.Verdicts.{Lacks}
-use Rattle.cap_turns.proofs.FollowLemmas.{line_whole, stop_follows, whole_lacks}
+use Rattle.cap_turns.proofs.{LineLemmas.whole_uncut, FollowLemmas.{line_whole, stop_follows, whole_lacks}}
 use Rattle.cap_turns.proofs.TurnLemmas.{ends_at, nothing_goes}
-use Rattle.cap_run_judge.specs.Turns.{run_turns}
-use Rattle.cap_run_judge.proofs.TurnLemmas.{run_spelled}
 
 pub stop-requires-clause-ends : goal.stop-requires-clause-ends
 stop-requires-clause-ends g c =

@@ -3,18 +3,13 @@ use Rattle.cap_judge.specs.declared.verdict.TakeFault.TheVariants.{NoLine, NoMem
 use Rattle.cap_log.specs.declared.kinds.Step.{Step}
 use Rattle.cap_run.specs.{declared.{asks.Asks.Asks, ends.RunEnd.RunEnd}, Run.Run, RunChanges.usual_after, RunChecks.{Answers, usual_end, usual_wants}, StepLines.TakesAlone}
 use Rattle.cap_run_log.specs.{declared.lines.RunLine.RunLine, RunLines.run_spelling}
-use Rattle.cap_run_judge.specs.{Readings.{AnswersLine, EndsLine, due_of, stage_of}, Turns.Stage}
-use Rattle.cap_run_judge.proofs.{FollowLemmas.ok_no_err, TurnLemmas.{body, body_answers}}
+use Rattle.cap_run_judge.specs.{Readings.{AnswersLine, EndsLine, due_of, stage_of}, Turns.{Stage, run_turns}}
+use Rattle.cap_run_judge.proofs.{FollowLemmas.ok_no_err, TurnLemmas.{body, body_answers, run_spelled, asked}}
 use Rattle.cap_run.proofs.StepTakingLemmas.{err_same}
 use Rattle.cap_run_judge.proofs.judges.RunJudge.take_line.Goals as goal
 use Rattle.cap_run.specs.Machines.{run_in}
-use Rattle.cap_turns.specs.Readings.{Follows}
-use Rattle.cap_turns.specs.Turns.{Body, Due}
-use Rattle.cap_turns.specs.Verdicts.{Lacks}
-use Rattle.cap_turns.proofs.FollowLemmas.{line_whole, whole_taken}
-use Rattle.cap_turns.proofs.TurnLemmas.{line_is}
-use Rattle.cap_run_judge.specs.Turns.{run_turns}
-use Rattle.cap_run_judge.proofs.TurnLemmas.{run_spelled, asked}
+use Rattle.cap_turns.specs.{Readings.Follows, Turns.{Body, Due}, Verdicts.Lacks}
+use Rattle.cap_turns.proofs.{FollowLemmas.{line_whole, whole_taken}, TurnLemmas.line_is}
 use Rattle.cap_run.specs.declared.ends.RunRefusal.{RunRefusal}
 
 -- a machine that changed nothing leads to the same stage

@@ -1,14 +1,10 @@
 use Rattle.std.proofs.Common.{[], ◌∙◌, Err, Ok, ap, refl, subst, sym}
-use Rattle.cap_run_judge.specs.{Readings.stage_of, Turns.Stage}
+use Rattle.cap_run_judge.specs.{Readings.stage_of, Turns.{Stage, run_turns}}
 use Rattle.cap_judge.specs.declared.verdict.TakeFault.TheVariants.{NoLine, NoMemory}
-use Rattle.cap_run_judge.proofs.FollowLemmas.{memory_no_line, ok_no_err, whole_is_line}
+use Rattle.cap_run_judge.proofs.{FollowLemmas.{memory_no_line, ok_no_err, whole_is_line}, TurnLemmas.run_spelled}
 use Rattle.cap_run_judge.proofs.judges.RunJudge.take_lone_line.Goals as goal
 use Rattle.cap_turns.specs.Verdicts.{Lacks}
-use Rattle.cap_turns.proofs.LineLemmas.{whole_uncut}
-use Rattle.cap_turns.proofs.TurnLemmas.{nothing_goes}
-use Rattle.cap_turns.proofs.FollowLemmas.{stop_follows, whole_lacks, whole_taken}
-use Rattle.cap_run_judge.specs.Turns.{run_turns}
-use Rattle.cap_run_judge.proofs.TurnLemmas.{run_spelled}
+use Rattle.cap_turns.proofs.{LineLemmas.whole_uncut, TurnLemmas.nothing_goes, FollowLemmas.{stop_follows, whole_lacks, whole_taken}}
 
 pub returns-in-Err-NoMemory-clause-unchanged : goal.returns-in-Err-NoMemory-clause-unchanged
 returns-in-Err-NoMemory-clause-unchanged g c =

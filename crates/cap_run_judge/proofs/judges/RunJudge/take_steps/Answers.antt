@@ -1,13 +1,11 @@
 use Rattle.std.proofs.Common.{[], refl, subst, sym}
 use Rattle.cap_run.specs.declared.asks.Asks.{Asks}
-use Rattle.cap_run_judge.specs.Readings.{stage_of}
+use Rattle.cap_run_judge.specs.{Readings.stage_of, Turns.run_turns}
 use Rattle.cap_run_judge.proofs.TurnLemmas.{body, steps_go}
 use Rattle.cap_run_judge.proofs.judges.RunJudge.take_steps.Goals as goal
 use Rattle.cap_run.specs.Machines.{run_in}
 use Rattle.cap_turns.specs.Turns.{Goes}
-use Rattle.cap_turns.proofs.TurnLemmas.{goes_more, goes_none}
-use Rattle.cap_turns.proofs.LineLemmas.{later_smaller}
-use Rattle.cap_run_judge.specs.Turns.{run_turns}
+use Rattle.cap_turns.proofs.{TurnLemmas.{goes_more, goes_none}, LineLemmas.later_smaller}
 
 pub lines-init : goal.lines-init
 lines-init g c = record { taken = ([], refl, goes_none run_turns (stage_of c.args.self.now)); body = c.requires }
