@@ -696,11 +696,14 @@ def EscapesExactly(data, verdict, beginning, account):  # 4.12
     return verdict[0] == "Yes" or (verdict[2] == "BoundsEscape") == FaultEscapes(beginning[0], account, rest)
 
 
-REFUSALS = ("BadHeader LineTooLong BadLine Misplaced Truncated WrongCount PlaceTaken UnsoundRoot SourceUntagged SourceSealed BoundsEscape NotExact "
-            "NotRepresentable AuthorityUntagged AuthoritySealed AuthorityPermission AuthorityBounds TypeOutOfRange TypeMismatch Misaligned "
-            "StoreCapPermission StoreLocalPermission WrongResult LimitPassed BadMode").split()
-def refusal_number(refusal): return REFUSALS.index(refusal) + 1  # 18.20
-def refusal_name(refusal): return refusal  # 18.21
+refusal_names = ["", *(  # 18.32
+    "BadHeader LineTooLong BadLine Misplaced Truncated WrongCount PlaceTaken UnsoundRoot SourceUntagged SourceSealed BoundsEscape NotExact "
+    "NotRepresentable AuthorityUntagged AuthoritySealed AuthorityPermission AuthorityBounds TypeOutOfRange TypeMismatch Misaligned "
+    "StoreCapPermission StoreLocalPermission WrongResult LimitPassed BadMode AddressTaken OutsideHeap Overlaps NotLive UnsoundResult "
+    "BeyondSource SealChanged NotInvokable NoCapability HasOwner StillHeld NoOwner AlreadyFreed OwnerFreed NoObject NotOwned").split()]
+def refusal_name_at(number): return refusal_names[number] if number < len(refusal_names) else ""  # 18.31
+def refusal_number(refusal): return refusal_names.index(refusal)  # 18.20
+def refusal_name(refusal): return refusal_name_at(refusal_number(refusal))  # 18.21
 
 
 def verdict_line(verdict):  # 4.10

@@ -9,15 +9,11 @@ import sys
 import types
 
 from transcribed import *  # noqa: F403
-from transcribed import REFUSALS as USUAL  # the refusals of version 2 by their numbers, from 1 on
 
 first_special = 2**60 + 32  # the key of scr0
 unsealed_type, sentry_type = 0x3FFFF, 0x3FFFE
 most = 4294967295  # of roots, of steps, and of granules
-RUN_REFUSALS = {
-    28: "Overlaps", 30: "UnsoundResult", 31: "BeyondSource", 32: "SealChanged", 33: "NotInvokable", 34: "NoCapability", 35: "HasOwner",
-    36: "StillHeld", 37: "NoOwner", 38: "AlreadyFreed", 39: "OwnerFreed", 40: "NoObject", 41: "NotOwned",
-}
+RUN_REFUSALS = {number: refusal_names[number] for number in (28, *range(30, 42))}  # those that version 2 doesn't have
 
 
 # Lines: a name, and what it has
@@ -353,15 +349,10 @@ def run_verdict(data, asks):
         number, at = number + 1, data.index(10, at) + 1
 
 
-def numbered_refusal(name):
-    names = {text: number for number, text in RUN_REFUSALS.items()}
-    return names[name] if name in names else USUAL.index(name) + 1
-
-
 def verdict_text(verdict):
     if verdict[0] == "Yes":
         return "yes {} {} {}\n".format(*verdict[1:])
-    return f"no {verdict[1]} {numbered_refusal(verdict[2])} {verdict[2]}\n"
+    return f"no {verdict[1]} {refusal_number(verdict[2])} {verdict[2]}\n"
 
 
 def owners_text(run):

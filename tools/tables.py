@@ -1,5 +1,7 @@
 #!/usr/bin/env python3
 """The tables of docs/STANDARD.md, its diagram and its grammar, each made of definitions or compared with them."""
+import functools
+import glob
 import os
 import re
 
@@ -54,16 +56,52 @@ def rows_of(head, rows):
 # Refusals and steps
 
 
+def numbers_of(module, definition, declared):
+    """The number of each refusal of a type, and what its declaration says of it, compared with the one table of names."""
+    numbers = {name: int(number) for name, number in re.findall(rf"{definition} (?:refusals\.)?(\w+) = (\d+)", "\n".join(text_of(module, definition)))}
+    told = {m[3]: (int(m[1]), re.sub(r"\s*\n\s*/// ", " ", m[2])) for m in re.finditer(r"    /// (\d+): ((?:[^\n]*\n    /// )*[^\n]*)\n    (\w+)(?: = \1)?,", read(declared))}
+    names = one_table()[0]
+    if any(names[number] != name for name, number in numbers.items()) or numbers != {name: number for name, (number, _) in told.items()}:
+        fail(f"{definition}, the declarations and the names of the refusals differ")
+    return told
+
+
 def refusals():
-    """Number and name of each refusal, and what its declaration says of it."""
-    module = ("cap_ops", "Refusals")
-    numbers = dict(re.findall(r"refusal_number (\w+) = (\d+)", "\n".join(text_of(module, "refusal_number"))))
-    names = dict(re.findall(r'refusal_name (\w+) = codes "(\w+)"', "\n".join(text_of(module, "refusal_name"))))
-    source = read("crates/cap_ops/src/refusal.rt")
-    told = {m[2]: (m[3], re.sub(r"\s*\n\s*/// ", " ", m[1])) for m in re.finditer(r"    /// \d+: ((?:[^\n]*\n    /// )*[^\n]*)\n    (\w+) = (\d+),", source)}
-    if not set(numbers) == set(names) == set(told) or any(names[it] != it or told[it][0] != numbers[it] for it in numbers):
-        fail("the refusals' numbers, names and declarations differ")
-    return {it: (int(number), told[it][1]) for it, number in numbers.items()}
+    """Number of each refusal of a log of operations, and what its declaration says of it."""
+    return numbers_of(("cap_ops", "Refusals"), "refusal_number", "crates/cap_ops/src/refusal.rt")
+
+
+@functools.cache
+def one_table():
+    """The names and the sentences of all refusals by their numbers."""
+    found = [["", *re.findall(r'codes "([^"]*)"', "\n".join(text_of(("cap_ops", "Refusals"), it)))] for it in ("refusal_names", "refusal_sentences")]
+    return found if len(found[0]) == len(found[1]) else fail("not each refusal has a name and a sentence")
+
+
+def compare_refusals():
+    """Compares with the one table of refusals what tells their numbers, names or sentences again."""
+    numbers_of(("cap_run_judge", "VerdictLines"), "run_refusal_number", "crates/cap_run/src/ends.rt")
+    numbers_of(("cap_heap", "Refusals"), "heap_refusal_number", "crates/cap_heap/src/refusal.rt")
+    names, sentences = one_table()
+    numbers = {name: str(number) for number, name in enumerate(names) if number}
+    upper = {re.sub(r"(?<!^)(?=[A-Z])", "_", name).upper(): number for name, number in numbers.items()}
+    header = read("include/capcheck_names.h").split("static inline ")
+    python = re.search(r"^class Refusal\(.*?\n\n", read("python/capcheck/words.py"), re.M | re.S)[0]
+    rust = re.search(r"^refusals! \{.*?^\}", read("rust/src/refusals.rs"), re.M | re.S)[0]
+    for place, found, wanted in (
+            ("capcheck_names.h", dict(re.findall(r'case (\d+): return "(\w+)"', header[1])), {str(it): name for it, name in enumerate(names) if it} | {"255": "BadArgument"}),
+            ("capcheck_names.h", dict(re.findall(r'case (\d+): return "(.*)"', header[2])), {str(it): text for it, text in enumerate(sentences) if it}),
+            ("python/capcheck/words.py", dict(re.findall(r"(\w+) = (\d+)", python)), upper | {"BAD_ARGUMENT": "255"}),
+            ("rust/src/refusals.rs", dict(re.findall(r"(\w+) = (\d+)", rust)), numbers | {"BadArgument": "255"})):
+        if found != wanted:
+            fail(f"{place} doesn't have the refusals as refusal_names and refusal_sentences have them")
+    for path in [*glob.glob("docs/*.md"), *glob.glob("include/*.h"), *glob.glob("web/*.md"), "README.md"]:
+        text = read(path)
+        told = [(name, number) for number, name in re.findall(r"^\| (\d+) \| `(\w+)`", text, re.M) + re.findall(r"(?<![\d,])\b(\d+) `(\w+)`", text) if name in numbers]
+        told += [(name, number) for name, number in re.findall(r"CAPCHECK_(\w+) = (\d+)", text) if name in upper]
+        wrong = [it for it in told if (numbers | upper)[it[0]] != it[1]]
+        if wrong:
+            fail(f"{path} has refusals with other numbers: {wrong}")
 
 
 def step_rows():
@@ -166,6 +204,7 @@ def beside(name, text):
 
 
 def refusals_table():
+    compare_refusals()
     rows = step_rows()
     found, told = places_of_refusals(rows), []
     is_access = {kind: row["access"] != ("name", "None") for kind, row in rows.items()}

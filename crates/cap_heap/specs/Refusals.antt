@@ -1,5 +1,6 @@
 -- The refusals of an allocator's log: their numbers and their names.
-use Rattle.std.specs.Prelude.{ℕ, List, codes}
+use Rattle.std.specs.Prelude.{ℕ, List}
+use Rattle.cap_ops.specs.Refusals.{refusal_name_at}
 use Rattle.cap_heap.specs.declared.refusal.HeapRefusal.{HeapRefusal, TheVariants.{BadHeader, LineTooLong, BadLine}}
 use Rattle.cap_heap.specs.declared.refusal.HeapRefusal.TheVariants.{Misplaced, Truncated, WrongCount, LimitPassed}
 use Rattle.cap_heap.specs.declared.refusal.HeapRefusal.TheVariants.{AddressTaken, OutsideHeap, Overlaps, NotLive}
@@ -18,16 +19,6 @@ heap_refusal_number OutsideHeap = 27
 heap_refusal_number Overlaps = 28
 heap_refusal_number NotLive = 29
 
--- a refusal's name (this profile's own)
+-- a refusal's name, that of its number
 abbrev pub heap_refusal_name : HeapRefusal → List ℕ
-heap_refusal_name BadHeader = codes "BadHeader"
-heap_refusal_name LineTooLong = codes "LineTooLong"
-heap_refusal_name BadLine = codes "BadLine"
-heap_refusal_name Misplaced = codes "Misplaced"
-heap_refusal_name Truncated = codes "Truncated"
-heap_refusal_name WrongCount = codes "WrongCount"
-heap_refusal_name LimitPassed = codes "LimitPassed"
-heap_refusal_name AddressTaken = codes "AddressTaken"
-heap_refusal_name OutsideHeap = codes "OutsideHeap"
-heap_refusal_name Overlaps = codes "Overlaps"
-heap_refusal_name NotLive = codes "NotLive"
+heap_refusal_name refusal = refusal_name_at (heap_refusal_number refusal)

@@ -1,6 +1,8 @@
-//! The reasons for which a line of an allocator's log is refused: the one table of their numbers and names.
+//! The reasons for which a line of an allocator's log is refused, and their numbers.
 
 ghost use Rattle.std.specs.Prelude.{◌≡◌, ◌≤◌, length};
+
+use cap_ops::refusal_name_at;
 
 /// Why an allocator's log is refused: the first check that a line fails. The numbers and names are this
 /// profile's own, and the first seven are those of the log of operations.
@@ -46,18 +48,6 @@ impl HeapRefusal {
         ensures name { result.now ≡ heap_refusal_name self.now }
         ensures short { length result.now ≤ 12 }
     {
-        match self {
-            HeapRefusal::BadHeader => "BadHeader",
-            HeapRefusal::LineTooLong => "LineTooLong",
-            HeapRefusal::BadLine => "BadLine",
-            HeapRefusal::Misplaced => "Misplaced",
-            HeapRefusal::Truncated => "Truncated",
-            HeapRefusal::WrongCount => "WrongCount",
-            HeapRefusal::LimitPassed => "LimitPassed",
-            HeapRefusal::AddressTaken => "AddressTaken",
-            HeapRefusal::OutsideHeap => "OutsideHeap",
-            HeapRefusal::Overlaps => "Overlaps",
-            HeapRefusal::NotLive => "NotLive",
-        }
+        refusal_name_at(self.number())
     }
 }

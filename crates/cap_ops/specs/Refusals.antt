@@ -1,5 +1,5 @@
--- The refusals: their numbers and their names.
-use Rattle.std.specs.Prelude.{ℕ, List, codes}
+-- The refusals: their numbers, their names and a sentence for each.
+use Rattle.std.specs.Prelude.{ℕ, List, [], ◌∷◌, codes, get_or}
 use Rattle.cap_ops.specs.declared.{faults.OpFault.OpFault, refusal.Refusal.Refusal}
 use Rattle.cap_ops.specs.declared.refusal.Refusal.TheVariants.{BadHeader, LineTooLong, BadLine, Misplaced, Truncated}
 use Rattle.cap_ops.specs.declared.refusal.Refusal.TheVariants.{WrongCount, PlaceTaken, UnsoundRoot, SourceUntagged}
@@ -38,33 +38,78 @@ refusal_number WrongResult = 23
 refusal_number LimitPassed = 24
 refusal_number BadMode = 25
 
--- a refusal's name (this profile's own)
+-- the names of all refusals by their numbers, from 0, which is none: from 26 on those that only logs of allocators and run
+-- logs have (this profile's own)
+abbrev pub refusal_names : List (List ℕ)
+refusal_names =
+    [] ∷ codes "BadHeader" ∷ codes "LineTooLong" ∷ codes "BadLine" ∷ codes "Misplaced" ∷ codes "Truncated"
+    ∷ codes "WrongCount" ∷ codes "PlaceTaken" ∷ codes "UnsoundRoot" ∷ codes "SourceUntagged"
+    ∷ codes "SourceSealed" ∷ codes "BoundsEscape" ∷ codes "NotExact" ∷ codes "NotRepresentable"
+    ∷ codes "AuthorityUntagged" ∷ codes "AuthoritySealed" ∷ codes "AuthorityPermission"
+    ∷ codes "AuthorityBounds" ∷ codes "TypeOutOfRange" ∷ codes "TypeMismatch" ∷ codes "Misaligned"
+    ∷ codes "StoreCapPermission" ∷ codes "StoreLocalPermission" ∷ codes "WrongResult" ∷ codes "LimitPassed"
+    ∷ codes "BadMode" ∷ codes "AddressTaken" ∷ codes "OutsideHeap" ∷ codes "Overlaps" ∷ codes "NotLive"
+    ∷ codes "UnsoundResult" ∷ codes "BeyondSource" ∷ codes "SealChanged" ∷ codes "NotInvokable"
+    ∷ codes "NoCapability" ∷ codes "HasOwner" ∷ codes "StillHeld" ∷ codes "NoOwner" ∷ codes "AlreadyFreed"
+    ∷ codes "OwnerFreed" ∷ codes "NoObject" ∷ codes "NotOwned" ∷ []
+
+-- the name of the refusal with a number, and none of a number that no refusal has
+abbrev pub refusal_name_at : ℕ → List ℕ
+refusal_name_at number = get_or refusal_names number []
+
+-- why a line is refused, by the same numbers (this profile's own)
+abbrev pub refusal_sentences : List (List ℕ)
+refusal_sentences =
+    []
+    ∷ codes "The first line is neither `capcheck 1` nor `capcheck 2`."
+    ∷ codes "The line has more than 95 bytes."
+    ∷ codes "The line has none of the forms of the log's version."
+    ∷ codes "The line may not stand here."
+    ∷ codes "The bytes end before a line feed, or before the end line."
+    ∷ codes "The end line's number isn't the number of steps."
+    ∷ codes "The root's place has a root already."
+    ∷ codes "The root's word isn't sound."
+    ∷ codes "The source is untagged, and the step needs a tagged one."
+    ∷ codes "The source is sealed, and the step needs an unsealed one."
+    ∷ codes "The rounded bounds don't lie inside the source's bounds."
+    ∷ codes "Rounding changes the requested bounds."
+    ∷ codes "The new address doesn't keep the source's bounds."
+    ∷ codes "The authority is untagged."
+    ∷ codes "The authority is sealed."
+    ∷ codes "The authority lacks the permission that the step needs."
+    ∷ codes "The authority's address, or a byte of the access, lies outside the authority's bounds."
+    ∷ codes "The authority's address is above the greatest ordinary object type."
+    ∷ codes "The source's object type isn't the authority's address, or is reserved."
+    ∷ codes "The address of the access is no multiple of its size."
+    ∷ codes "A tagged capability is stored without Store Capability."
+    ∷ codes "A tagged capability that isn't Global is stored without Store Local Capability."
+    ∷ codes "The recorded result or value isn't the machine's."
+    ∷ codes "A limit on roots, granules or steps is passed."
+    ∷ codes "The line after the version line of version 2 is no mode line."
+    ∷ codes "An object lives at this very address."
+    ∷ codes "The rounded bounds don't lie inside the root's."
+    ∷ codes "The extent shares an address with that of a live object."
+    ∷ codes "No object lives at the address that is freed."
+    ∷ codes "The recorded word isn't sound."
+    ∷ codes "The word has bounds or permissions beyond its source's."
+    ∷ codes "The seal isn't kept."
+    ∷ codes "The two registers hold no pair for CInvoke."
+    ∷ codes "The register has no tag, or is sealed where it has to be unsealed."
+    ∷ codes "The register has an owner already."
+    ∷ codes "A capability of a freed object still reaches the memory that is handed out."
+    ∷ codes "No object owns what is freed."
+    ∷ codes "The object was freed before."
+    ∷ codes "The object that owns the authority of the access was freed."
+    ∷ codes "No object with this number was handed out."
+    ∷ codes "The authority of the access has no owner, and a byte of a live object is touched."
+    ∷ []
+
+abbrev pub refusal_sentence_at : ℕ → List ℕ
+refusal_sentence_at number = get_or refusal_sentences number []
+
+-- a refusal's name
 abbrev pub refusal_name : Refusal → List ℕ
-refusal_name BadHeader = codes "BadHeader"
-refusal_name LineTooLong = codes "LineTooLong"
-refusal_name BadLine = codes "BadLine"
-refusal_name Misplaced = codes "Misplaced"
-refusal_name Truncated = codes "Truncated"
-refusal_name WrongCount = codes "WrongCount"
-refusal_name PlaceTaken = codes "PlaceTaken"
-refusal_name UnsoundRoot = codes "UnsoundRoot"
-refusal_name SourceUntagged = codes "SourceUntagged"
-refusal_name SourceSealed = codes "SourceSealed"
-refusal_name BoundsEscape = codes "BoundsEscape"
-refusal_name NotExact = codes "NotExact"
-refusal_name NotRepresentable = codes "NotRepresentable"
-refusal_name AuthorityUntagged = codes "AuthorityUntagged"
-refusal_name AuthoritySealed = codes "AuthoritySealed"
-refusal_name AuthorityPermission = codes "AuthorityPermission"
-refusal_name AuthorityBounds = codes "AuthorityBounds"
-refusal_name TypeOutOfRange = codes "TypeOutOfRange"
-refusal_name TypeMismatch = codes "TypeMismatch"
-refusal_name Misaligned = codes "Misaligned"
-refusal_name StoreCapPermission = codes "StoreCapPermission"
-refusal_name StoreLocalPermission = codes "StoreLocalPermission"
-refusal_name WrongResult = codes "WrongResult"
-refusal_name LimitPassed = codes "LimitPassed"
-refusal_name BadMode = codes "BadMode"
+refusal_name refusal = refusal_name_at (refusal_number refusal)
 
 -- the refusal that a fault of an operation or an access is, of the same name
 abbrev pub refusal_of : OpFault → Refusal

@@ -15,6 +15,7 @@ mod narrowing;
 mod permissions;
 mod recent;
 mod refusal;
+mod refusal_names;
 mod roots;
 mod sealing;
 
@@ -35,5 +36,6 @@ pub use crate::narrowing::{set_bounds, set_bounds_soundly};
 pub use crate::permissions::{and_perm, clear_tag, perm_view};
 pub use crate::recent::RecentAuthority;
 pub use crate::refusal::Refusal;
+pub use crate::refusal_names::{refusal_name_at, refusal_sentence_at};
 pub use crate::roots::root_word;
 pub use crate::sealing::{GREATEST_TYPE, UNSEALED_TYPE, seal, sealed, unseal};

@@ -1,8 +1,9 @@
-//! The 25 reasons for which a line of a log is refused: the one table of their numbers and names.
+//! The 25 reasons for which a line of a log is refused, and their numbers.
 
 ghost use Rattle.std.specs.Prelude.{◌≡◌, ◌≤◌, length};
 
 use crate::faults::OpFault;
+use crate::refusal_names::refusal_name_at;
 
 /// Why a line of a log is refused: the first check that fails. The numbers and names are this profile's own.
 #[derive(Debug, Clone, Copy, PartialEq, Eq)]
@@ -76,33 +77,7 @@ impl Refusal {
         ensures name { result.now ≡ refusal_name self.now }
         ensures short { length result.now ≤ 20 }
     {
-        match self {
-            Refusal::BadHeader => "BadHeader",
-            Refusal::LineTooLong => "LineTooLong",
-            Refusal::BadLine => "BadLine",
-            Refusal::Misplaced => "Misplaced",
-            Refusal::Truncated => "Truncated",
-            Refusal::WrongCount => "WrongCount",
-            Refusal::PlaceTaken => "PlaceTaken",
-            Refusal::UnsoundRoot => "UnsoundRoot",
-            Refusal::SourceUntagged => "SourceUntagged",
-            Refusal::SourceSealed => "SourceSealed",
-            Refusal::BoundsEscape => "BoundsEscape",
-            Refusal::NotExact => "NotExact",
-            Refusal::NotRepresentable => "NotRepresentable",
-            Refusal::AuthorityUntagged => "AuthorityUntagged",
-            Refusal::AuthoritySealed => "AuthoritySealed",
-            Refusal::AuthorityPermission => "AuthorityPermission",
-            Refusal::AuthorityBounds => "AuthorityBounds",
-            Refusal::TypeOutOfRange => "TypeOutOfRange",
-            Refusal::TypeMismatch => "TypeMismatch",
-            Refusal::Misaligned => "Misaligned",
-            Refusal::StoreCapPermission => "StoreCapPermission",
-            Refusal::StoreLocalPermission => "StoreLocalPermission",
-            Refusal::WrongResult => "WrongResult",
-            Refusal::LimitPassed => "LimitPassed",
-            Refusal::BadMode => "BadMode",
-        }
+        refusal_name_at(self.number())
     }
 }
 

@@ -1,6 +1,6 @@
 -- The refusals of run logs by number and name, the line of a verdict, and its exit status. All of it is this profile's own.
 use Rattle.std.specs.Prelude.{ℕ, List, ◌++◌, codes, decimal}
-use Rattle.cap_ops.specs.Refusals.{refusal_number, refusal_name}
+use Rattle.cap_ops.specs.Refusals.{refusal_number, refusal_name_at}
 use Rattle.cap_run.specs.declared.ends.RunRefusal.{RunRefusal}
 use Rattle.cap_run.specs.declared.ends.RunRefusal.TheVariants as refusals
 use Rattle.cap_run_judge.specs.declared.verdict.RunVerdict.{RunVerdict, TheVariants.{Yes, No}}
@@ -22,22 +22,9 @@ run_refusal_number refusals.OwnerFreed = 39
 run_refusal_number refusals.NoObject = 40
 run_refusal_number refusals.NotOwned = 41
 
--- a refusal's name
+-- a refusal's name, that of its number
 abbrev pub run_refusal_name : RunRefusal → List ℕ
-run_refusal_name (refusals.Usual refusal) = refusal_name refusal
-run_refusal_name refusals.Overlaps = codes "Overlaps"
-run_refusal_name refusals.UnsoundResult = codes "UnsoundResult"
-run_refusal_name refusals.BeyondSource = codes "BeyondSource"
-run_refusal_name refusals.SealChanged = codes "SealChanged"
-run_refusal_name refusals.NotInvokable = codes "NotInvokable"
-run_refusal_name refusals.NoCapability = codes "NoCapability"
-run_refusal_name refusals.HasOwner = codes "HasOwner"
-run_refusal_name refusals.StillHeld = codes "StillHeld"
-run_refusal_name refusals.NoOwner = codes "NoOwner"
-run_refusal_name refusals.AlreadyFreed = codes "AlreadyFreed"
-run_refusal_name refusals.OwnerFreed = codes "OwnerFreed"
-run_refusal_name refusals.NoObject = codes "NoObject"
-run_refusal_name refusals.NotOwned = codes "NotOwned"
+run_refusal_name refusal = refusal_name_at (run_refusal_number refusal)
 
 -- the verdict as a line
 abbrev pub run_verdict_line : RunVerdict → List ℕ

@@ -6,6 +6,7 @@ ghost use Rattle.cap_run_judge.specs.VerdictLines.{run_refusal_name, run_refusal
 
 use crate::verdict::RunVerdict;
 use cap_log::buffers::{put, put_decimal};
+use cap_ops::refusal_name_at;
 use cap_run::RunRefusal;
 
 /// The number that a verdict line shows for a refusal, 1 to 41.
@@ -36,22 +37,7 @@ pub fn run_refusal_name(refusal: RunRefusal) -> &'static str
     ensures name { result.now ≡ run_refusal_name refusal }
     ensures short { length result.now ≤ 20 }
 {
-    match refusal {
-        RunRefusal::Usual(usual) => usual.name(),
-        RunRefusal::Overlaps => "Overlaps",
-        RunRefusal::UnsoundResult => "UnsoundResult",
-        RunRefusal::BeyondSource => "BeyondSource",
-        RunRefusal::SealChanged => "SealChanged",
-        RunRefusal::NotInvokable => "NotInvokable",
-        RunRefusal::NoCapability => "NoCapability",
-        RunRefusal::HasOwner => "HasOwner",
-        RunRefusal::StillHeld => "StillHeld",
-        RunRefusal::NoOwner => "NoOwner",
-        RunRefusal::AlreadyFreed => "AlreadyFreed",
-        RunRefusal::OwnerFreed => "OwnerFreed",
-        RunRefusal::NoObject => "NoObject",
-        RunRefusal::NotOwned => "NotOwned",
-    }
+    refusal_name_at(run_refusal_number(refusal))
 }
 
 /// Writes the line of a verdict, `yes STEPS ROOTS OBJECTS` or `no LINE NUMBER NAME` with its line feed, at the front of
