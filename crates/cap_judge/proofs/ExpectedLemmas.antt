@@ -20,7 +20,7 @@ use Rattle.cap_judge.specs.declared.verdict.Verdict.TheVariants.{No}
 use Rattle.cap_judge.specs.Expectations.{Expects, ExpectsAt, IsExpected, GivesFor, GivesForText, expected_of, given_in}
 use Rattle.cap_judge.specs.Judgings.{IsBehind, account_before}
 use Rattle.cap_judge.specs.Logs.{Beginning, Body, Whole, Refuses, account_after, body_lines, IsAccepted, RunsBy, lines_of, text_of}
-use Rattle.cap_judge.specs.{Readings.{IsReached, IsRest}, Turns.Stage}
+use Rattle.cap_judge.specs.{Readings.{IsReached, IsRest}, Turns.LogStage}
 use Rattle.cap_judge.proofs.{EscapeLaws.{is_of_step, is_step, never_front}, OneVerdict.one_verdict}
 use Rattle.cap_judge.proofs.TurnLaws.{begins, fault_stands, nothing_left, some_bytes}
 use Rattle.cap_turns.specs.{Verdicts.IsLastFront, Turns.{Due, IsAtFault, Refused}}
@@ -125,14 +125,14 @@ never_nothing beginning (inl long) = let bad = long.1 in cc
 never_nothing beginning (inr (inl cut)) = let bad = cut.1 in cc
 never_nothing beginning (inr (inr line)) = some_bytes line.0 line.1 line.2.whole
 
-none_expected : (bytes : List ℕ) (stage : Stage) → IsReached stage bytes → (IsAtFault stage.due → ⊥) → Expects bytes None
+none_expected : (bytes : List ℕ) (stage : LogStage) → IsReached stage bytes → (IsAtFault stage.due → ⊥) → Expects bytes None
 none_expected bytes stage is clear = λ line fault.
     let here : IsBehind bytes fault.beginning fault.rest = record { bytes_are = fault.bytes_are; accepted = fault.accepted } in
     let none = nothing_left bytes fault.beginning fault.rest (No line WrongResult) (begins bytes stage is clear) here
     (fault.number_is, fault.refused) in
     never_nothing fault.beginning (subst (λ (r : List ℕ). Refuses fault.beginning r WrongResult) (sym none) fault.refused)
 
-other_fault : (bytes : List ℕ) (stage : Stage) (line : ℕ) (refusal : Refusal) (text : List ℕ) → IsReached stage bytes
+other_fault : (bytes : List ℕ) (stage : LogStage) (line : ℕ) (refusal : Refusal) (text : List ℕ) → IsReached stage bytes
     → stage.due ≡ Refused line refusal text → refusal ≢ WrongResult → Expects bytes None
 other_fault bytes stage line refusal text is due other = λ number wrong.
     let same = one_verdict bytes (No line refusal) (No number WrongResult) (fault_stands bytes stage line refusal text is due true) wrong in
@@ -193,7 +193,7 @@ by_beginning account_is (Body rules_are roots steps_are) rest bytes text result 
 by_beginning account_is beginning rest bytes text result account is accepted refused front gives =
     absurd (never_front rest WrongResult _ refl (λ text whole. ap is_of_step whole.1) refused)
 
-wrong_result : (bytes : List ℕ) (stage : Stage) (line : ℕ) (text : List ℕ) (result : Option Expected) → IsReached stage bytes
+wrong_result : (bytes : List ℕ) (stage : LogStage) (line : ℕ) (text : List ℕ) (result : Option Expected) → IsReached stage bytes
     → stage.due ≡ Refused line WrongResult text → GivesForText stage.state text result → Expects bytes result
 wrong_result bytes stage line text result is due gives =
     let found = subst (λ (d : Due Refusal). IsRest d is.beginning is.rest) due is.rest_is in

@@ -21,7 +21,7 @@ use Rattle.cap_machine.proofs.{AccountLemmas.{step_free, after_steps}, OriginLem
 use Rattle.cap_judge.specs.Judgings.{account_before}
 use Rattle.cap_judge.specs.Logs.{Beginning, Empty, NoMode, Body, Whole, header_lines, body_lines, lines_of, account_after, RunsBy}
 use Rattle.cap_judge.specs.Logs.{IsAccepted, has_form, line_checks}
-use Rattle.cap_judge.specs.Turns.{Stage, rules_of, unread, log_turns}
+use Rattle.cap_judge.specs.Turns.{LogStage, rules_of, unread, log_turns}
 use Rattle.cap_judge.proofs.LogLemmas.{after_roots-push, after_steps-push, steps_push, roots_push, accepted_in_range, step_runs}
 use Rattle.cap_judge.proofs.LogLemmas.{root_runs, no_roots}
 use Rattle.cap_judge.proofs.TurnLemmas.{body, by_checks}
@@ -118,7 +118,7 @@ due_after NoMode = Second
 due_after (Body rules_are roots steps) = BodyDue
 due_after (Whole rules_are roots steps) = Ended
 
-abbrev pub stage_after : Beginning → Stage
+abbrev pub stage_after : Beginning → LogStage
 stage_after beginning = record { state = account_before beginning; due = due_after beginning }
 
 pub accepted_read : (beginning : Beginning) → IsAccepted beginning → Reads log_turns unread (lines_of beginning) (stage_after beginning)
@@ -210,14 +210,14 @@ abbrev pub with_lines : Beginning → List Line → Beginning
 with_lines beginning [] = beginning
 with_lines beginning (line ∷ lines) = with_lines (with_line beginning line) lines
 
-pub all_longer : (beginning : Beginning) (lines : List Line) (to : Stage) → IsAccepted beginning → AllByRecursion IsInRange lines
+pub all_longer : (beginning : Beginning) (lines : List Line) (to : LogStage) → IsAccepted beginning → AllByRecursion IsInRange lines
     → Reads log_turns (stage_after beginning) lines to
     → (let last = with_lines beginning lines in IsAccepted last × (lines_of last ≡ lines_of beginning ++ lines) × (stage_after last ≡ to))
 all_longer beginning [] to accepted range reads = (accepted, sym (append-nil (lines_of beginning)), reads)
 all_longer beginning (line ∷ lines) to accepted range reads =
     let one = longer beginning line accepted range.0 reads.0 in
     let all = all_longer (with_line beginning line) lines to one.accepted range.1
-    (subst (λ (s : Stage). Reads log_turns s lines to) (sym one.stage_is) reads.1) in
+    (subst (λ (s : LogStage). Reads log_turns s lines to) (sym one.stage_is) reads.1) in
     (all.0, all.1 ∙ ap (λ ls. ls ++ lines) one.lines_are ∙ append_assoc (lines_of beginning) (line ∷ []) lines, all.2)
 
 roots_back : (rules_are : Rules) (before roots : List DeclaredRoot) (lines : List Line)
@@ -254,7 +254,7 @@ lines_back (Body rules_are roots steps) =
 lines_back (Whole rules_are roots steps) = body_back rules_are roots steps (End (length steps) ∷ [])
 
 pub accepted_in_turn : (beginning : Beginning)
-    → IsAccepted beginning ↔ (AllByRecursion IsInRange (lines_of beginning) × ((stage : Stage) × Reads log_turns unread (lines_of beginning) stage))
+    → IsAccepted beginning ↔ (AllByRecursion IsInRange (lines_of beginning) × ((stage : LogStage) × Reads log_turns unread (lines_of beginning) stage))
 accepted_in_turn beginning = (
   λ accepted. (accepted_in_range beginning accepted, (stage_after beginning, accepted_read beginning accepted)),
   λ h. subst IsAccepted (lines_back beginning) (all_longer Empty (lines_of beginning) h.1.0 tt h.0 h.1.1).0,

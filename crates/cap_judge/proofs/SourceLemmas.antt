@@ -6,7 +6,7 @@ use Rattle.cap_streams.specs.{declared.judging.judge_faults.JudgeFault.{JudgeFau
 use Rattle.cap_machine.specs.Helds.{Held}
 use Rattle.cap_judge.specs.{declared.faults.RefusedLine.RefusedLine, declared.verdict.Verdict.{Verdict, TheVariants.{Yes, No}}}
 use Rattle.cap_judge.specs.{Judgings.{IsVerdictOf, BeginsLog, IsAnswerOf, JudgedBy, JudgedAll}, Logs.{MayLackMemory, text_of}}
-use Rattle.cap_judge.specs.{Readings.{AnswerAtEnd, VerdictAtEnd, VerdictWith, IsAnswered}, Turns.{Stage, unread, log_turns}}
+use Rattle.cap_judge.specs.{Readings.{AnswerAtEnd, VerdictAtEnd, VerdictWith, IsAnswered}, Turns.{LogStage, unread, log_turns}}
 use Rattle.cap_judge.specs.Verdicts.{IsVerdict, NoVerdictIn}
 use Rattle.cap_judge.proofs.{JudgeLemmas.{guarded, no_lack}, TurnLaws.begun}
 use Rattle.cap_turns.specs.Turns.{Goes}
@@ -80,7 +80,7 @@ given_more gave {a} {b} {c} taken kept now {more} joined before after is =
     (joined a b c (taken ++ kept) more before after)
 
 -- a yes or a no, where a log ends
-pub ended_answer : (stage : Stage) (rest text : List ℕ) (end : Result Verdict RefusedLine) (answer : Result Verdict JudgeFault)
+pub ended_answer : (stage : LogStage) (rest text : List ℕ) (end : Result Verdict RefusedLine) (answer : Result Verdict JudgeFault)
     → IsAnswered end answer text → AnswerAtEnd stage rest end → (verdict : Verdict) × (answer ≡ Ok verdict) × VerdictAtEnd stage rest verdict text
 ended_answer stage rest text (Ok (Yes steps roots)) answer is ends = (Yes steps roots, is, ends)
 ended_answer stage rest text (Ok (No line refusal)) answer is ends = absurd ends
@@ -115,7 +115,7 @@ module _ {S : Type 0} (gave : S → S → List ℕ → Type 0) (ended : S → Bo
   }
 
   -- a source that failed behind lines that begin a log, and less than a line
-  pub pull_judged : (stage : Stage) (taken rest : List ℕ) → Goes log_turns unread taken stage → IsCut rest → given ≡ taken ++ rest
+  pub pull_judged : (stage : LogStage) (taken rest : List ℕ) → Goes log_turns unread taken stage → IsCut rest → given ≡ taken ++ rest
       → gave old new given → JudgedBy gave ended old new (Err JudgeFault.Pull) held text
   pull_judged stage taken rest goes cut are gives =
       let b = begun taken stage goes in

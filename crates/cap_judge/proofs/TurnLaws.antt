@@ -11,12 +11,12 @@ use Rattle.cap_log.proofs.SpellingLemmas.{one_spelling}
 use Rattle.cap_machine.specs.{declared.rules.Rules.{Rules, TheVariants.One}, Accounts.{Account, is_new}, Helds.{Held, account_of}}
 use Rattle.cap_machine.specs.States.{DeclaredRoot}
 use Rattle.cap_machine.proofs.AccountLemmas.{account_after-grows}
-use Rattle.cap_turns.specs.Turns.{AreTurns, Body, Due, Ended, First, Goes, IsAtFault, Refused, Second, lines_by, refusal_by}
+use Rattle.cap_turns.specs.Turns.{Body, Due, Ended, First, Goes, IsAtFault, Refused, Second, lines_by, refusal_by}
 use Rattle.cap_turns.specs.{Verdicts.{IsLastFront, IsNo, Lacks, RefusesCut, long_refusal}, Readings.{Faults, Follows, RefusesNext}}
 use Rattle.cap_turns.specs.Verdicts as turns
 use Rattle.cap_turns.proofs.EndLemmas.{StopsWith, cut_told, refused_told, refuses_next}
 use Rattle.cap_turns.proofs.{FollowLemmas.{clear_goes, fault_end, faults_at, follows_more, refused_in}, OneEnd.one_reading}
-use Rattle.cap_turns.proofs.SomeEnd.{some_end}
+use Rattle.cap_turns.proofs.{SomeEnd.some_end, Laws.AreTurns}
 use Rattle.cap_turns.proofs.EndLemmas as turns_told
 use Rattle.cap_judge.specs.declared.verdict.Verdict.{Verdict, TheVariants.{Yes, No}}
 use Rattle.cap_judge.specs.Judgings.{IsBehind, IsVerdictOf, StopsBefore, account_before}
@@ -24,7 +24,7 @@ use Rattle.cap_judge.specs.Logs.{Beginning, Empty, NoMode, Body as BodyOf, Whole
 use Rattle.cap_judge.specs.Logs.{account_after, IsAccepted, IsFirstFault, IsLogOf, LacksRoom, MayLackMemory, Refuses, RefusesLine}
 use Rattle.cap_judge.specs.Logs.{RefusesWhole, has_form, line_checks, named_by_line}
 use Rattle.cap_judge.specs.Readings.{BeginsWhole, VerdictAtEnd, IsReached, IsRest, Stands, VerdictWith, verdict_so_far}
-use Rattle.cap_judge.specs.{Turns.{Stage, log_turns, unread}, Verdicts.IsVerdict}
+use Rattle.cap_judge.specs.{Turns.{LogStage, log_turns, unread}, Verdicts.IsVerdict}
 use Rattle.cap_judge.proofs.InTurn.{accepted_read, all_longer, due_after, stage_after, with_lines}
 use Rattle.cap_judge.proofs.JudgeLemmas.{no_form, IsUnended, behind_more, fault_behind, front_refused, yes_of}
 use Rattle.cap_judge.proofs.{LogLemmas.accepted_in_range, OneVerdict.{IsAnswerFor, answer_stops}, TurnLemmas.{allowed_form, log_spelled}}
@@ -32,7 +32,7 @@ use Rattle.cap_judge.proofs.{LogLemmas.accepted_in_range, OneVerdict.{IsAnswerFo
 -- What a stage says of a beginning
 
 -- lines that are read lead to a beginning
-pub begun : (bytes : List ℕ) (new : Stage) → (goes : Goes log_turns unread bytes new)
+pub begun : (bytes : List ℕ) (new : LogStage) → (goes : Goes log_turns unread bytes new)
     → (beginning : Beginning) × IsAccepted beginning × (lines_of beginning ≡ goes.lines) × (stage_after beginning ≡ new)
 begun bytes new goes =
     let all = all_longer Empty goes.lines new tt goes.in_range goes.reads in (with_lines Empty goes.lines, all.0, all.1, all.2)
@@ -93,11 +93,11 @@ few_lines (Whole rules_are roots steps) runs =
     omega (arith, runs.few_roots, runs.few_steps, few_header rules_are, body, end_count rules_are roots steps)
 few_lines beginning accepted = omega arith
 
-pub count_read : (bytes : List ℕ) (new : Stage) → (goes : Goes log_turns unread bytes new)
+pub count_read : (bytes : List ℕ) (new : LogStage) → (goes : Goes log_turns unread bytes new)
     → (lines_by log_turns new.state new.due ≡ length goes.lines) × (length goes.lines ≤ 4294971394)
 count_read bytes new goes =
     let b = begun bytes new goes in (
-      subst (λ (s : Stage). lines_by log_turns s.state s.due ≡ length goes.lines) b.3 (counted b.0 ∙ ap length b.2),
+      subst (λ (s : LogStage). lines_by log_turns s.state s.due ≡ length goes.lines) b.3 (counted b.0 ∙ ap length b.2),
       subst (λ (ls : List Line). length ls ≤ 4294971394) b.2 (few_lines b.0 b.1),
     )
 
@@ -183,43 +183,43 @@ first_fault_of bytes line refusal fault =
       bytes_are = fault.behind.bytes_are ∙ ap (λ (f : List ℕ). f ++ fault.rest) (fault.behind.goes.bytes_are ∙ ap text_of (sym b.2));
       accepted = b.1;
       number_is = fault.number_is ∙ ap (λ (ls : List Line). length ls + 1) (sym b.2);
-      refused = refuses b.0 fault.rest refusal (subst (λ (s : Stage). turns.Refuses log_turns s fault.rest refusal) (sym b.3) fault.refused);
+      refused = refuses b.0 fault.rest refusal (subst (λ (s : LogStage). turns.Refuses log_turns s fault.rest refusal) (sym b.3) fault.refused);
     }
 
 -- A stage that is reached
 
 -- what begins with the first faulty line stands after the lines before it
-pub fault_reached : (front rest : List ℕ) (middle new : Stage) → Goes log_turns unread front middle → Faults log_turns middle rest new
+pub fault_reached : (front rest : List ℕ) (middle new : LogStage) → Goes log_turns unread front middle → Faults log_turns middle rest new
     → (is : IsReached new (front ++ rest)) × (is.rest ≡ rest)
 fault_reached front rest middle new goes (inl (at_fault, same)) =
-    let b = begun front middle goes in absurd (not_fault b.0 (subst (λ (s : Stage). IsAtFault s.due) (sym b.3) at_fault))
+    let b = begun front middle goes in absurd (not_fault b.0 (subst (λ (s : LogStage). IsAtFault s.due) (sym b.3) at_fault))
 fault_reached front rest middle new goes (inr (clear, refusal, text, refused, is_front, new_is)) =
     let b = begun front middle goes in (
       record {
         beginning = b.0;
         rest = rest;
         behind = record { bytes_are = ap (λ (f : List ℕ). f ++ rest) (goes.bytes_are ∙ ap text_of (sym b.2)); accepted = b.1 };
-        account = ap (λ (s : Stage). s.state) new_is ∙ ap (λ (s : Stage). s.state) (sym b.3);
-        rest_is = subst (λ (s : Stage). IsRest s.due b.0 rest) (sym new_is) (
-          ap (λ (n : ℕ). n + 1) (subst (λ (s : Stage). lines_by log_turns s.state s.due ≡ length (lines_of b.0)) b.3 (counted b.0)),
+        account = ap (λ (s : LogStage). s.state) new_is ∙ ap (λ (s : LogStage). s.state) (sym b.3);
+        rest_is = subst (λ (s : LogStage). IsRest s.due b.0 rest) (sym new_is) (
+          ap (λ (n : ℕ). n + 1) (subst (λ (s : LogStage). lines_by log_turns s.state s.due ≡ length (lines_of b.0)) b.3 (counted b.0)),
           is_front,
           λ more. refuses b.0 (rest ++ more) refusal
               (refuses_next log_turns (stage_after b.0) rest refusal
-              (subst (λ (s : Stage). RefusesNext log_turns s rest refusal) (sym b.3) refused) more),
+              (subst (λ (s : LogStage). RefusesNext log_turns s rest refusal) (sym b.3) refused) more),
         );
       },
       refl,
     )
 
-pub reached : (bytes : List ℕ) (new : Stage) → Follows log_turns unread bytes new → IsReached new bytes
+pub reached : (bytes : List ℕ) (new : LogStage) → Follows log_turns unread bytes new → IsReached new bytes
 reached bytes new (inl goes) =
     let b = begun bytes new goes in
     record {
       beginning = b.0;
       rest = [];
       behind = record { bytes_are = goes.bytes_are ∙ ap text_of (sym b.2) ∙ sym (append-nil _); accepted = b.1 };
-      account = ap (λ (s : Stage). s.state) (sym b.3);
-      rest_is = subst (λ (s : Stage). IsRest s.due b.0 []) b.3 (no_rest b.0);
+      account = ap (λ (s : LogStage). s.state) (sym b.3);
+      rest_is = subst (λ (s : LogStage). IsRest s.due b.0 []) b.3 (no_rest b.0);
     }
 reached bytes new (inr (front, rest, are, middle, goes, faults)) =
     subst (IsReached new) (sym are) (fault_reached front rest middle new goes faults).0
@@ -229,7 +229,7 @@ all_read : (due : Due Refusal) (beginning : Beginning) (rest : List ℕ) → (Is
 all_read (Refused line refusal text) beginning rest clear is = absurd (clear tt)
 all_read due beginning rest clear is = is
 
-pub begins : (bytes : List ℕ) (stage : Stage) → IsReached stage bytes → (IsAtFault stage.due → ⊥) → BeginsWhole bytes
+pub begins : (bytes : List ℕ) (stage : LogStage) → IsReached stage bytes → (IsAtFault stage.due → ⊥) → BeginsWhole bytes
 begins bytes stage is clear = record {
   beginning = is.beginning;
   bytes_are = is.behind.bytes_are
@@ -238,7 +238,7 @@ begins bytes stage is clear = record {
 }
 
 -- where one is, its no stands, whatever bytes follow
-module _ (bytes : List ℕ) (stage : Stage) (line : ℕ) (refusal : Refusal) (text : List ℕ) (is : IsReached stage bytes)
+module _ (bytes : List ℕ) (stage : LogStage) (line : ℕ) (refusal : Refusal) (text : List ℕ) (is : IsReached stage bytes)
     (due : stage.due ≡ Refused line refusal text) where
   found : IsRest (Refused line refusal text) is.beginning is.rest
   found = subst (λ (d : Due Refusal). IsRest d is.beginning is.rest) due is.rest_is
@@ -277,7 +277,7 @@ nothing_left bytes beginning rest verdict whole here answers =
     (append-nil _ ∙ sym whole.bytes_are ∙ here.bytes_are)).1
 
 -- so no line of it is faulty
-pub never_faulty : (bytes : List ℕ) (stage : Stage) → IsReached stage bytes → BeginsWhole bytes → IsAtFault stage.due → ⊥
+pub never_faulty : (bytes : List ℕ) (stage : LogStage) → IsReached stage bytes → BeginsWhole bytes → IsAtFault stage.due → ⊥
 never_faulty bytes stage is whole at_fault =
     let (line, refusal, text, due) = refused_in stage.due at_fault in
     let found = subst (λ (d : Due Refusal). IsRest d is.beginning is.rest) due is.rest_is in
@@ -302,7 +302,7 @@ in_body account Second (Line.Mode mode) allowed wants = absurd (false≢true wan
 in_body account Second line allowed wants = absurd (none-some _ (sym allowed))
 in_body account due line allowed wants = absurd (none-some _ (sym allowed))
 
-pub lacks_in_body : (stage : Stage) (rest more : List ℕ) → Lacks log_turns stage rest more → stage.due ≡ Body
+pub lacks_in_body : (stage : LogStage) (rest more : List ℕ) → Lacks log_turns stage rest more → stage.due ≡ Body
 lacks_in_body stage rest more lacks = in_body stage.state stage.due lacks.line lacks.allowed lacks.wants
 
 lacks_line : (beginning : Beginning) (rest more : List ℕ) → IsAccepted beginning → Lacks log_turns (stage_after beginning) rest more
@@ -328,13 +328,13 @@ lacks_line (BodyOf rules_are roots steps) rest more runs lacks =
     }
 lacks_line beginning rest more accepted lacks = let no : ⊥ = cc (lacks_in_body (stage_after beginning) rest more lacks) in absurd no
 
-pub lacks_memory : (bytes rest more : List ℕ) (stage : Stage) → Follows log_turns unread bytes stage → Lacks log_turns stage rest more
+pub lacks_memory : (bytes rest more : List ℕ) (stage : LogStage) → Follows log_turns unread bytes stage → Lacks log_turns stage rest more
     → MayLackMemory (bytes ++ rest) more
 lacks_memory bytes rest more stage follows lacks =
     let goes = clear_goes log_turns unread bytes stage follows (λ at_fault. subst IsAtFault (lacks_in_body stage rest more lacks) at_fault) in
     let b = begun bytes stage goes in
     subst (λ (t : List ℕ). MayLackMemory (t ++ rest) more) (ap text_of b.2 ∙ sym goes.bytes_are)
-    (lacks_line b.0 rest more b.1 (subst (λ (s : Stage). Lacks log_turns s rest more) (sym b.3) lacks))
+    (lacks_line b.0 rest more b.1 (subst (λ (s : LogStage). Lacks log_turns s rest more) (sym b.3) lacks))
 
 -- where at least so many granules were named
 lacks_room_line : (room : ℕ) (beginning : Beginning) (rest more : List ℕ) → IsAccepted beginning
@@ -345,13 +345,13 @@ lacks_room_line room (BodyOf rules_are roots steps) rest more runs lacks many =
     (more, lacks_line (BodyOf rules_are roots steps) rest more runs lacks, many)
 lacks_room_line room beginning rest more accepted lacks many = let no : ⊥ = cc (lacks_in_body (stage_after beginning) rest more lacks) in absurd no
 
-pub lacks_room : (room : ℕ) (bytes rest more : List ℕ) (stage : Stage) → Goes log_turns unread bytes stage → Lacks log_turns stage rest more
+pub lacks_room : (room : ℕ) (bytes rest more : List ℕ) (stage : LogStage) → Goes log_turns unread bytes stage → Lacks log_turns stage rest more
     → room ≤ stage.state.granules → LacksRoom room (bytes ++ rest)
 lacks_room room bytes rest more stage goes lacks many =
     let b = begun bytes stage goes in
     subst (λ (t : List ℕ). LacksRoom room (t ++ rest)) (ap text_of b.2 ∙ sym goes.bytes_are)
-    (lacks_room_line room b.0 rest more b.1 (subst (λ (s : Stage). Lacks log_turns s rest more) (sym b.3) lacks)
-    (subst (λ (s : Stage). room ≤ s.state.granules) (sym b.3) many))
+    (lacks_room_line room b.0 rest more b.1 (subst (λ (s : LogStage). Lacks log_turns s rest more) (sym b.3) lacks)
+    (subst (λ (s : LogStage). room ≤ s.state.granules) (sym b.3) many))
 
 -- Where the bytes end
 
@@ -375,7 +375,7 @@ no_told bytes ended account held line refusal text is (before, same) here = (by_
             accepted = b.1;
           };
           line_is = before.line_is ∙ ap (λ (ls : List Line). length ls + 1) (sym b.2);
-          account = here ∙ same ∙ ap (λ (s : Stage). s.state) (sym b.3);
+          account = here ∙ same ∙ ap (λ (s : LogStage). s.state) (sym b.3);
           front = before.front;
         }
 
@@ -401,14 +401,14 @@ whole_told (Whole rules_are roots steps) bytes held step_count root_count text r
 whole_told beginning bytes held steps roots text runs ended are account steps_are roots_are = let never : ⊥ = cc in absurd never
 
 -- after a faulty line
-pub fault_ends : (bytes : List ℕ) (stage : Stage) (line : ℕ) (refusal : Refusal) (text : List ℕ) → Follows log_turns unread bytes stage
+pub fault_ends : (bytes : List ℕ) (stage : LogStage) (line : ℕ) (refusal : Refusal) (text : List ℕ) → Follows log_turns unread bytes stage
     → stage.due ≡ Refused line refusal text → (held : Held) → account_of held ≡ stage.state → (ended : Bool)
     → VerdictWith bytes ended held (No line refusal) text
 fault_ends bytes stage line refusal text follows due held same ended =
     let told = refused_told log_turns log_lawful bytes stage ended line refusal text follows due in
     no_told bytes ended stage.state held line refusal text told.0 told.1 same
 
-pub fault_told : (bytes rest : List ℕ) (stage : Stage) (held : Held) (verdict : Verdict) (text : List ℕ) → Follows log_turns unread bytes stage
+pub fault_told : (bytes rest : List ℕ) (stage : LogStage) (held : Held) (verdict : Verdict) (text : List ℕ) → Follows log_turns unread bytes stage
     → IsAtFault stage.due → account_of held ≡ stage.state → VerdictAtEnd stage rest verdict text → (ended : Bool)
     → VerdictWith bytes ended held verdict text
 fault_told bytes rest stage held (Yes steps roots) text follows at_fault same ends ended =
@@ -416,14 +416,14 @@ fault_told bytes rest stage held (Yes steps roots) text follows at_fault same en
 fault_told bytes rest stage held (No line refusal) text follows at_fault same ends ended =
     fault_ends bytes stage line refusal text follows (sym (fault_end log_turns stage.state stage.due rest at_fault) ∙ ends) held same ended
 
-pub told : (bytes rest : List ℕ) (stage : Stage) (held : Held) (verdict : Verdict) (text : List ℕ) → Follows log_turns unread bytes stage
+pub told : (bytes rest : List ℕ) (stage : LogStage) (held : Held) (verdict : Verdict) (text : List ℕ) → Follows log_turns unread bytes stage
     → account_of held ≡ stage.state → IsCut rest → VerdictAtEnd stage rest verdict text → VerdictWith (bytes ++ rest) true held verdict text
 told bytes rest stage held (Yes steps roots) text (inl goes) same cut ends =
     let whole = turns_told.whole_told log_turns log_lawful bytes rest stage goes ends.0 in
     let b = begun (bytes ++ rest) stage whole.goes in
-    whole_told b.0 (bytes ++ rest) held steps roots text b.1 (ap (λ (s : Stage). s.due) b.3 ∙ whole.ended)
-    (whole.goes.bytes_are ∙ ap text_of (sym b.2)) (same ∙ ap (λ (s : Stage). s.state) (sym b.3))
-    (ends.1 ∙ ap (λ (s : Stage). s.state.steps) (sym b.3)) (ends.2 ∙ ap (λ (s : Stage). s.state.roots) (sym b.3))
+    whole_told b.0 (bytes ++ rest) held steps roots text b.1 (ap (λ (s : LogStage). s.due) b.3 ∙ whole.ended)
+    (whole.goes.bytes_are ∙ ap text_of (sym b.2)) (same ∙ ap (λ (s : LogStage). s.state) (sym b.3))
+    (ends.1 ∙ ap (λ (s : LogStage). s.state.steps) (sym b.3)) (ends.2 ∙ ap (λ (s : LogStage). s.state.roots) (sym b.3))
 told bytes rest stage held (No line refusal) text (inl goes) same cut ends =
     let told = cut_told log_turns log_lawful bytes rest stage goes line refusal text cut ends in
     no_told (bytes ++ rest) true stage.state held line refusal text told.0 told.1 same
@@ -443,6 +443,6 @@ some_verdict bytes =
     elim (some_end log_turns log_lawful bytes) [
       | inl whole ↦
           let b = begun bytes whole.0 whole.1.goes in
-          whole_yes bytes b.0 b.1 (ap (λ (s : Stage). s.due) b.3 ∙ whole.1.ended) (whole.1.goes.bytes_are ∙ ap text_of (sym b.2))
+          whole_yes bytes b.0 b.1 (ap (λ (s : LogStage). s.due) b.3 ∙ whole.1.ended) (whole.1.goes.bytes_are ∙ ap text_of (sym b.2))
       | inr fault ↦ (No fault.0 fault.1, first_fault_of bytes fault.0 fault.1 fault.2)
     ]

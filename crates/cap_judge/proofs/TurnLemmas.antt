@@ -14,14 +14,14 @@ use Rattle.cap_machine.specs.declared.{ends.StepEnd.StepEnd, rules.Rules.{Rules,
 use Rattle.cap_machine.specs.Accounts.{Account, root_checks}
 use Rattle.cap_machine.specs.Helds.{Held, account_of, AnswersStep, EndsRoot, EndsStep, Makes, TakesRoot}
 use Rattle.cap_machine.proofs.AccountLemmas.{first_of-none}
-use Rattle.cap_turns.specs.Turns.{AreSpelled, Body, Goes, IsAtFault, lines_by, refusal_by}
+use Rattle.cap_turns.specs.Turns.{Body, Goes, IsAtFault, lines_by, refusal_by}
 use Rattle.cap_turns.specs.Readings.{Follows, IsNoLine, IsWholeLine, Takes, due_at_end, refused_by}
 use Rattle.cap_turns.proofs.{FollowLemmas.line_whole, LineLemmas.cut_text}
-use Rattle.cap_turns.proofs.TurnLemmas.{ends_at, goes_line, goes_more, goes_none, goes_on, one_goes}
+use Rattle.cap_turns.proofs.{TurnLemmas.{ends_at, goes_line, goes_more, goes_none, goes_on, one_goes}, Laws.AreSpelled}
 use Rattle.cap_judge.specs.declared.faults.RefusedLine.{RefusedLine}
 use Rattle.cap_judge.specs.declared.verdict.TakeFault.{TakeFault, TheVariants.{NoLine, NoMemory}}
 use Rattle.cap_judge.specs.{declared.verdict.Verdict.{Verdict, TheVariants.{Yes, No}}, Logs.{has_form, line_checks}}
-use Rattle.cap_judge.specs.Turns.{Stage, log_turns}
+use Rattle.cap_judge.specs.Turns.{LogStage, log_turns}
 use Rattle.cap_judge.specs.Readings.{AnswersLine, AnswerAtEnd, EndsText, EndsBytes, EndsLine, GoesOrStops, IsFullAt, Known, MakesSteps}
 use Rattle.cap_judge.specs.Readings.{TakesAll, TakesStep, VerdictAtEnd, at, due_of, end_of}
 use Rattle.cap_judge.specs.declared.judges.Due as code
@@ -64,7 +64,7 @@ feed_some [] [] = λ e. cc
 feed_some [] (b ∷ text) = λ e. cc
 feed_some (a ∷ front) text = λ e. cc
 
-pub goes_line_some : (first old new : Stage) (bytes front rest behind : List ℕ) (line : Line) → bytes ≡ front ++ rest
+pub goes_line_some : (first old new : LogStage) (bytes front rest behind : List ℕ) (line : Line) → bytes ≡ front ++ rest
     → Goes log_turns first front old → Begins IsInRange spelling 10 rest line behind → Takes log_turns old line new
     → (fronts : List ℕ) × (bytes ≡ fronts ++ behind) × GoesOrStops first fronts behind None new
 goes_line_some first old new bytes front rest behind line is so_far begins takes =
@@ -92,7 +92,7 @@ allowed_form account line allowed =
     (not-false _ checks.0, first_of-none (line_checks account line) checks.1)
 
 -- the stage in a body
-abbrev pub body : Account → Stage
+abbrev pub body : Account → LogStage
 body account_is = record { state = account_is; due = Body }
 
 -- a step that a machine makes, or not
@@ -147,11 +147,11 @@ pub begins_by : (line : Line) (bytes text rest : List ℕ) → IsLine bytes text
 begins_by line bytes text rest whole spells = (spells.0, whole.whole ∙ ap (λ (t : List ℕ). t ++ 10 ∷ rest) spells.1)
 
 -- why a line is not taken, told of its text; and of bytes that it begins
-pub text_ends : (stage : Stage) (text : List ℕ) (line : Line) (end : StepEnd) → Spells text line → EndsLine stage line end → EndsText stage text end
+pub text_ends : (stage : LogStage) (text : List ℕ) (line : Line) (end : StepEnd) → Spells text line → EndsLine stage line end → EndsText stage text end
 text_ends stage text line (StepEnd.Refused refusal) spells refused = (Some line, spells, refused)
 text_ends stage text line StepEnd.NoMemory spells names = (line, spells, names)
 
-pub text_ends_at : (stage : Stage) (bytes text rest : List ℕ) (end : StepEnd) → IsLine bytes text rest → EndsText stage text end
+pub text_ends_at : (stage : LogStage) (bytes text rest : List ℕ) (end : StepEnd) → IsLine bytes text rest → EndsText stage text end
     → EndsBytes stage bytes end
 text_ends_at stage bytes text rest (StepEnd.Refused refusal) whole refused = inl (text, rest, whole, refused)
 text_ends_at stage bytes text rest StepEnd.NoMemory whole (line, spells, names) =
@@ -207,7 +207,7 @@ memory_why (Err fault) X said is = said.1
 -- Where the bytes end
 
 -- the faulty line there
-pub ends_refused : (stage : Stage) (rest : List ℕ) (refusal : Refusal) (fault : RefusedLine)
+pub ends_refused : (stage : LogStage) (rest : List ℕ) (refusal : Refusal) (fault : RefusedLine)
     → due_at_end log_turns stage.state stage.due rest ≡ refused_by log_turns stage.state stage.due refusal rest → IsCut rest
     → fault.line ≡ lines_by log_turns stage.state stage.due + 1 → fault.refusal ≡ refusal → IsFrontText rest (bytes_of fault.text)
     → AnswerAtEnd stage rest (Err fault)
@@ -221,6 +221,6 @@ unended dues.Ended account rest goes clear = absurd (goes refl)
 unended (dues.Refused fault) account rest goes clear = absurd (clear fault refl)
 unended stage account rest goes clear = refl
 
-pub ends_ok : (stage : Stage) (rest : List ℕ) (verdict : Verdict) → AnswerAtEnd stage rest (Ok verdict) → VerdictAtEnd stage rest verdict []
+pub ends_ok : (stage : LogStage) (rest : List ℕ) (verdict : Verdict) → AnswerAtEnd stage rest (Ok verdict) → VerdictAtEnd stage rest verdict []
 ends_ok stage rest (Yes steps roots) ends = ends
 ends_ok stage rest (No line refusal) ends = absurd ends

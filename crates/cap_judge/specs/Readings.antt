@@ -12,7 +12,7 @@ use Rattle.cap_turns.specs.{Readings.{Follows, StopsAt, Takes, due_at_end}, Verd
 use Rattle.cap_turns.specs.Readings as turns
 use Rattle.cap_judge.specs.{declared.judges.Judge.Judge, declared.verdict.Verdict.{Verdict, TheVariants.{Yes, No}}}
 use Rattle.cap_judge.specs.Judgings.{IsBehind, IsVerdictOf, LeadsAfter, StopsIn, account_before}
-use Rattle.cap_judge.specs.{Logs.{Beginning, lines_of, text_of, IsAccepted, Refuses}, Turns.{Stage, log_turns, unread}}
+use Rattle.cap_judge.specs.{Logs.{Beginning, lines_of, text_of, IsAccepted, Refuses}, Turns.{LogStage, log_turns, unread}}
 use Rattle.cap_judge.specs.declared.faults.RefusedLine as faults
 use Rattle.cap_judge.specs.declared.judges.Due as code
 use Rattle.cap_judge.specs.declared.judges.Due.TheVariants as dues
@@ -43,11 +43,11 @@ due_of dues.Ended = Ended
 due_of (dues.Refused fault) = Refused fault.line fault.refusal (bytes_of fault.text)
 
 -- how far a log is read, by what a machine holds and the code's stage
-abbrev pub at : code.Due → Held → Stage
+abbrev pub at : code.Due → Held → LogStage
 at stage held = record { state = account_of held; due = due_of stage }
 
 -- how far a judge has read
-abbrev pub stage_of : {M : Type 0} → Judge M → Stage
+abbrev pub stage_of : {M : Type 0} → Judge M → LogStage
 stage_of judge = at judge.due judge.machine
 
 -- the refusal with which a line is not taken, or none where memory is wanted
@@ -56,16 +56,16 @@ end_of (ends.Refused refusal) = Some refusal
 end_of ends.NoMemory = None
 
 -- why a line is not taken
-abbrev pub EndsLine : Stage → Line → StepEnd → Type 0
+abbrev pub EndsLine : LogStage → Line → StepEnd → Type 0
 EndsLine stage line end = turns.EndsLine log_turns stage line (end_of end)
 
 -- why a line with this text is not taken
-abbrev pub EndsText : Stage → List ℕ → StepEnd → Type 0
+abbrev pub EndsText : LogStage → List ℕ → StepEnd → Type 0
 EndsText stage text (ends.Refused refusal) = RefusesWhole log_turns stage text refusal
 EndsText stage text ends.NoMemory = (line : Line) × Spells text line × EndsLine stage line ends.NoMemory
 
 -- why what the bytes begin with is not taken
-abbrev pub EndsBytes : Stage → List ℕ → StepEnd → Type 0
+abbrev pub EndsBytes : LogStage → List ℕ → StepEnd → Type 0
 EndsBytes stage bytes end = turns.EndsBytes log_turns stage bytes (end_of end)
 
 -- where memory is refused, at least as many granules were put as surely have room
@@ -92,7 +92,7 @@ abbrev pub HasRead : {M : Type 0} → Judge M → List ℕ → Type 0
 HasRead judge bytes = Follows log_turns unread bytes (stage_of judge)
 
 -- it stopped so, or took a front that is not empty
-abbrev pub GoesOrStops : Stage → List ℕ → List ℕ → Option Stop → Stage → Type 0
+abbrev pub GoesOrStops : LogStage → List ℕ → List ℕ → Option Stop → LogStage → Type 0
 GoesOrStops old front rest None new = (front ≢ []) × Goes log_turns old front new
 GoesOrStops old front rest (Some stop) new = StopsAt log_turns old front rest stop new
 
@@ -135,13 +135,13 @@ IsFaultOf due (Some fault) = due ≡ Refused fault.line fault.refusal (bytes_of 
 IsFaultOf due None = IsAtFault due → ⊥
 
 -- the verdict on a log that ends there, and after a no the text of the faulty line
-abbrev pub VerdictAtEnd : Stage → List ℕ → Verdict → List ℕ → Type 0
+abbrev pub VerdictAtEnd : LogStage → List ℕ → Verdict → List ℕ → Type 0
 VerdictAtEnd stage rest (Yes steps roots) text =
     (due_at_end log_turns stage.state stage.due rest ≡ Ended) × (steps ≡ stage.state.steps) × (roots ≡ stage.state.roots)
 VerdictAtEnd stage rest (No line refusal) text = due_at_end log_turns stage.state stage.due rest ≡ Refused line refusal text
 
 -- a yes, or the faulty line
-abbrev pub AnswerAtEnd : Stage → List ℕ → Result Verdict faults.RefusedLine → Type 0
+abbrev pub AnswerAtEnd : LogStage → List ℕ → Result Verdict faults.RefusedLine → Type 0
 AnswerAtEnd stage rest (Ok (Yes steps roots)) = VerdictAtEnd stage rest (Yes steps roots) []
 AnswerAtEnd stage rest (Ok (No line refusal)) = ⊥
 AnswerAtEnd stage rest (Err fault) = VerdictAtEnd stage rest (No fault.line fault.refusal) (bytes_of fault.text)
@@ -160,7 +160,7 @@ IsRest due beginning rest = rest ≡ []
 
 -- the bytes are the text of a beginning that is accepted, whose account this is, and a rest: nothing, or what begins
 -- with the faulty line
-pub record IsReached (stage : Stage) (bytes : List ℕ) : Type 0 where
+pub record IsReached (stage : LogStage) (bytes : List ℕ) : Type 0 where
   pub beginning : Beginning
   pub rest : List ℕ
   pub behind : IsBehind bytes beginning rest

@@ -7,15 +7,15 @@ use Rattle.cap_log.specs.declared.lines.Mode.TheVariants.{Strict, Clear}
 use Rattle.cap_log.specs.declared.lines.Mode as modes_module
 use Rattle.cap_machine.specs.declared.rules.Rules.{Rules, TheVariants.{One, TwoStrict, TwoClear}}
 use Rattle.cap_machine.specs.Accounts.{Account, is_new, limits_of, no_account, with_root, with_step}
-use Rattle.cap_turns.specs.Turns.{Body, Due, Ended, First, Second, Stage as StageOf, Turns}
+use Rattle.cap_turns.specs.Turns.{Body, Due, Ended, First, Second, Stage, Turns}
 use Rattle.cap_judge.specs.Logs.{has_form, header_lines, line_checks, named_by_line}
 
 -- how far a log is read: the account that its lines lead to, and what the next line has to be
-abbrev pub Stage : Type 0
-Stage = StageOf Account Refusal
+abbrev pub LogStage : Type 0
+LogStage = Stage Account Refusal
 
 -- nothing is read
-abbrev pub unread : Stage
+abbrev pub unread : LogStage
 unread = record { state = no_account One (limits_of One); due = First }
 
 -- the version lines

@@ -9,7 +9,7 @@ ghost use Rattle.cap_machine.specs.{Runs.IsRun, States.{DeclaredRoot, State, sta
 ghost use Rattle.cap_judge.specs.{declared.verdict.Expected.Expected, declared.verdict.Verdict.{Verdict, TheVariants.No}};
 ghost use Rattle.cap_judge.specs.{Expectations.{Expects, ExpectsAt}, Logs.{Beginning, IsAccepted, IsLogOf, MayLackMemory, lines_of}};
 ghost use Rattle.cap_judge.specs.Readings.{BeginsWhole, VerdictAtEnd, VerdictWith, IsReached, Stands, verdict_so_far};
-ghost use Rattle.cap_judge.specs.Turns.{Stage, unread, log_turns};
+ghost use Rattle.cap_judge.specs.Turns.{LogStage, unread, log_turns};
 ghost use Rattle.cap_judge.specs.Verdicts.{IsByVersionOne, IsGuarded, IsOfVersionOne, IsVerdict, IsVerdictOne, NamesEscapes};
 ghost use Rattle.cap_turns.specs.{Readings.{Faults, Follows}, Turns.{IsAtFault, Reads, Refused}, Verdicts.Lacks};
 
@@ -48,44 +48,44 @@ pub fn other_bytes_are_of_version_one()
 /// check of a line fails in what the lines before it lead to.
 pub fn accepted_in_turn()
     ensures law { (beginning : Beginning) → IsAccepted beginning
-        ↔ (AllByRecursion IsInRange (lines_of beginning) × ((stage : Stage) × Reads log_turns unread (lines_of beginning) stage)) }
+        ↔ (AllByRecursion IsInRange (lines_of beginning) × ((stage : LogStage) × Reads log_turns unread (lines_of beginning) stage)) }
 {}
 
 /// Where a [`Judge`](crate::Judge) is once it has read some bytes: its stage is that of the beginning of a log, and of
 /// the first fault if a line is faulty. So what the calls of a judge say of its stage is said of the bytes.
 pub fn stages_are_of_logs()
     // The stage has the account of a beginning: what follows that is nothing, or begins with the faulty line.
-    ensures reached { (bytes : List ℕ) (stage : Stage) → Follows log_turns unread bytes stage → IsReached stage bytes }
+    ensures reached { (bytes : List ℕ) (stage : LogStage) → Follows log_turns unread bytes stage → IsReached stage bytes }
 
     // The first faulty line begins what stands after the lines that were taken.
-    ensures after { (front rest : List ℕ) (middle new : Stage) → Follows log_turns unread front middle → (IsAtFault middle.due → ⊥)
+    ensures after { (front rest : List ℕ) (middle new : LogStage) → Follows log_turns unread front middle → (IsAtFault middle.due → ⊥)
         → Faults log_turns middle rest new → (is : IsReached new (front ++ rest)) × (is.rest ≡ rest) }
 
     // No line is faulty exactly while the lines so far begin a log; otherwise the `no` stays whatever lines follow.
-    ensures stands { (bytes : List ℕ) (stage : Stage) → Follows log_turns unread bytes stage → Stands bytes (verdict_so_far stage.due) }
-    ensures none { (bytes : List ℕ) (stage : Stage) → Follows log_turns unread bytes stage → BeginsWhole bytes
+    ensures stands { (bytes : List ℕ) (stage : LogStage) → Follows log_turns unread bytes stage → Stands bytes (verdict_so_far stage.due) }
+    ensures none { (bytes : List ℕ) (stage : LogStage) → Follows log_turns unread bytes stage → BeginsWhole bytes
         → verdict_so_far stage.due ≡ None }
 
     // The account is that of the lines before the faulty one, whose text is the stage's.
-    ensures fault { (bytes : List ℕ) (stage : Stage) (held : Held) (line : ℕ) (refusal : Refusal) (text : List ℕ) (ended : Bool)
+    ensures fault { (bytes : List ℕ) (stage : LogStage) (held : Held) (line : ℕ) (refusal : Refusal) (text : List ℕ) (ended : Bool)
         → Follows log_turns unread bytes stage → account_of held ≡ stage.state → stage.due ≡ Refused line refusal text
         → VerdictWith bytes ended held (No line refusal) text }
 
     // Memory is wanted only where a line that no check refuses names a granule for the first time.
-    ensures memory { (bytes rest more : List ℕ) (stage : Stage) → Follows log_turns unread bytes stage → Lacks log_turns stage rest more
+    ensures memory { (bytes rest more : List ℕ) (stage : LogStage) → Follows log_turns unread bytes stage → Lacks log_turns stage rest more
         → MayLackMemory (bytes ++ rest) more }
 
     // How the log ends if no other bytes follow than these, which are less than a line.
-    ensures ends { (bytes rest : List ℕ) (stage : Stage) (held : Held) (verdict : Verdict) (text : List ℕ)
+    ensures ends { (bytes rest : List ℕ) (stage : LogStage) (held : Held) (verdict : Verdict) (text : List ℕ)
         → Follows log_turns unread bytes stage → account_of held ≡ stage.state → IsCut rest → VerdictAtEnd stage rest verdict text
         → VerdictWith (bytes ++ rest) true held verdict text }
 
     // What is told of the faulty line is what the rules give for its step, if it is refused for its result.
-    ensures expects { (bytes : List ℕ) (stage : Stage) (result : Option Expected) → Follows log_turns unread bytes stage
+    ensures expects { (bytes : List ℕ) (stage : LogStage) (result : Option Expected) → Follows log_turns unread bytes stage
         → ExpectsAt stage.state stage.due result → Expects bytes result }
 
     // What is read after some bytes is read after all that was read before.
-    ensures goes_on { (first old new : Stage) (bytes more : List ℕ) → Follows log_turns first bytes old → Follows log_turns old more new
+    ensures goes_on { (first old new : LogStage) (bytes more : List ℕ) → Follows log_turns first bytes old → Follows log_turns old more new
         → Follows log_turns first (bytes ++ more) new }
 {}
 

@@ -12,7 +12,7 @@ use Rattle.tagmem.specs.Granules.{AreStored}
 use Rattle.cap_machine.specs.Accounts.{Account, named_by, row_in, step_checks, with_step}
 use Rattle.cap_machine.specs.{Helds.{Held, account_of}, Runs.parent_of, States.{State, key_of, untagged_null}}
 use Rattle.cap_machine.specs.Steps.{Access, row_of, state_with}
-use Rattle.cap_judge.specs.{Logs.text_of, Readings.{MakesSteps, at}, Turns.{Stage, log_turns}}
+use Rattle.cap_judge.specs.{Logs.text_of, Readings.{MakesSteps, at}, Turns.{LogStage, log_turns}}
 use Rattle.cap_judge.specs.declared.judges.Due.TheVariants as dues
 use Rattle.cap_judge.proofs.TurnLemmas.{allowed_form, body}
 use Rattle.cap_objects.specs.{Counts.{CountsAre, Owners, count_below}, declared.handouts.Handouts.Handouts, Handed.held_of, HandoutsIn.objects_of}
@@ -157,7 +157,7 @@ leads_on : (asks : Asks) (specials : ℕ → Cap) (old new : Account) (steps : L
     → AllByRecursion IsInRange (map Line.Step steps) → IsNear old.state → IsFree old.origin
     → AllByRecursion IsStepInRange steps × LeadBy asks (bare old specials) steps (bare new specials) × IsFree new.origin
 leads_on asks specials old new [] reads range near free =
-    let same = ap (λ (s : Stage). s.state) reads in (
+    let same = ap (λ (s : LogStage). s.state) reads in (
       tt,
       ap (λ (a : Account). bare a specials) same,
       subst (λ (a : Account). IsFree a.origin) same free,

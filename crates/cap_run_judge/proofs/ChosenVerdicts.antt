@@ -6,7 +6,7 @@ use Rattle.cap_run_log.specs.{declared.lines.RunLine.RunLine, RunLines.{IsRunLin
 use Rattle.cap_run.specs.declared.{asks.Asks.Asks, ends.RunRefusal.RunRefusal}
 use Rattle.cap_run.specs.{Choices.{EndsEarlier, IsAfterHeld, IsAfterOwned, IsAfterUsed}, Run.Run, RunChecks.line_end}
 use Rattle.cap_run.proofs.ChoiceLemmas.{by_choice}
-use Rattle.cap_run_judge.specs.{declared.verdict.RunVerdict.{RunVerdict, TheVariants.{Yes, No}}, Turns.{Stage, unread, run_turns}}
+use Rattle.cap_run_judge.specs.{declared.verdict.RunVerdict.{RunVerdict, TheVariants.{Yes, No}}, Turns.{RunStage, unread, run_turns}}
 use Rattle.cap_run_judge.specs.{Verdicts.IsRunVerdict, ChosenVerdicts.{IsFaultyEarlier, VerdictsByChoice}}
 use Rattle.cap_run_judge.proofs.{OneVerdict.one_verdict, TurnLemmas.{run_spelled, asked}}
 use Rattle.cap_turns.specs.Turns.{Body, Due, First, Reads, Second, next_stage, refusal_by, text_of}
@@ -27,22 +27,22 @@ module _ (less more : Asks) (why : RunRefusal) (IsAfter : Option RunRefusal → 
   by_both run_is Body None = inl refl
   by_both run_is due line = inl refl
 
-  abbrev asked_more : Stage → Stage
+  abbrev asked_more : RunStage → RunStage
   asked_more stage = record stage { state = asked more stage.state.run }
 
   -- of lines that are allowed, one is refused by the check
-  record Refused (from : Stage) (read : List RunLine) : Type 0 where
+  record Refused (from : RunStage) (read : List RunLine) : Type 0 where
     front : List RunLine
     line : RunLine
     back : List RunLine
     lines_are : read ≡ front ++ line ∷ back
-    stage : Stage
+    stage : RunStage
     reads : Reads run_turns (asked_more from) front stage
     in_range : AllByRecursion IsRunLineInRange front
     line_in_range : IsRunLineInRange line
     refused : refusal_by run_turns (asked stage.state.asks stage.state.run) stage.due (Some line) ≡ Some why
 
-  later : (from : Stage) (line : RunLine) (rest : List RunLine) → IsRunLineInRange line
+  later : (from : RunStage) (line : RunLine) (rest : List RunLine) → IsRunLineInRange line
       → refusal_by run_turns (asked more from.state.run) from.due (Some line) ≡ None → Refused (next_stage run_turns from line) rest → Refused from (line ∷ rest)
   later from line rest range allowed it = record {
     front = line ∷ it.front;
@@ -56,15 +56,15 @@ module _ (less more : Asks) (why : RunRefusal) (IsAfter : Option RunRefusal → 
     refused = it.refused;
   }
 
-  abbrev Walk : Stage → Stage → List RunLine → Type 0
+  abbrev Walk : RunStage → RunStage → List RunLine → Type 0
   Walk from to read = Reads run_turns (asked_more from) read (asked_more to) ⊎ Refused from read
 
-  one_more : (from to : Stage) (line : RunLine) (rest : List RunLine) → IsRunLineInRange line
+  one_more : (from to : RunStage) (line : RunLine) (rest : List RunLine) → IsRunLineInRange line
       → refusal_by run_turns (asked more from.state.run) from.due (Some line) ≡ None → Walk (next_stage run_turns from line) to rest → Walk from to (line ∷ rest)
   one_more from to line rest range allowed (inl reads) = inl (allowed, reads)
   one_more from to line rest range allowed (inr it) = inr (later from line rest range allowed it)
 
-  first_line : (from to : Stage) (line : RunLine) (rest : List RunLine) → IsRunLineInRange line
+  first_line : (from to : RunStage) (line : RunLine) (rest : List RunLine) → IsRunLineInRange line
       → refusal_by run_turns (asked less from.state.run) from.due (Some line) ≡ None → Walk (next_stage run_turns from line) to rest
       → EndsEarlier why IsAfter (refusal_by run_turns (asked less from.state.run) from.due (Some line)) (refusal_by run_turns (asked more from.state.run) from.due (Some line))
       → Walk from to (line ∷ rest)
@@ -81,7 +81,7 @@ module _ (less more : Asks) (why : RunRefusal) (IsAfter : Option RunRefusal → 
     refused = refused.0;
   })
 
-  walk : (from to : Stage) (read : List RunLine) → from.state.asks ≡ less → AllByRecursion IsRunLineInRange read → Reads run_turns from read to → Walk from to read
+  walk : (from to : RunStage) (read : List RunLine) → from.state.asks ≡ less → AllByRecursion IsRunLineInRange read → Reads run_turns from read to → Walk from to read
   walk from to [] asks_are range reads = inl (ap asked_more reads)
   walk from to (line ∷ rest) asks_are range reads =
       first_line from to line rest range.0
@@ -113,7 +113,7 @@ module _ (less more : Asks) (why : RunRefusal) (IsAfter : Option RunRefusal → 
         }
 
     -- what is refused without the check is refused with it
-    refused_too : (stage : Stage) (rest : List ℕ) (refusal : RunRefusal) → stage.state.asks ≡ less → Refuses run_turns stage rest refusal
+    refused_too : (stage : RunStage) (rest : List ℕ) (refusal : RunRefusal) → stage.state.asks ≡ less → Refuses run_turns stage rest refusal
         → Refuses run_turns (asked_more stage) rest refusal ⊎ (Refuses run_turns (asked_more stage) rest why × IsAfter (Some refusal))
     refused_too stage rest refusal asks_are (inl long) = inl (inl long)
     refused_too stage rest refusal asks_are (inr (inl cut)) = inl (inr (inl cut))
@@ -124,8 +124,8 @@ module _ (less more : Asks) (why : RunRefusal) (IsAfter : Option RunRefusal → 
           | inr it ↦ inr (inr (inr (text, behind, one, (line, reads, it.0))), subst IsAfter was it.1)
         ]
 
-    asks_of : (from to : Stage) (read : List RunLine) → Reads run_turns from read to → to.state.asks ≡ from.state.asks
-    asks_of from to [] reads = ap (λ (s : Stage). s.state.asks) (sym reads)
+    asks_of : (from to : RunStage) (read : List RunLine) → Reads run_turns from read to → to.state.asks ≡ from.state.asks
+    asks_of from to [] reads = ap (λ (s : RunStage). s.state.asks) (sym reads)
     asks_of from to (line ∷ rest) reads = asks_of (next_stage run_turns from line) to rest reads.1
 
     answer : (one : RunVerdict) → IsRunVerdict less bytes one → Answer one

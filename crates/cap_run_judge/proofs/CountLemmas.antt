@@ -3,10 +3,11 @@ use Rattle.std.proofs.Common.{◌≡◌, ℕ, ◌+◌, Bool, true, false, if◌t
 use Rattle.std.specs.Option.{option_map_or}
 use Rattle.std.proofs.lemmas.Option.{none-some}
 use Rattle.cap_run_log.specs.declared.lines.{RunLine.RunLine, RunStep.RunStep}
-use Rattle.cap_turns.specs.Turns.{AreTurns, Body, Due, First, IsAtFault, Reads, Second, lines_by, lines_read, next_stage, refusal_by}
+use Rattle.cap_turns.specs.Turns.{Body, Due, First, IsAtFault, Reads, Second, lines_by, lines_read, next_stage, refusal_by}
+use Rattle.cap_turns.proofs.Laws.{AreTurns}
 use Rattle.cap_run.specs.declared.{asks.Asks.Asks, ends.RunRefusal.{RunRefusal, TheVariants.{NoCapability, NoOwner}}}
 use Rattle.cap_run.specs.{Run.Run, RunChanges.{line_after, run_after, with_freed}, RunChecks.{number_end, run_end}, RunSteps.{or_later, step_limit}}
-use Rattle.cap_run_judge.specs.Turns.{Stage, next_due, run_turns, unread}
+use Rattle.cap_run_judge.specs.Turns.{RunStage, next_due, run_turns, unread}
 use Rattle.cap_run_judge.proofs.TurnLemmas.{asked, run_spelled}
 
 -- the object that a register's owner is, freed
@@ -47,7 +48,7 @@ line_counts asks_are run_is Body (RunLine.End count) fresh free = (omega arith, 
 line_counts asks_are run_is Body line fresh free = absurd (none-some _ (sym free))
 line_counts asks_are run_is due line fresh free = absurd (none-some _ (sym free))
 
-count_from : (from : Stage) (lines : List RunLine) (to : Stage) → fresh_by from.state.run from.due → Reads run_turns from lines to
+count_from : (from : RunStage) (lines : List RunLine) (to : RunStage) → fresh_by from.state.run from.due → Reads run_turns from lines to
     → lines_read run_turns to ≡ lines_read run_turns from + length lines
 count_from from [] to fresh reads = sym (ap (lines_read run_turns) reads) ∙ omega arith
 count_from from (line ∷ lines) to fresh reads =

@@ -11,14 +11,14 @@ use Rattle.cap_run.specs.declared.{asks.Asks.Asks, ends.RunRefusal.{TheVariants.
 use Rattle.cap_run.specs.{Allowed.{AreAllowed, IsLineAllowed}, Descents.run_along, Erasure.{erased, erased_after, is_of_objects, object_lines}}
 use Rattle.cap_run.specs.{Run.Run, RunChanges.{line_after, no_run, run_after}, RunChecks.line_end}
 use Rattle.cap_run.proofs.{DescentLemmas.{along, along-fold}, ErasureLemmas.erased_allowed}
-use Rattle.cap_run_judge.specs.{Turns.{Stage, unread, run_turns}, Verdicts.IsRunYes}
+use Rattle.cap_run_judge.specs.{Turns.{RunStage, unread, run_turns}, Verdicts.IsRunYes}
 use Rattle.cap_run_judge.proofs.{GuardLemmas.read_allowed, TurnLemmas.asked}
 use Rattle.cap_turns.specs.Turns.{Body, Due, First, Reads, Second, next_stage, refusal_by, text_of}
 use Rattle.cap_run.specs.declared.ends.RunRefusal.{RunRefusal}
 
 -- the run after lines
-reads_run : (from to : Stage) (read : List RunLine) → Reads run_turns from read to → to.state.run ≡ along from.state.run read
-reads_run from to [] reads = ap (λ (s : Stage). s.state.run) (sym reads)
+reads_run : (from to : RunStage) (read : List RunLine) → Reads run_turns from read to → to.state.run ≡ along from.state.run read
+reads_run from to [] reads = ap (λ (s : RunStage). s.state.run) (sym reads)
 reads_run from to (line ∷ rest) reads = reads_run (next_stage run_turns from line) to rest reads.1
 
 in_range : (asks_are : Asks) (run_is : Run) (read : List RunLine) → AreAllowed asks_are run_is read → AllByRecursion IsRunLineInRange read
@@ -53,11 +53,11 @@ body_of asks_are run_is Body step free = refl
 body_of asks_are run_is due step free = absurd (none-some (Usual Misplaced) (sym free))
 
 module _ (other : Asks) where
-  abbrev at : Run → Due RunRefusal → Stage
+  abbrev at : Run → Due RunRefusal → RunStage
   at run_is due_is = record { state = asked other run_is; due = due_is }
 
   -- a step is left or not, and so are the lines after it
-  step_left : (from to : Stage) (step : RunStep) (rest : List RunLine) (gone : ℕ) (run_is : Run) → Reads run_turns from (lines.Run step ∷ rest) to
+  step_left : (from to : RunStage) (step : RunStep) (rest : List RunLine) (gone : ℕ) (run_is : Run) → Reads run_turns from (lines.Run step ∷ rest) to
       → (AreAllowed other run_is (erased_after (gone + 1) rest)
       → Reads run_turns (at run_is Body) (erased_after (gone + 1) rest) (at (along run_is (erased_after (gone + 1) rest)) to.due))
       → (AreAllowed other (run_after run_is step) (erased_after gone rest)
@@ -73,10 +73,10 @@ module _ (other : Asks) where
       (again from.state.asks other from.state.run run_is from.due (lines.Run step) reads.0 allowed.1, with_it allowed.2)
 
   -- what is left of lines leads on where each of it is allowed
-  reads_left : (from to : Stage) (read : List RunLine) (gone : ℕ) (run_is : Run) → Reads run_turns from read to
+  reads_left : (from to : RunStage) (read : List RunLine) (gone : ℕ) (run_is : Run) → Reads run_turns from read to
       → AreAllowed other run_is (erased_after gone read)
       → Reads run_turns (at run_is from.due) (erased_after gone read) (at (along run_is (erased_after gone read)) to.due)
-  reads_left from to [] gone run_is reads allowed = ap (λ (s : Stage). at run_is s.due) reads
+  reads_left from to [] gone run_is reads allowed = ap (λ (s : RunStage). at run_is s.due) reads
   reads_left from to (lines.Run step ∷ rest) gone run_is reads allowed =
       step_left from to step rest gone run_is reads
       (reads_left (next_stage run_turns from (lines.Run step)) to rest (gone + 1) run_is reads.1)

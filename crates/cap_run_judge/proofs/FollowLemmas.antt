@@ -9,11 +9,11 @@ use Rattle.cap_run.specs.{Run.Run, RunChanges.line_after, RunChecks.{Answers, li
 use Rattle.cap_run.proofs.StepTakingLemmas.{err_same}
 use Rattle.cap_run_judge.specs.declared.judges.Due as code
 use Rattle.cap_run_judge.specs.declared.judges.Due.TheVariants as dues
-use Rattle.cap_run_judge.specs.{Readings.{IsUnmade, due_of}, Turns.{Stage, next_due, run_turns}}
+use Rattle.cap_run_judge.specs.{Readings.{IsUnmade, due_of}, Turns.{RunStage, next_due, run_turns}}
 use Rattle.cap_run_judge.proofs.TurnLemmas.{asked, body, body_answers}
 
 -- how far a run log is read
-abbrev pub staged : Asks → Run → Due RunRefusal → Stage
+abbrev pub staged : Asks → Run → Due RunRefusal → RunStage
 staged asks_are run_is due_is = record { state = asked asks_are run_is; due = due_is }
 
 -- a step that was made

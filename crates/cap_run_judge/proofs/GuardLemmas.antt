@@ -8,7 +8,7 @@ use Rattle.cap_run.specs.{Allowed.{AreAllowed, IsLineAllowed}, declared.asks.Ask
 use Rattle.cap_run.specs.declared.ends.RunRefusal.TheVariants.{Usual}
 use Rattle.cap_run.specs.Run.{Run}
 use Rattle.cap_run.proofs.{ApartLemmas.safe_at_each, DescentLemmas.{allowed_by, lie_in_roots, stay_within_roots}, OneRootLemmas.descend_from_one, OwnedLemmas.accesses_own}
-use Rattle.cap_run_judge.specs.{Turns.{Stage, unread, run_turns}, Verdicts.{AreGuarded, IsRunGuarded}}
+use Rattle.cap_run_judge.specs.{Turns.{RunStage, unread, run_turns}, Verdicts.{AreGuarded, IsRunGuarded}}
 use Rattle.cap_turns.specs.Turns.{Due, Reads, next_stage, refusal_by}
 use Rattle.cap_run_judge.proofs.TurnLemmas.{asked}
 use Rattle.cap_run.specs.declared.ends.RunRefusal.{RunRefusal}
@@ -23,7 +23,7 @@ line_allowed asks_are run_is Due.Second line free = absurd (none-some (Usual Bad
 line_allowed asks_are run_is Due.Body line free = allowed_by asks_are run_is line free
 line_allowed asks_are run_is due line free = absurd (none-some (Usual Misplaced) (sym free))
 
-pub read_allowed : (from to : Stage) (lines : List RunLine) → AllByRecursion IsRunLineInRange lines → Reads run_turns from lines to
+pub read_allowed : (from to : RunStage) (lines : List RunLine) → AllByRecursion IsRunLineInRange lines → Reads run_turns from lines to
     → AreAllowed from.state.asks from.state.run lines
 read_allowed from to [] range reads = tt
 read_allowed from to (line ∷ lines) range reads =

@@ -2,7 +2,7 @@
 use Rattle.std.proofs.Common.{◌≡◌, ℕ, inl, inr, List, ap, refl, sym, ◌∙◌}
 use Rattle.cap_turns.proofs.{OneEnd.{never_both, one_fault, one_whole}, SomeEnd.some_end}
 use Rattle.cap_run.specs.declared.asks.Asks.{Asks}
-use Rattle.cap_run_judge.specs.{declared.verdict.RunVerdict.{RunVerdict, TheVariants.{Yes, No}}, Turns.{Stage, run_turns}}
+use Rattle.cap_run_judge.specs.{declared.verdict.RunVerdict.{RunVerdict, TheVariants.{Yes, No}}, Turns.{RunStage, run_turns}}
 use Rattle.cap_run_judge.specs.Verdicts.{IsRunVerdict}
 use Rattle.cap_run_judge.proofs.{CountLemmas.run_lawful, TurnLemmas.run_spelled}
 
@@ -10,9 +10,9 @@ pub one_verdict : (asks_are : Asks) (bytes : List ℕ) (a b : RunVerdict) → Is
 one_verdict asks_are bytes (Yes steps roots objects) (Yes steps' roots' objects') h k =
     let same = one_whole run_turns run_spelled bytes h.stage k.stage h.whole k.whole in
     cc (
-      h.step_count_is ∙ ap (λ (s : Stage). s.state.run.steps) same ∙ sym k.step_count_is,
-      h.root_count_is ∙ ap (λ (s : Stage). s.state.run.roots) same ∙ sym k.root_count_is,
-      h.object_count_is ∙ ap (λ (s : Stage). s.state.run.count) same ∙ sym k.object_count_is,
+      h.step_count_is ∙ ap (λ (s : RunStage). s.state.run.steps) same ∙ sym k.step_count_is,
+      h.root_count_is ∙ ap (λ (s : RunStage). s.state.run.roots) same ∙ sym k.root_count_is,
+      h.object_count_is ∙ ap (λ (s : RunStage). s.state.run.count) same ∙ sym k.object_count_is,
     )
 one_verdict asks_are bytes (Yes steps roots objects) (No line refusal) h k =
     absurd (never_both run_turns run_spelled bytes h.stage line refusal h.whole k)

@@ -12,7 +12,7 @@ use Rattle.cap_run_log.specs.{declared.lines.RunLine.RunLine, RunLines.{SpellsRu
 use Rattle.cap_run_log.proofs.Spellings.{one_run_spelling}
 use Rattle.cap_run.specs.declared.{asks.Asks.Asks, ends.RunRefusal.{RunRefusal, TheVariants.{NotOwned, OwnerFreed, Usual}}}
 use Rattle.cap_run.specs.{Run.Run, RunChanges.{account_in, without_origins}, RunChecks.{is_unowned, passes_limit, usual_end, uses_freed}}
-use Rattle.cap_run_judge.specs.{Questions.GivesForText, Readings.{AnswerAtEnd, VerdictAtEnd}, Turns.Stage}
+use Rattle.cap_run_judge.specs.{Questions.GivesForText, Readings.{AnswerAtEnd, VerdictAtEnd}, Turns.RunStage}
 use Rattle.cap_run_judge.specs.declared.verdict.RunVerdict.{RunVerdict, TheVariants.{No, Yes}}
 
 -- a check of version 2, as one of runs
@@ -127,6 +127,6 @@ pub other_line : (text : List ℕ) (line : RunLine) → SpellsRun text line → 
 other_line text line spells other step spelled = other step (one_run_spelling text line (RunLine.Step step) spells spelled)
 
 -- a yes at the end of a log
-pub ends_yes : (stage : Stage) (rest : List ℕ) (verdict : RunVerdict) → AnswerAtEnd stage rest (Ok verdict) → VerdictAtEnd stage rest verdict []
+pub ends_yes : (stage : RunStage) (rest : List ℕ) (verdict : RunVerdict) → AnswerAtEnd stage rest (Ok verdict) → VerdictAtEnd stage rest verdict []
 ends_yes stage rest (Yes steps roots objects) ends = ends
 ends_yes stage rest (No line refusal) ends = absurd ends

@@ -4,7 +4,7 @@ use Rattle.std.proofs.Common.{subst, ◌∙◌, append-nil, append_assoc, arith,
 use Rattle.cap_streams.specs.{declared.judging.judge_faults.JudgeFault.{JudgeFault, TheVariants.{Pull, NoMemory}}, Front.IsCut, Streams.CountsOnly}
 use Rattle.cap_run.specs.{declared.asks.Asks.Asks, Run.Run}
 use Rattle.cap_run_judge.specs.declared.faults.RefusedRunLine.{RefusedRunLine}
-use Rattle.cap_run_judge.specs.{declared.verdict.RunVerdict.{RunVerdict, TheVariants.{Yes, No}}, Turns.{Stage, unread, run_turns}}
+use Rattle.cap_run_judge.specs.{declared.verdict.RunVerdict.{RunVerdict, TheVariants.{Yes, No}}, Turns.{RunStage, unread, run_turns}}
 use Rattle.cap_run_judge.specs.{Verdicts.{IsRunVerdict, NoRunVerdictIn}, Judgings.{IsAnswerOf, IsVerdictOf, JudgedBy}}
 use Rattle.cap_run_judge.specs.Readings.{AnswerAtEnd, VerdictAtEnd, VerdictWith, IsAnswered}
 use Rattle.cap_run_judge.proofs.GuardLemmas.{run_guarded}
@@ -53,7 +53,7 @@ of_all asks_are bytes given rest ended result are end answer no_pull =
     (whole_answer asks_are given rest ended result end answer no_pull)
 
 -- a yes or a no, where a log ends
-pub ended_answer : (stage : Stage) (rest text : List ℕ) (end : Result RunVerdict RefusedRunLine) (answer : Result RunVerdict JudgeFault)
+pub ended_answer : (stage : RunStage) (rest text : List ℕ) (end : Result RunVerdict RefusedRunLine) (answer : Result RunVerdict JudgeFault)
     → IsAnswered end answer text → AnswerAtEnd stage rest end → (verdict : RunVerdict) × (answer ≡ Ok verdict) × VerdictAtEnd stage rest verdict text
 ended_answer stage rest text (Ok (Yes steps roots objects)) answer is ends = (Yes steps roots objects, is, ends)
 ended_answer stage rest text (Ok (No line refusal)) answer is ends = absurd ends
@@ -83,7 +83,7 @@ module _ {S : Type 0} (asks_are : Asks) (gave : S → S → List ℕ → Type 0)
       })
 
   -- want of memory
-  pub lacking_judged : (stage : Stage) (taken rest more : List ℕ) → Goes run_turns (unread asks_are) taken stage → given ≡ taken ++ rest → run_is ≡ stage.state.run
+  pub lacking_judged : (stage : RunStage) (taken rest more : List ℕ) → Goes run_turns (unread asks_are) taken stage → given ≡ taken ++ rest → run_is ≡ stage.state.run
       → MayLackMemory run_turns (unread asks_are) given more → gave old new given → JudgedBy asks_are gave ended old new (Err JudgeFault.NoMemory) run_is text
   lacking_judged stage taken rest more goes are is lack gives = record {
     judged = record { given = given; gives = gives; answer = record { verdict = tt; guarded = run_guarded asks_are given; fault = (more, lack) } };
@@ -92,7 +92,7 @@ module _ {S : Type 0} (asks_are : Asks) (gave : S → S → List ℕ → Type 0)
   }
 
   -- a source that failed after lines that begin a run log, and less than a line
-  pub pull_judged : (stage : Stage) (taken rest : List ℕ) → Goes run_turns (unread asks_are) taken stage → IsCut rest → given ≡ taken ++ rest
+  pub pull_judged : (stage : RunStage) (taken rest : List ℕ) → Goes run_turns (unread asks_are) taken stage → IsCut rest → given ≡ taken ++ rest
       → run_is ≡ stage.state.run → gave old new given → JudgedBy asks_are gave ended old new (Err JudgeFault.Pull) run_is text
   pull_judged stage taken rest goes cut are is gives = record {
     judged = record {

@@ -8,14 +8,13 @@ use Rattle.cap_streams.specs.{FaultLines.bytes_of, Front.{IsCut, IsFrontText}}
 use Rattle.cap_run_log.specs.declared.lines.{RunLine.RunLine}
 use Rattle.cap_run_log.specs.RunLines.{IsRunLineInRange, run_spelling}
 use Rattle.cap_run_log.proofs.{DecidedRunLines.run_line_decided, Spellings.{one_run_spelling, run_spelling-plain, run_spelling-short}}
-use Rattle.cap_turns.specs.Turns.{AreSpelled, Body, Goes, IsAtFault, Reads, lines_read, next_stage, text_of}
-use Rattle.cap_turns.specs.Readings.{due_at_end, refused_by}
-use Rattle.cap_turns.proofs.LineLemmas.{cut_text}
+use Rattle.cap_turns.specs.{Turns.{Body, Goes, IsAtFault, Reads, lines_read, next_stage, text_of}, Readings.{due_at_end, refused_by}}
+use Rattle.cap_turns.proofs.{LineLemmas.cut_text, Laws.AreSpelled}
 use Rattle.cap_run.specs.declared.{asks.Asks.Asks, ends.{RunEnd.RunEnd, RunRefusal.{RunRefusal, TheVariants.Usual}}}
 use Rattle.cap_run.specs.StepLines.{LeadBy, MakesUsualSteps, text_of_steps}
 use Rattle.cap_run.specs.{Run.Run, RunChanges.{line_after, usual_after}, RunChecks.{Answers, line_end, line_wants}}
 use Rattle.cap_run.proofs.StepTakingLemmas.{line_shorter}
-use Rattle.cap_run_judge.specs.{declared.faults.RefusedRunLine.RefusedRunLine, Turns.{Asked, Stage, run_turns}}
+use Rattle.cap_run_judge.specs.{declared.faults.RefusedRunLine.RefusedRunLine, Turns.{Asked, RunStage, run_turns}}
 use Rattle.cap_run_judge.specs.Readings.{AnswersLine, AnswerAtEnd, due_of}
 use Rattle.cap_run_judge.specs.declared.judges.Due as code
 use Rattle.cap_run_judge.specs.declared.judges.Due.TheVariants as dues
@@ -42,7 +41,7 @@ later_shorter bytes more here rest line is begins =
 -- Lines of steps of version 2
 
 -- the stage in a body
-abbrev pub body : Asks → Run → Stage
+abbrev pub body : Asks → Run → RunStage
 body asks_are run_is = record { state = asked asks_are run_is; due = Body }
 
 steps_in_range : (steps : List Step) → AllByRecursion IsStepInRange steps → AllByRecursion IsRunLineInRange (map RunLine.Step steps)
@@ -86,7 +85,7 @@ clear_of stage clear is = is
 -- Where the bytes end
 
 -- the faulty line there
-pub ends_refused : (stage : Stage) (rest : List ℕ) (refusal : RunRefusal) (fault : RefusedRunLine)
+pub ends_refused : (stage : RunStage) (rest : List ℕ) (refusal : RunRefusal) (fault : RefusedRunLine)
     → due_at_end run_turns stage.state stage.due rest ≡ refused_by run_turns stage.state stage.due refusal rest → IsCut rest
     → fault.line ≡ lines_read run_turns stage + 1 → fault.refusal ≡ refusal → IsFrontText rest (bytes_of fault.text)
     → AnswerAtEnd stage rest (Err fault)

@@ -12,7 +12,7 @@ use Rattle.cap_judge.specs.{declared.verdict.Verdict.{Verdict, TheVariants.{No, 
 use Rattle.cap_judge.specs.Verdicts.{IsVerdict}
 use Rattle.cap_judge.specs.Logs.{Beginning, Body, Empty, IsAccepted, NoMode, Whole, account_after, has_form, line_checks, lines_of}
 use Rattle.cap_judge.specs.Logs.{Refuses as LogRefuses, text_of as log_text}
-use Rattle.cap_judge.specs.Turns.{Stage as LogStage, log_turns}
+use Rattle.cap_judge.specs.Turns.{LogStage, log_turns}
 use Rattle.cap_judge.proofs.InTurn.{longer, stage_after as log_stage, with_line}
 use Rattle.cap_judge.proofs.{JudgeLemmas.{fault_behind, front_refused, text_push, yes_of}, OneVerdict.one_verdict as one_log_verdict}
 use Rattle.cap_judge.proofs.TurnLaws.{refuses_text}
@@ -21,7 +21,7 @@ use Rattle.cap_run_log.proofs.UsualLineLemmas.{in_range_alike, reads_alike, spel
 use Rattle.cap_run.specs.{declared.{asks.Asks.Asks, ends.RunRefusal.{TheVariants.Usual}}, Run.Run}
 use Rattle.cap_run.specs.{RunChanges.{line_after, no_run}, UsualRuns.{IsOfLog, log_refusal, run_by}}
 use Rattle.cap_run.proofs.UsualRunLemmas.{means_the_same}
-use Rattle.cap_run_judge.specs.{declared.verdict.RunVerdict.RunVerdict, Turns.{Stage, unread, run_turns}}
+use Rattle.cap_run_judge.specs.{declared.verdict.RunVerdict.RunVerdict, Turns.{RunStage, unread, run_turns}}
 use Rattle.cap_run_judge.specs.{UsualLogs.{AreUsual, NamesNoLimit, as_run_verdict}, Verdicts.IsRunVerdict}
 use Rattle.cap_run_judge.proofs.{FollowLemmas.staged, OneVerdict.one_verdict, TurnLemmas.asked}
 use Rattle.cap_turns.specs.{Turns.{Allows, Due, Goes, next_stage, refusal_by, text_of}, Verdicts.Refuses}
@@ -40,7 +40,7 @@ usual_front bytes text more usual whole line = usual [] text more line tt whole.
 
 -- Where the beginning of a log leads to, in a run
 
-abbrev run_stage : Asks → Beginning → Stage
+abbrev run_stage : Asks → Beginning → RunStage
 run_stage asks_are Empty = unread asks_are
 run_stage asks_are NoMode = staged asks_are no_run Due.Second
 run_stage asks_are (Body rules_are roots steps) = staged asks_are (run_by (account_after rules_are roots steps)) Due.Body

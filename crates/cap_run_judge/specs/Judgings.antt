@@ -3,7 +3,7 @@ use Rattle.std.specs.Prelude.{◌≡◌, ℕ, Bool, true, false, List, Result, I
 use Rattle.cap_streams.specs.declared.judging.judge_faults.JudgeFault.{JudgeFault, TheVariants.{Pull, NoMemory}}
 use Rattle.cap_turns.specs.Verdicts.{BeginsLog, IsBehind, IsNo, IsWhole, MayLackMemory, StopsBefore}
 use Rattle.cap_run.specs.{declared.asks.Asks.Asks, Run.Run}
-use Rattle.cap_run_judge.specs.{declared.verdict.RunVerdict.{RunVerdict, TheVariants.{Yes, No}}, Turns.{Stage, run_turns, unread}}
+use Rattle.cap_run_judge.specs.{declared.verdict.RunVerdict.{RunVerdict, TheVariants.{Yes, No}}, Turns.{RunStage, run_turns, unread}}
 use Rattle.cap_run_judge.specs.Verdicts.{IsRunGuarded, IsRunVerdict}
 
 -- the verdict on these bytes, if their source has ended; otherwise a `no` that holds whatever bytes follow
@@ -19,7 +19,7 @@ StopsWithRun asks bytes ended run line text =
 
 -- the bytes are a whole run log, whose lines lead to the run of a machine
 pub record LeadsTo (asks : Asks) (bytes : List ℕ) (run : Run) : Type 0 where
-  pub stage : Stage
+  pub stage : RunStage
   pub whole : IsWhole run_turns (unread asks) bytes stage
   pub run_is : run ≡ stage.state.run
 
@@ -49,7 +49,7 @@ pub record Judged {S : Type 0} (asks : Asks) (gave : S → S → List ℕ → Ty
 
 -- after a fault the machine has the run of the lines that were taken, with which the bytes begin
 pub record LeavesIn (asks : Asks) (bytes : List ℕ) (run : Run) : Type 0 where
-  pub stage : Stage
+  pub stage : RunStage
   pub rest : List ℕ
   pub behind : IsBehind run_turns (unread asks) bytes stage rest
   pub run_is : run ≡ stage.state.run

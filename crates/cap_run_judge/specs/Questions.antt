@@ -7,7 +7,7 @@ use Rattle.cap_machine.specs.Accounts.{row_in}
 use Rattle.cap_judge.specs.{declared.verdict.Expected.Expected, Expectations.given_in}
 use Rattle.cap_run.specs.declared.{asks.Asks.Asks, ends.RunRefusal.{RunRefusal, TheVariants.Usual}}
 use Rattle.cap_run.specs.{Run.Run, RunChanges.account_in, RunChecks.usual_end}
-use Rattle.cap_run_judge.specs.{declared.verdict.RunVerdict.{RunVerdict, TheVariants.No}, Turns.Stage}
+use Rattle.cap_run_judge.specs.{declared.verdict.RunVerdict.{RunVerdict, TheVariants.No}, Turns.RunStage}
 use Rattle.cap_turns.specs.Turns.{Due, Refused}
 
 -- the `no` that stands whatever bytes follow, once a line is faulty
@@ -28,5 +28,5 @@ ExpectsBy asks run (Refused line refusal text) result =
     (refusal ≡ Usual WrongResult → GivesForText asks run text result) × (refusal ≢ Usual WrongResult → result ≡ None)
 ExpectsBy asks run due result = result ≡ None
 
-abbrev pub ExpectsAt : Stage → Option Expected → Type 0
+abbrev pub ExpectsAt : RunStage → Option Expected → Type 0
 ExpectsAt stage result = ExpectsBy stage.state.asks stage.state.run stage.due result

@@ -10,7 +10,7 @@ use Rattle.cap_run.specs.declared.ends.RunEnd.TheVariants as ends
 use Rattle.cap_run.specs.{Machines.run_in, Run.Run}
 use Rattle.cap_run_judge.specs.declared.faults.RefusedRunLine as faults
 use Rattle.cap_run_judge.specs.{declared.judges.RunJudge.RunJudge, declared.verdict.RunVerdict.{RunVerdict, TheVariants.{Yes, No}}}
-use Rattle.cap_run_judge.specs.{Judgings.{IsVerdictOf, StopsIn}, Turns.{Stage, run_turns}}
+use Rattle.cap_run_judge.specs.{Judgings.{IsVerdictOf, StopsIn}, Turns.{RunStage, run_turns}}
 use Rattle.cap_run_judge.specs.declared.judges.Due as code
 use Rattle.cap_run_judge.specs.declared.judges.Due.TheVariants as dues
 
@@ -23,7 +23,7 @@ due_of dues.Ended = Ended
 due_of (dues.Refused fault) = Refused fault.line fault.refusal (bytes_of fault.text)
 
 -- how far a judge has read
-abbrev pub stage_of : {M : Type 0} {ghosts : Ghosts M} → RunJudge M ghosts → Stage
+abbrev pub stage_of : {M : Type 0} {ghosts : Ghosts M} → RunJudge M ghosts → RunStage
 stage_of judge = record { state = record { asks = judge.machine.asks; run = run_in judge.machine }; due = due_of judge.due }
 
 -- the refusal with which a line is not taken, or none where memory is wanted
@@ -32,20 +32,20 @@ end_of (ends.Refused refusal) = Some refusal
 end_of ends.NoMemory = None
 
 -- why a line is not taken
-abbrev pub EndsLine : Stage → RunLine → RunEnd → Type 0
+abbrev pub EndsLine : RunStage → RunLine → RunEnd → Type 0
 EndsLine stage line end = turns.EndsLine run_turns stage line (end_of end)
 
 -- why what the bytes begin with is not taken
-abbrev pub EndsBytes : Stage → List ℕ → RunEnd → Type 0
+abbrev pub EndsBytes : RunStage → List ℕ → RunEnd → Type 0
 EndsBytes stage bytes end = turns.EndsBytes run_turns stage bytes (end_of end)
 
 -- an answer to a line: it leads to a stage; or it isn't taken, for this reason, and nothing has changed
-abbrev pub AnswersLine : Stage → RunLine → Result (Unit {0}) RunEnd → Stage → Type 0
+abbrev pub AnswersLine : RunStage → RunLine → Result (Unit {0}) RunEnd → RunStage → Type 0
 AnswersLine old line (Ok done) new = Takes run_turns old line new
 AnswersLine old line (Err end) new = EndsLine old line end × (new ≡ old)
 
 -- a step may come next, and its line isn't taken
-abbrev pub IsUnmade : Stage → RunLine → RunEnd → Type 0
+abbrev pub IsUnmade : RunStage → RunLine → RunEnd → Type 0
 IsUnmade stage line end = (stage.due ≡ Body) × EndsLine stage line end
 
 -- which line is faulty, or that none is
@@ -54,14 +54,14 @@ IsFaultOf due (Some fault) = due ≡ Refused fault.line fault.refusal (bytes_of 
 IsFaultOf due None = IsAtFault due → ⊥
 
 -- the verdict on a log that ends there, and after a no the text of the faulty line
-abbrev pub VerdictAtEnd : Stage → List ℕ → RunVerdict → List ℕ → Type 0
+abbrev pub VerdictAtEnd : RunStage → List ℕ → RunVerdict → List ℕ → Type 0
 VerdictAtEnd stage rest (Yes steps roots objects) text =
     (due_at_end run_turns stage.state stage.due rest ≡ Ended)
     × (steps ≡ stage.state.run.steps) × (roots ≡ stage.state.run.roots) × (objects ≡ stage.state.run.count)
 VerdictAtEnd stage rest (No line refusal) text = due_at_end run_turns stage.state stage.due rest ≡ Refused line refusal text
 
 -- a yes, or the faulty line
-abbrev pub AnswerAtEnd : Stage → List ℕ → Result RunVerdict faults.RefusedRunLine → Type 0
+abbrev pub AnswerAtEnd : RunStage → List ℕ → Result RunVerdict faults.RefusedRunLine → Type 0
 AnswerAtEnd stage rest (Ok (Yes steps roots objects)) = VerdictAtEnd stage rest (Yes steps roots objects) []
 AnswerAtEnd stage rest (Ok (No line refusal)) = ⊥
 AnswerAtEnd stage rest (Err fault) = VerdictAtEnd stage rest (No fault.line fault.refusal) (bytes_of fault.text)

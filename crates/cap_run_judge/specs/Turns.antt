@@ -3,7 +3,7 @@ use Rattle.std.specs.Prelude.{◌+◌, Bool, true, false}
 use Rattle.cap_run_log.specs.declared.lines.RunLine.{RunLine}
 use Rattle.cap_run_log.specs.declared.lines.RunLine.TheVariants as lines
 use Rattle.cap_run_log.specs.RunLines.{IsRunLineInRange, run_spelling}
-use Rattle.cap_turns.specs.Turns.{Body, Due, Ended, First, Second, Stage as StageOf, Turns}
+use Rattle.cap_turns.specs.Turns.{Body, Due, Ended, First, Second, Stage, Turns}
 use Rattle.cap_run.specs.declared.{asks.Asks.Asks, ends.RunRefusal.{RunRefusal, TheVariants.Usual}}
 use Rattle.cap_run.specs.{Run.Run, RunChanges.{line_after, no_run}, RunChecks.{line_end, line_wants}}
 
@@ -13,11 +13,11 @@ pub record Asked : Type 0 where
   pub run : Run
 
 -- how far a run log is read
-abbrev pub Stage : Type 0
-Stage = StageOf Asked RunRefusal
+abbrev pub RunStage : Type 0
+RunStage = Stage Asked RunRefusal
 
 -- nothing is read
-abbrev pub unread : Asks → Stage
+abbrev pub unread : Asks → RunStage
 unread asks_are = record { state = record { asks = asks_are; run = no_run }; due = First }
 
 -- the version line

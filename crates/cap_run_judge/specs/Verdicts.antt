@@ -5,7 +5,7 @@ use Rattle.cap_run_log.specs.declared.lines.RunLine.{RunLine}
 use Rattle.cap_turns.specs.{Turns.Goes, Verdicts.{IsFirstFault, IsWhole, MayLackMemory}}
 use Rattle.cap_run.specs.declared.asks.Asks.{Asks}
 use Rattle.cap_run.specs.{Allowed.DescendsFromOne, Descents.{LiesInRoot, StaysWithinRoots, run_along}, OwnedAccesses.AccessesOwn, Safety.IsSafe}
-use Rattle.cap_run_judge.specs.{declared.verdict.RunVerdict.{RunVerdict, TheVariants.{Yes, No}}, Turns.{Stage, run_turns, unread}}
+use Rattle.cap_run_judge.specs.{declared.verdict.RunVerdict.{RunVerdict, TheVariants.{Yes, No}}, Turns.{RunStage, run_turns, unread}}
 
 -- what is true along the lines of a run log, at every moment
 pub record AreGuarded (asks : Asks) (lines : List RunLine) : Type 0 where
@@ -22,11 +22,11 @@ pub record AreGuarded (asks : Asks) (lines : List RunLine) : Type 0 where
 
 -- if the bytes are lines that begin a run log, they are guarded
 abbrev pub IsRunGuarded : Asks → List ℕ → Type 0
-IsRunGuarded asks bytes = (stage : Stage) (goes : Goes run_turns (unread asks) bytes stage) → AreGuarded asks goes.lines
+IsRunGuarded asks bytes = (stage : RunStage) (goes : Goes run_turns (unread asks) bytes stage) → AreGuarded asks goes.lines
 
 -- the bytes are a whole run log, with these counts of steps, roots and objects
 pub record IsRunYes (asks : Asks) (bytes : List ℕ) (step_count root_count object_count : ℕ) : Type 0 where
-  pub stage : Stage
+  pub stage : RunStage
   pub whole : IsWhole run_turns (unread asks) bytes stage
   pub step_count_is : step_count ≡ stage.state.run.steps
   pub root_count_is : root_count ≡ stage.state.run.roots

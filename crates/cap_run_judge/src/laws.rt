@@ -4,7 +4,7 @@ ghost use Rattle.std.specs.Prelude.{◌≡◌, ◌-◌, ◌++◌, ℕ, Bool, Lis
 ghost use Rattle.cap_streams.specs.Front.{IsCut};
 ghost use Rattle.cap_judge.specs.{Verdicts.IsVerdict, declared.verdict.Verdict.Verdict};
 ghost use Rattle.cap_run.specs.{declared.asks.Asks.Asks, Descents.run_along, Erasure.{erased, object_lines}};
-ghost use Rattle.cap_run_judge.specs.{declared.verdict.RunVerdict.RunVerdict, Turns.{Stage, unread, run_turns}};
+ghost use Rattle.cap_run_judge.specs.{declared.verdict.RunVerdict.RunVerdict, Turns.{RunStage, unread, run_turns}};
 ghost use Rattle.cap_run_judge.specs.{Readings.{VerdictAtEnd, VerdictWith}, ChosenVerdicts.VerdictsByChoice};
 ghost use Rattle.cap_run_judge.specs.UsualLogs.{AreUsual, NamesNoLimit, as_run_verdict};
 ghost use Rattle.cap_run_judge.specs.Verdicts.{IsRunGuarded, IsRunVerdict, IsRunYes};
@@ -58,20 +58,20 @@ pub fn logs_are_run_logs()
 /// bytes.
 pub fn stages_are_of_run_logs()
     // What is read after some bytes is read after all that was read before.
-    ensures goes_on { (first old new : Stage) (bytes more : List ℕ) → Goes run_turns first bytes old → Goes run_turns old more new
+    ensures goes_on { (first old new : RunStage) (bytes more : List ℕ) → Goes run_turns first bytes old → Goes run_turns old more new
         → Goes run_turns first (bytes ++ more) new }
 
     // The no at the first faulty line stands, whatever bytes follow.
-    ensures fault { (asks : Asks) (front rest : List ℕ) (middle new : Stage) (ended : Bool) (verdict : RunVerdict) (text : List ℕ)
+    ensures fault { (asks : Asks) (front rest : List ℕ) (middle new : RunStage) (ended : Bool) (verdict : RunVerdict) (text : List ℕ)
         → Goes run_turns (unread asks) front middle → Faults run_turns middle rest new → VerdictAtEnd new [] verdict text
         → VerdictWith asks (front ++ rest) ended new.state.run verdict text }
 
     // Memory is wanted only where a line that no check refuses names a granule for the first time, or an object.
-    ensures memory { (asks : Asks) (front rest more : List ℕ) (stage : Stage) → Goes run_turns (unread asks) front stage → Lacks run_turns stage rest more
+    ensures memory { (asks : Asks) (front rest more : List ℕ) (stage : RunStage) → Goes run_turns (unread asks) front stage → Lacks run_turns stage rest more
         → MayLackMemory run_turns (unread asks) (front ++ rest) more }
 
     // How the log ends if no other bytes follow than these, which are less than a line.
-    ensures ends { (asks : Asks) (front rest : List ℕ) (stage : Stage) (verdict : RunVerdict) (text : List ℕ)
+    ensures ends { (asks : Asks) (front rest : List ℕ) (stage : RunStage) (verdict : RunVerdict) (text : List ℕ)
         → Goes run_turns (unread asks) front stage → IsCut rest → VerdictAtEnd stage rest verdict text
         → VerdictWith asks (front ++ rest) true stage.state.run verdict text }
 {}

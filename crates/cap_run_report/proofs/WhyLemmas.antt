@@ -5,7 +5,7 @@ use Rattle.cap_run.specs.{declared.{asks.Asks.Asks, ends.RunRefusal.RunRefusal},
 use Rattle.cap_run_judge.specs.declared.faults.RefusedRunLine.{RefusedRunLine}
 use Rattle.cap_run_judge.specs.{declared.verdict.RunVerdict.{RunVerdict, TheVariants.{Yes, No}}, Judgings.StopsIn}
 use Rattle.cap_run_judge.specs.{OwnerLists.run_report_text, Reports.AreNumbered, VerdictLines.run_verdict_line, Readings.AnswerAtEnd}
-use Rattle.cap_run_judge.specs.Turns.{Stage, unread, run_turns}
+use Rattle.cap_run_judge.specs.Turns.{RunStage, unread, run_turns}
 use Rattle.cap_run_judge.proofs.EndLemmas.{all_ends, no_ends}
 use Rattle.cap_run_report.specs.Answers.{ExplainsRun, ExplainsRunEnd, ExplainsRunSoFar, IsRunWhyText}
 use Rattle.cap_run_report.specs.LineReports.{IsRunLineReport}
@@ -29,7 +29,7 @@ why_no owners run fault verdict line refusal report is by =
     subst (λ (v : RunVerdict). IsRunWhyText owners run fault v (run_verdict_line v ++ report)) (sym is) (report, by, refl)
 
 -- the text of a faulty line that a judge was handed
-pub so_far : (asks : Asks) (bytes : List ℕ) (stage : Stage) (n : ℕ) (refusal : RunRefusal) (text report : List ℕ)
+pub so_far : (asks : Asks) (bytes : List ℕ) (stage : RunStage) (n : ℕ) (refusal : RunRefusal) (text report : List ℕ)
     → Follows run_turns (unread asks) bytes stage → stage.due ≡ Refused n refusal text → IsRunLineReport stage.state.run text refusal report
     → ExplainsRunSoFar asks bytes (Some (No n refusal)) (run_verdict_line (No n refusal) ++ report)
 so_far asks bytes stage n refusal text report follows is by =
@@ -37,7 +37,7 @@ so_far asks bytes stage n refusal text report follows is by =
     (ends.0, (stage.state.run, text, ends.1, report, by, refl))
 
 -- the text of a verdict on the lines that it was handed as a whole log
-pub yes_at_end : (asks : Asks) (bytes : List ℕ) (stage : Stage) (end : Result RunVerdict RefusedRunLine) (verdict : RunVerdict)
+pub yes_at_end : (asks : Asks) (bytes : List ℕ) (stage : RunStage) (end : Result RunVerdict RefusedRunLine) (verdict : RunVerdict)
     → end ≡ Ok verdict → AreNumbered stage.state.run → Follows run_turns (unread asks) bytes stage → AnswerAtEnd stage [] end
     → ExplainsRunEnd asks bytes verdict (run_verdict_line verdict)
 yes_at_end asks bytes stage end (Yes steps roots objects) is are follows ends =
@@ -45,7 +45,7 @@ yes_at_end asks bytes stage end (Yes steps roots objects) is are follows ends =
     (told_is.0, (stage.state.run, (told_is.1, are), refl))
 yes_at_end asks bytes stage end (No line refusal) is are follows ends = absurd (subst (AnswerAtEnd stage []) is ends)
 
-pub no_at_end : (asks : Asks) (bytes : List ℕ) (stage : Stage) (end : Result RunVerdict RefusedRunLine) (fault : RefusedRunLine) (report : List ℕ)
+pub no_at_end : (asks : Asks) (bytes : List ℕ) (stage : RunStage) (end : Result RunVerdict RefusedRunLine) (fault : RefusedRunLine) (report : List ℕ)
     → end ≡ Err fault → Follows run_turns (unread asks) bytes stage → AnswerAtEnd stage [] end
     → IsRunLineReport stage.state.run (bytes_of fault.text) fault.refusal report
     → ExplainsRunEnd asks bytes (No fault.line fault.refusal) (run_verdict_line (No fault.line fault.refusal) ++ report)

@@ -2,7 +2,7 @@
 use Rattle.std.specs.Prelude.{◌≡◌, ℕ, Bool, true, false, List, [], ◌++◌, Option, None, Some}
 use Rattle.cap_run.specs.{declared.asks.Asks.Asks, Run.Run}
 use Rattle.cap_run_judge.specs.{declared.verdict.RunVerdict.{RunVerdict, TheVariants.{Yes, No}}, Judgings.{IsVerdictOf, StopsWithRun}}
-use Rattle.cap_run_judge.specs.{OwnerLists.run_report_text, Reports.TellsRun, Turns.{Stage, run_turns, unread}}
+use Rattle.cap_run_judge.specs.{OwnerLists.run_report_text, Reports.TellsRun, Turns.{RunStage, run_turns, unread}}
 use Rattle.cap_run_judge.specs.{VerdictLines.run_verdict_line, Verdicts.IsRunVerdict}
 use Rattle.cap_run_report.specs.LineReports.{IsRunLineReport}
 use Rattle.cap_turns.specs.Turns.{Goes}
@@ -24,7 +24,7 @@ IsRunWhyText owners run fault (No line refusal) text =
 -- the text of how a run log stands that begins with these bytes: none while no line of theirs is faulty, and otherwise that
 -- of a judge that explains the no, which stands whatever bytes follow
 abbrev pub ExplainsRunSoFar : Asks → List ℕ → Option RunVerdict → List ℕ → Type 0
-ExplainsRunSoFar asks bytes None text = ((stage : Stage) × Goes run_turns (unread asks) bytes stage) × (text ≡ [])
+ExplainsRunSoFar asks bytes None text = ((stage : RunStage) × Goes run_turns (unread asks) bytes stage) × (text ≡ [])
 ExplainsRunSoFar asks bytes (Some verdict) text = IsVerdictOf asks bytes false verdict × ExplainsRun asks false bytes false verdict text
 
 -- the text of the verdict on these bytes as a whole run log, as a judge that explains writes it without owners

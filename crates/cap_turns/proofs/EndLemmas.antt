@@ -5,10 +5,11 @@ use Rattle.std.proofs.Common.{◌*◌, ◌-◌, ◌<◌, ◌≤◌, arith, lengt
 use Rattle.cap_ops.specs.declared.refusal.Refusal.TheVariants.{Misplaced, Truncated}
 use Rattle.cap_streams.specs.Front.{IsCut}
 use Rattle.cap_streams.proofs.FrontLemmas.{IsLine-more, IsTooLong-more}
-use Rattle.cap_turns.specs.Turns.{AreTurns, Due, Ended, Goes, IsAtFault, Refused, Stage, Turns, lines_by, lines_read, text_of}
-use Rattle.cap_turns.specs.Verdicts.{IsBehind, IsNo, IsFirstFault, IsLastFront, IsWhole, Lacks, MayLackMemory, Refuses, RefusesCut, StopsBefore}
+use Rattle.cap_turns.specs.Turns.{Due, Ended, Goes, IsAtFault, Refused, Stage, Turns, lines_read, text_of}
+use Rattle.cap_turns.specs.Verdicts.{IsBehind, IsNo, IsFirstFault, IsLastFront, IsWhole, Lacks, MayLackMemory, Refuses, RefusesCut}
+use Rattle.cap_turns.specs.Verdicts.{StopsBefore}
 use Rattle.cap_turns.specs.Readings.{Faults, Follows, RefusesNext, due_at_end, refused_by}
-use Rattle.cap_turns.proofs.{FollowLemmas.goes_clear, LineLemmas.ended_front, TurnLemmas.goes_on}
+use Rattle.cap_turns.proofs.{FollowLemmas.goes_clear, LineLemmas.ended_front, TurnLemmas.goes_on, Laws.AreTurns}
 
 module _ {Line State Refusal : Type 0} (turns : Turns Line State Refusal) where
   -- what is refused stays refused whatever follows

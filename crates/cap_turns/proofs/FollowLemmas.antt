@@ -6,9 +6,9 @@ use Rattle.cap_ops.specs.declared.refusal.Refusal.TheVariants.{Misplaced}
 use Rattle.cap_log.specs.Parts.{Begins}
 use Rattle.cap_streams.proofs.FrontLemmas.{IsLine-more, IsTooLong-more}
 use Rattle.cap_turns.specs.declared.stops.Stop.TheVariants.{Fault}
-use Rattle.cap_turns.specs.Turns.{AreSpelled, AreTurns, Due, Goes, IsAtFault, Reads, Refused, Stage, Turns, refusal_by, next_stage, text_of}
+use Rattle.cap_turns.specs.Turns.{Due, Goes, IsAtFault, Reads, Refused, Stage, Turns, refusal_by, next_stage, text_of}
 use Rattle.cap_turns.specs.{Readings.{Faults, Follows, IsWholeLine, RefusesNext, StopsAt, Takes, due_at_end}, Verdicts.Lacks}
-use Rattle.cap_turns.proofs.{LineLemmas.{front_more, whole_rest}, TurnLemmas.{goes_on, line_is, one_goes}}
+use Rattle.cap_turns.proofs.{LineLemmas.{front_more, whole_rest}, TurnLemmas.{goes_on, line_is, one_goes}, Laws.{AreSpelled, AreTurns}}
 
 -- the faulty line of a stage
 pub refused_in : {Refusal : Type 0} (due : Due Refusal) → IsAtFault due

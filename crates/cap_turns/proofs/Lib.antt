@@ -1,3 +1,4 @@
+pub mod Laws
 pub mod LineLemmas
 pub mod TurnLemmas
 pub mod FollowLemmas

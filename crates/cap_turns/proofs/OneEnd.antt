@@ -7,10 +7,9 @@ use Rattle.cap_ops.specs.declared.refusal.Refusal.TheVariants.{Misplaced}
 use Rattle.cap_streams.specs.Front.{IsLine}
 use Rattle.cap_streams.proofs.FrontLemmas.{IsLine-same, IsLine-not_too_long, IsLine-not_cut, IsTooLong-not_cut}
 use Rattle.cap_log.specs.Parts.{ReadsAs}
-use Rattle.cap_turns.specs.Turns.{Allows, AreSpelled, AreTurns, Due, Ended, Goes, IsAtFault, Reads, Stage, Turns, refusal_at, refusal_by, next_stage, text_of}
-use Rattle.cap_turns.specs.Verdicts.{IsFirstFault, IsWhole, Refuses, RefusesCut, RefusesWhole}
-use Rattle.cap_turns.specs.Readings.{Follows, RefusesNext}
-use Rattle.cap_turns.proofs.{EndLemmas.refuses_next, FollowLemmas.goes_clear, TurnLemmas.IsLine-spelling}
+use Rattle.cap_turns.specs.Turns.{Allows, Due, Ended, Goes, IsAtFault, Reads, Stage, Turns, refusal_at, refusal_by, next_stage, text_of}
+use Rattle.cap_turns.specs.{Verdicts.{IsFirstFault, IsWhole, Refuses, RefusesCut, RefusesWhole}, Readings.{Follows, RefusesNext}}
+use Rattle.cap_turns.proofs.{EndLemmas.refuses_next, FollowLemmas.goes_clear, TurnLemmas.IsLine-spelling, Laws.{AreSpelled, AreTurns}}
 
 module _ {Line State Refusal : Type 0} (turns : Turns Line State Refusal) where
   -- no line that is allowed stands at the front of the bytes

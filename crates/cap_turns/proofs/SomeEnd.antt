@@ -5,9 +5,9 @@ use Rattle.std.proofs.lemmas.Option.{none-some}
 use Rattle.cap_streams.specs.Front.{IsCut, IsLine, IsTooLong}
 use Rattle.cap_log.specs.Parts.{ReadsAs}
 use Rattle.cap_log.proofs.DecidedLines.{front_decided}
-use Rattle.cap_turns.specs.Turns.{Allows, AreTurns, Body, Due, Ended, First, Goes, Second, Stage, Turns, refusal_at, refusal_by, next_stage}
-use Rattle.cap_turns.specs.Verdicts.{IsFirstFault, IsWhole, Refuses, RefusesCut, RefusesWhole, long_refusal}
-use Rattle.cap_turns.proofs.{EndLemmas.ending, FollowLemmas.goes_clear, TurnLemmas.{goes_line, goes_none}}
+use Rattle.cap_turns.specs.Turns.{Allows, Body, Due, Ended, First, Goes, Second, Stage, Turns, refusal_at, refusal_by, next_stage}
+use Rattle.cap_turns.specs.Verdicts.{IsFirstFault, IsWhole, Refuses, RefusesWhole, long_refusal}
+use Rattle.cap_turns.proofs.{EndLemmas.ending, FollowLemmas.goes_clear, TurnLemmas.{goes_line, goes_none}, Laws.AreTurns}
 
 module _ {Line State Refusal : Type 0} (turns : Turns Line State Refusal) where
   -- bytes that no line spells are refused

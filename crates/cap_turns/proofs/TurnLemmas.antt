@@ -7,10 +7,9 @@ use Rattle.cap_log.specs.Parts.{Begins, BeginsWithNone}
 use Rattle.cap_log.proofs.ElementLemmas.{AllByRecursion-append}
 use Rattle.cap_streams.specs.Front.{IsCut, IsFrontText, IsLine}
 use Rattle.cap_streams.proofs.FrontLemmas.{IsLine-not_cut, IsTooLong-not_cut}
-use Rattle.cap_turns.specs.declared.stops.Stop.{Stop}
-use Rattle.cap_turns.specs.Turns.{Ended, Goes, Reads, Stage, Turns, AreSpelled, refusal_at, next_stage, text_of}
+use Rattle.cap_turns.specs.{declared.stops.Stop.Stop, Turns.{Ended, Goes, Reads, Stage, Turns, refusal_at, next_stage, text_of}}
 use Rattle.cap_turns.specs.{Readings.{EndsBytes, EndsLine, RefusesNext, StopsAt, Takes, due_at_end, refused_by}, Verdicts.IsLastFront}
-use Rattle.cap_turns.proofs.LineLemmas.{front_count}
+use Rattle.cap_turns.proofs.{LineLemmas.front_count, Laws.AreSpelled}
 
 module _ {Line State Refusal : Type 0} (turns : Turns Line State Refusal) where
   -- Lines that are read

@@ -1,9 +1,8 @@
 -- A log read a line at a time, each line allowed in its turn, whatever its lines say. All of it is this profile's own.
-use Rattle.std.specs.Prelude.{◌≡◌, ℕ, ◌+◌, ◌≤◌, ◌⊎◌, Bool, if◌then◌else◌, List, [], ◌∷◌, ◌++◌, flat_map, length, Option, Some, None}
+use Rattle.std.specs.Prelude.{◌≡◌, ℕ, ◌+◌, Bool, if◌then◌else◌, List, [], ◌∷◌, ◌++◌, flat_map, Option, Some, None}
 use Rattle.std.specs.List.{AllByRecursion}
 use Rattle.cap_ops.specs.declared.refusal.Refusal as every
 use Rattle.cap_ops.specs.declared.refusal.Refusal.TheVariants.{BadHeader, BadLine, BadMode, Misplaced}
-use Rattle.cap_streams.specs.Front.{HasNoFeed}
 
 -- what the next line of a log has to be: the version line; the mode line; a root, a step or the end line; none, after
 -- the end line; or none, after the faulty line with this number and this text
@@ -92,18 +91,3 @@ module _ {Line State Refusal : Type 0} (turns : Turns Line State Refusal) where
 
   abbrev pub lines_read : Stage State Refusal → ℕ
   lines_read stage = lines_by stage.state stage.due
-
-  -- a spelling has no line feed and at most 95 bytes, and is that of one line; and bytes are a spelling or none
-  pub record AreSpelled : Type 0 where
-    pub plain : (line : Line) → turns.IsInRange line → HasNoFeed (turns.spelling line)
-    pub short : (line : Line) → turns.IsInRange line → length (turns.spelling line) ≤ 95
-    pub one : (a b : Line) → turns.IsInRange a → turns.IsInRange b → turns.spelling a ≡ turns.spelling b → a ≡ b
-    pub decided : (text : List ℕ) → ((line : Line) × (turns.IsInRange line × (text ≡ turns.spelling line)))
-        ⊎ ((line : Line) → turns.IsInRange line × (text ≡ turns.spelling line) → ⊥)
-
-  -- the laws of lines that are read from a stage on: no line leads to a faulty one, and the lines are counted
-  pub record AreTurns (start : Stage State Refusal) : Type 0 where
-    pub spelled : AreSpelled
-    pub clear : (line : Line) → IsAtFault (turns.next line) → ⊥
-    pub begun : IsAtFault start.due → ⊥
-    pub counted : (bytes : List ℕ) (stage : Stage State Refusal) (goes : Goes start bytes stage) → lines_read stage ≡ length goes.lines

@@ -7,7 +7,7 @@ use Rattle.cap_run_log.specs.RunLines.{run_spelling}
 use Rattle.cap_judge.specs.declared.judges.Stop.{Stop, TheVariants.{Cut, Fault, NoMemory}}
 use Rattle.cap_run.specs.declared.asks.Asks.{Asks}
 use Rattle.cap_run_judge.specs.{Questions.verdict_so_far, declared.verdict.RunVerdict.{RunVerdict, TheVariants.No}}
-use Rattle.cap_run_judge.specs.{Turns.{Stage, unread, run_turns}, Readings.{VerdictAtEnd, stage_of}}
+use Rattle.cap_run_judge.specs.{Turns.{RunStage, unread, run_turns}, Readings.{VerdictAtEnd, stage_of}}
 use Rattle.cap_run_judge.proofs.{EndLemmas.{all_ends, no_stands}, TurnLemmas.run_spelled, CountLemmas.run_lawful}
 use Rattle.capcheck_judge.specs.declared.{answers.LinesTaken.LinesTaken, run_answers.RunAnswer.RunAnswer}
 use Rattle.capcheck_judge.specs.RunAnswers.{run_numbers_of}
@@ -38,7 +38,7 @@ pub there : (held : HeldRunJudge) (judge : RunJudgeIn) → held ≡ Some judge �
 there held judge is none = none-some judge (sym none ∙ is)
 
 -- the faulty line begins the rest that a judge stopped at, where none was faulty before
-refused_after : (asks_are : Asks) (old new : Stage) (front rest before : List ℕ) → StopsAt run_turns old front rest Fault new
+refused_after : (asks_are : Asks) (old new : RunStage) (front rest before : List ℕ) → StopsAt run_turns old front rest Fault new
     → Follows run_turns (unread asks_are) before old → BeginsRun asks_are before → IsRunRefusedAfter asks_are (before ++ front) rest
 refused_after asks_are old new front rest before (middle, goes, inl faults) read whole =
     let start = clear_goes run_turns (unread asks_are) before old read (never_faulty run_turns (run_lawful asks_are) before whole.0 old whole.1 read) in
@@ -48,21 +48,21 @@ refused_after asks_are old new front rest before (middle, goes, inr (clear, refu
     (middle, refusal, goes_on run_turns (unread asks_are) old middle before front start goes, refused)
 
 -- nothing is taken where a line was faulty before
-none_taken : (asks_are : Asks) (old new : Stage) (given : List ℕ) (n : ℕ) (before : List ℕ) → n ≤ length given
+none_taken : (asks_are : Asks) (old new : RunStage) (given : List ℕ) (n : ℕ) (before : List ℕ) → n ≤ length given
     → StopsAt run_turns old (take n given) (drop n given) Fault new → Follows run_turns (unread asks_are) before old → (BeginsRun asks_are before → ⊥) → n ≡ 0
 none_taken asks_are old new given n before few (middle, goes, faults) (inl start) some = absurd (some (old, start))
 none_taken asks_are old new given n before few (middle, goes, faults) (inr faulty) some =
     no_bytes given n few (fault_stays run_turns old (take n given) middle (faults_at run_turns faulty.3 faulty.1 old faulty.5) goes).0
 
 -- memory ran out at a line that no check refuses
-pub lacking : (asks_are : Asks) (front rest : List ℕ) (stage : Stage) (more : List ℕ) → Follows run_turns (unread asks_are) front stage
+pub lacking : (asks_are : Asks) (front rest : List ℕ) (stage : RunStage) (more : List ℕ) → Follows run_turns (unread asks_are) front stage
     → Lacks run_turns stage rest more → MayLackMemory run_turns (unread asks_are) (front ++ rest) more
 lacking asks_are front rest stage more (inl goes) lack = lacks_memory run_turns (run_lawful asks_are) front rest stage goes more lack
 lacking asks_are front rest stage more (inr faulty) lack =
     absurd (fault_allows run_turns stage.state.asks stage.state.run stage.due lack.line (faults_at run_turns faulty.3 faulty.1 stage faulty.5) lack.allowed)
 
 -- unless a line is faulty, the front was read
-front_read : (old new : Stage) (front rest : List ℕ) (stop : Stop) → StopsAt run_turns old front rest stop new → state_at stop ≢ 2 → Goes run_turns old front new
+front_read : (old new : RunStage) (front rest : List ℕ) (stop : Stop) → StopsAt run_turns old front rest stop new → state_at stop ≢ 2 → Goes run_turns old front new
 front_read old new front rest Cut stops other = stops.0
 front_read old new front rest Fault stops other = absurd (other refl)
 front_read old new front rest NoMemory stops other = stops.0
@@ -126,7 +126,7 @@ took_run_lines given held after old new answer is now takes =
 -- What its calls answer
 
 -- how the lines so far stand
-stands_by : (asks_are : Asks) (bytes : List ℕ) (stage : Stage) (due : Due RunRefusal) → stage.due ≡ due → Follows run_turns (unread asks_are) bytes stage
+stands_by : (asks_are : Asks) (bytes : List ℕ) (stage : RunStage) (due : Due RunRefusal) → stage.due ≡ due → Follows run_turns (unread asks_are) bytes stage
     → StandsRun asks_are bytes (verdict_so_far due)
 stands_by asks_are bytes stage (Refused n refusal text) is read = no_stands asks_are bytes stage n refusal text read is
 stands_by asks_are bytes stage due is read = (stage, clear_goes run_turns (unread asks_are) bytes stage read (subst (λ (d : Due). IsAtFault d → ⊥) (sym is) (λ f. f)))

@@ -4,7 +4,7 @@ use Rattle.std.proofs.Common.{[], ◌∷◌, length, suc, take, take-append-drop
 use Rattle.cap_log.specs.Lines.{spelling}
 use Rattle.cap_judge.specs.{declared.judges.Stop.{Stop, TheVariants.{Cut, Fault, NoMemory}}, Judgings.IsBehind}
 use Rattle.cap_judge.specs.{Logs.{MayLackMemory, Refuses}, Readings.{BeginsWhole, HasRead, IsRest, stage_of}}
-use Rattle.cap_judge.specs.Turns.{Stage, unread, log_turns}
+use Rattle.cap_judge.specs.Turns.{LogStage, unread, log_turns}
 use Rattle.cap_judge.proofs.{TurnLaws.{begins, fault_reached, lacks_memory, never_faulty, reached}, TurnLemmas.log_spelled}
 use Rattle.capcheck_judge.specs.declared.answers.LinesTaken.{LinesTaken}
 use Rattle.capcheck_judge.specs.{Handles.{HandsOverLines, HeldJudge, Holds, IsRefusedAfter}, Takings.{TakesLines, state_at}}
@@ -14,7 +14,7 @@ use Rattle.cap_turns.proofs.FollowLemmas.{clear_goes, fault_stays, faults_at, fo
 use Rattle.cap_turns.proofs.TurnLemmas.{goes_on, line_is}
 
 -- the faulty line begins the rest that a judge stopped at, where none was faulty before
-refused_after : (old new : Stage) (front rest before : List ℕ) → StopsAt log_turns old front rest Fault new → Follows log_turns unread before old
+refused_after : (old new : LogStage) (front rest before : List ℕ) → StopsAt log_turns old front rest Fault new → Follows log_turns unread before old
     → BeginsWhole before → IsRefusedAfter (before ++ front) rest
 refused_after old new front rest before (middle, goes, faults) read whole =
     let goes_before = clear_goes log_turns unread before old read (never_faulty before old (reached before old read) whole) in
@@ -35,7 +35,7 @@ no_bytes given zero few none = refl
 no_bytes [] (suc n) few none = absurd (omega (arith, few))
 no_bytes (b ∷ given) (suc n) few none = cc
 
-none_taken : (old new : Stage) (given : List ℕ) (n : ℕ) (before : List ℕ) → n ≤ length given
+none_taken : (old new : LogStage) (given : List ℕ) (n : ℕ) (before : List ℕ) → n ≤ length given
     → StopsAt log_turns old (take n given) (drop n given) Fault new → Follows log_turns unread before old → (BeginsWhole before → ⊥) → n ≡ 0
 none_taken old new given n before few (middle, goes, faults) read some =
     let is = faulty_at old.due (λ clear. some (begins before old (reached before old read) clear)) in
@@ -54,7 +54,7 @@ few_states Fault = (omega arith, λ one. omega (arith, one))
 few_states NoMemory = (omega arith, λ one. omega (arith, one))
 
 -- unless a line is faulty, the front was read
-front_read : (old new : Stage) (front rest : List ℕ) (stop : Stop) → StopsAt log_turns old front rest stop new → state_at stop ≢ 2 → Goes log_turns old front new
+front_read : (old new : LogStage) (front rest : List ℕ) (stop : Stop) → StopsAt log_turns old front rest stop new → state_at stop ≢ 2 → Goes log_turns old front new
 front_read old new front rest Cut stops other = stops.0
 front_read old new front rest Fault stops other = absurd (other refl)
 front_read old new front rest NoMemory stops other = stops.0

@@ -8,7 +8,7 @@ use Rattle.cap_run_log.specs.RunLines.{IsRunLineInRange, run_spelling}
 use Rattle.cap_run.specs.declared.{asks.Asks.Asks, ends.RunRefusal.RunRefusal}
 use Rattle.cap_run.specs.Run.{Run}
 use Rattle.cap_run_judge.specs.{contracts.judges.RunJudge.the_row as run_judge_row, declared.verdict.RunVerdict.RunVerdict}
-use Rattle.cap_run_judge.specs.{Readings.stage_of, Questions.ExpectsAt, Turns.{Stage, unread, run_turns}, Verdicts.IsRunVerdict}
+use Rattle.cap_run_judge.specs.{Readings.stage_of, Questions.ExpectsAt, Turns.{RunStage, unread, run_turns}, Verdicts.IsRunVerdict}
 use Rattle.cap_judge.specs.declared.verdict.Expected.{Expected}
 use Rattle.cap_report.specs.Texts.{IsTold}
 use Rattle.cap_run_report.specs.Answers.{ExplainsRunEnd, ExplainsRunSoFar}
@@ -36,7 +36,7 @@ pub record HoldsRun (held : HeldRunJudge) (asks : Asks) (bytes : List ℕ) : Typ
   pub taken : Follows run_turns (unread asks) bytes (stage_of judge)
 
 -- how far the judge of a handle has read, where there is one
-abbrev pub stage_in : HeldRunJudge → Option Stage
+abbrev pub stage_in : HeldRunJudge → Option RunStage
 stage_in None = None
 stage_in (Some judge) = Some (stage_of judge)
 
@@ -46,7 +46,7 @@ run_behind holds = (stage_of holds.judge).run
 
 -- the bytes are whole lines that begin a run log, none of them faulty
 abbrev pub BeginsRun : Asks → List ℕ → Type 0
-BeginsRun asks bytes = (stage : Stage) × Goes run_turns (unread asks) bytes stage
+BeginsRun asks bytes = (stage : RunStage) × Goes run_turns (unread asks) bytes stage
 
 -- the verdict that stands whatever bytes follow these, or none while no line is faulty
 abbrev pub StandsRun : Asks → List ℕ → Option RunVerdict → Type 0
@@ -104,7 +104,7 @@ HandsOverRunStep None old new state = IsNoStep old state × (new ≡ old)
 -- a front is the text of lines that begin a run log, and the line that begins the rest is refused, whatever follows
 abbrev pub IsRunRefusedAfter : Asks → List ℕ → List ℕ → Type 0
 IsRunRefusedAfter asks front rest =
-    (stage : Stage) × (refusal : RunRefusal) × Goes run_turns (unread asks) front stage × RefusesNext run_turns stage rest refusal
+    (stage : RunStage) × (refusal : RunRefusal) × Goes run_turns (unread asks) front stage × RefusesNext run_turns stage rest refusal
 
 -- what a call answers that hands over as many whole lines as some bytes begin with: how many bytes were taken; and that
 -- no line so far is faulty, and less than a line is left; that a line is faulty, the next one, or an earlier one, and
@@ -131,7 +131,7 @@ pub record HandsOverRunLines (given : List ℕ) (old new : HeldRunJudge) (answer
   pub held : (new ≡ None) ↔ (old ≡ None)
 
 -- C learns what the rules give for the faulty line at a stage, where it is refused for its result
-pub record AnswersRunExpected (stage : Stage) (given : PassedExpected) : Type 0 where
+pub record AnswersRunExpected (stage : RunStage) (given : PassedExpected) : Type 0 where
   pub expected : Option Expected
   pub numbers : IsGiven expected given
   pub expects : ExpectsAt stage expected

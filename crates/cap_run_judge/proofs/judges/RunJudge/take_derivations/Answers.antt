@@ -1,6 +1,6 @@
 use Rattle.std.proofs.Common.{[], refl, subst, sym}
 use Rattle.cap_run.proofs.StepTakingLemmas.{line_shorter}
-use Rattle.cap_run_judge.specs.{Readings.stage_of, Turns.{Stage, run_turns}}
+use Rattle.cap_run_judge.specs.{Readings.stage_of, Turns.{RunStage, run_turns}}
 use Rattle.cap_run_judge.proofs.judges.RunJudge.take_derivations.Goals as goal
 use Rattle.cap_turns.specs.Turns.{Goes}
 use Rattle.cap_turns.proofs.TurnLemmas.{goes_line, goes_none}
@@ -26,7 +26,7 @@ lines-preserved g c =
     let line = c.in-Some-take_derive.ensures.some in
     record {
       taken = goes_line run_turns first middle (stage_of c.take_derive.new.self) c.args.bytes.now so_far.0 c.lines.rest.now c.in-Some-take_derive.behind.now
-          line.0 so_far.1 (subst (λ (stage : Stage). Goes run_turns first so_far.0 stage) (sym c.in-None.ensures.none) so_far.2) line.1 line.2;
+          line.0 so_far.1 (subst (λ (stage : RunStage). Goes run_turns first so_far.0 stage) (sym c.in-None.ensures.none) so_far.2) line.1 line.2;
       body = c.take_derive.ensures.body;
     }
 

@@ -1,7 +1,7 @@
 use Rattle.std.proofs.Common.{[], ◌≡◌, ◌≢◌, ◌⊎◌, inl, inr, subst}
 use Rattle.cap_judge.specs.declared.verdict.TakeFault.TheVariants.{NoLine, NoMemory}
 use Rattle.cap_turns.specs.{declared.stops.Stop.{Stop, TheVariants.{Cut, Fault}}, Readings.StopsAt, Verdicts.Lacks}
-use Rattle.cap_run_judge.specs.{Readings.{end_of, stage_of}, Turns.{Stage, run_turns}}
+use Rattle.cap_run_judge.specs.{Readings.{end_of, stage_of}, Turns.{RunStage, run_turns}}
 use Rattle.cap_run_judge.proofs.{FollowLemmas.ok_no_err, TurnLemmas.run_spelled}
 use Rattle.cap_run_judge.proofs.judges.RunJudge.take_ended_step.Goals as goal
 use Rattle.cap_turns.proofs.{LineLemmas.whole_uncut, FollowLemmas.{line_whole, stop_follows, whole_lacks}}
@@ -22,7 +22,7 @@ returns-in-NoMemory-clause-no_memory g c = λ _.
     let stop = c.in-NoMemory.ensures.stops in
     let same = nothing_goes run_turns (stage_of c.args.self.now) (stage_of c.stop.new.self) stop.0 in
     whole_lacks run_turns run_spelled (stage_of c.args.self.now) c.args.text.now stop.1 (line_whole run_turns run_spelled c.args.text.now ends.0 ends.1)
-    (subst (λ (s : Stage). Lacks run_turns s c.args.text.now stop.1) same stop.2)
+    (subst (λ (s : RunStage). Lacks run_turns s c.args.text.now stop.1) same stop.2)
 
 fault_only : (stop : Stop) → (stop ≡ Fault) ⊎ (stop ≡ Cut) → stop ≢ Cut → stop ≡ Fault
 fault_only stop (inl fault) uncut = fault

@@ -3,7 +3,7 @@ use Rattle.cap_judge.specs.declared.verdict.TakeFault.TheVariants.{NoLine, NoMem
 use Rattle.cap_log.specs.declared.kinds.Step.{Step}
 use Rattle.cap_run.specs.{declared.{asks.Asks.Asks, ends.RunEnd.RunEnd}, Run.Run, RunChanges.usual_after, RunChecks.{Answers, usual_end, usual_wants}, StepLines.TakesAlone}
 use Rattle.cap_run_log.specs.{declared.lines.RunLine.RunLine, RunLines.run_spelling}
-use Rattle.cap_run_judge.specs.{Readings.{AnswersLine, EndsLine, due_of, stage_of}, Turns.{Stage, run_turns}}
+use Rattle.cap_run_judge.specs.{Readings.{AnswersLine, EndsLine, due_of, stage_of}, Turns.{RunStage, run_turns}}
 use Rattle.cap_run_judge.proofs.{FollowLemmas.ok_no_err, TurnLemmas.{body, body_answers, run_spelled, asked}}
 use Rattle.cap_run.proofs.StepTakingLemmas.{err_same}
 use Rattle.cap_run_judge.proofs.judges.RunJudge.take_line.Goals as goal
@@ -13,7 +13,7 @@ use Rattle.cap_turns.proofs.{FollowLemmas.{line_whole, whole_taken}, TurnLemmas.
 use Rattle.cap_run.specs.declared.ends.RunRefusal.{RunRefusal}
 
 -- a machine that changed nothing leads to the same stage
-abbrev stage_by : Asks → Run → Due RunRefusal → Stage
+abbrev stage_by : Asks → Run → Due RunRefusal → RunStage
 stage_by asks_are run_is due_is = record { state = asked asks_are run_is; due = due_is }
 
 same_stage : (asks_are asks_then : Asks) (old new : Run) (due_is : Due RunRefusal) → asks_then ≡ asks_are → new ≡ old
@@ -47,7 +47,7 @@ take_ended_step-requires g c =
         line,
         taken.1,
         rw c.in-Body.is
-            (refl, subst (λ (st : Stage). EndsLine st line c.in-Some-Err.end) (sym (alone_same s.machine.asks n.asks old (run_in n) Body c.args.line.now c.in-Some-Err.end taken)) answer.0),
+            (refl, subst (λ (st : RunStage). EndsLine st line c.in-Some-Err.end) (sym (alone_same s.machine.asks n.asks old (run_in n) Body c.args.line.now c.in-Some-Err.end taken)) answer.0),
       );
     }
 
@@ -75,7 +75,7 @@ returns-in-Some-Err-clause-taken g c =
     let old = run_in s.machine in
     let taken = subst (λ (r : Result (Unit {0}) RunEnd). TakesAlone s.machine.asks (run_in s.machine) c.args.line.now (Some r) n.asks (run_in n))
     c.in-Some-Err.field-0-is c.in-Some-Err.ensures.taken in
-    subst (λ (st : Stage). OnOk c.take_ended_step.result (Follows run_turns st c.args.line.now (stage_of c.take_ended_step.new.self)))
+    subst (λ (st : RunStage). OnOk c.take_ended_step.result (Follows run_turns st c.args.line.now (stage_of c.take_ended_step.new.self)))
     (alone_same s.machine.asks n.asks old (run_in n) (due_of s.due) c.args.line.now c.in-Some-Err.end taken) c.take_ended_step.ensures.taken
 
 pub returns-in-Some-Err-clause-unchanged : goal.returns-in-Some-Err-clause-unchanged
@@ -85,7 +85,7 @@ returns-in-Some-Err-clause-unchanged g c =
     let old = run_in s.machine in
     let taken = subst (λ (r : Result (Unit {0}) RunEnd). TakesAlone s.machine.asks (run_in s.machine) c.args.line.now (Some r) n.asks (run_in n))
     c.in-Some-Err.field-0-is c.in-Some-Err.ensures.taken in
-    subst (λ (st : Stage). IfErr c.take_ended_step.result (λ _. stage_of c.take_ended_step.new.self ≡ st))
+    subst (λ (st : RunStage). IfErr c.take_ended_step.result (λ _. stage_of c.take_ended_step.new.self ≡ st))
     (alone_same s.machine.asks n.asks old (run_in n) (due_of s.due) c.args.line.now c.in-Some-Err.end taken) c.take_ended_step.ensures.unchanged
 
 pub returns-in-Some-Err-clause-no_line : goal.returns-in-Some-Err-clause-no_line
@@ -102,7 +102,7 @@ returns-in-Some-Err-clause-no_memory g c =
     let old = run_in s.machine in
     let taken = subst (λ (r : Result (Unit {0}) RunEnd). TakesAlone s.machine.asks (run_in s.machine) c.args.line.now (Some r) n.asks (run_in n))
     c.in-Some-Err.field-0-is c.in-Some-Err.ensures.taken in
-    subst (λ (st : Stage). c.take_ended_step.result ≡ Err NoMemory → Lacks run_turns st c.args.line.now [])
+    subst (λ (st : RunStage). c.take_ended_step.result ≡ Err NoMemory → Lacks run_turns st c.args.line.now [])
     (alone_same s.machine.asks n.asks old (run_in n) (due_of s.due) c.args.line.now c.in-Some-Err.end taken) c.take_ended_step.ensures.no_memory
 
 pub returns-in-None-clause-taken : goal.returns-in-None-clause-taken
@@ -110,7 +110,7 @@ returns-in-None-clause-taken g c =
     let s = c.args.self.now in
     let n = c.take_lone_step.new.self in
     let same = c.in-None.ensures.taken in
-    subst (λ (st : Stage). OnOk c.take_lone_line.result (Follows run_turns st c.args.line.now (stage_of c.take_lone_line.new.self)))
+    subst (λ (st : RunStage). OnOk c.take_lone_line.result (Follows run_turns st c.args.line.now (stage_of c.take_lone_line.new.self)))
     (same_stage s.machine.asks n.asks (run_in s.machine) (run_in n) (due_of s.due) same.1 same.0) c.take_lone_line.ensures.taken
 
 pub returns-in-None-clause-unchanged : goal.returns-in-None-clause-unchanged
@@ -118,7 +118,7 @@ returns-in-None-clause-unchanged g c =
     let s = c.args.self.now in
     let n = c.take_lone_step.new.self in
     let same = c.in-None.ensures.taken in
-    subst (λ (st : Stage). IfErr c.take_lone_line.result (λ _. stage_of c.take_lone_line.new.self ≡ st))
+    subst (λ (st : RunStage). IfErr c.take_lone_line.result (λ _. stage_of c.take_lone_line.new.self ≡ st))
     (same_stage s.machine.asks n.asks (run_in s.machine) (run_in n) (due_of s.due) same.1 same.0) c.take_lone_line.ensures.unchanged
 
 pub returns-in-None-clause-no_memory : goal.returns-in-None-clause-no_memory
@@ -126,5 +126,5 @@ returns-in-None-clause-no_memory g c =
     let s = c.args.self.now in
     let n = c.take_lone_step.new.self in
     let same = c.in-None.ensures.taken in
-    subst (λ (st : Stage). c.take_lone_line.result ≡ Err NoMemory → Lacks run_turns st c.args.line.now [])
+    subst (λ (st : RunStage). c.take_lone_line.result ≡ Err NoMemory → Lacks run_turns st c.args.line.now [])
     (same_stage s.machine.asks n.asks (run_in s.machine) (run_in n) (due_of s.due) same.1 same.0) c.take_lone_line.ensures.no_memory

@@ -1,5 +1,5 @@
 use Rattle.std.proofs.Common.{[], ◌∙◌, Err, Ok, ap, refl, subst, sym}
-use Rattle.cap_run_judge.specs.{Readings.stage_of, Turns.{Stage, run_turns}}
+use Rattle.cap_run_judge.specs.{Readings.stage_of, Turns.{RunStage, run_turns}}
 use Rattle.cap_judge.specs.declared.verdict.TakeFault.TheVariants.{NoLine, NoMemory}
 use Rattle.cap_run_judge.proofs.{FollowLemmas.{memory_no_line, ok_no_err, whole_is_line}, TurnLemmas.run_spelled}
 use Rattle.cap_run_judge.proofs.judges.RunJudge.take_lone_line.Goals as goal
@@ -16,7 +16,7 @@ returns-in-Err-NoMemory-clause-no_memory g c = λ _.
     let stop = rw (c.in-Err-NoMemory.is ∙ ap Err c.in-Err-NoMemory.field-0-is) at c.take_any_line.ensures.err in
     let same = nothing_goes run_turns (stage_of c.args.self.now) (stage_of c.take_any_line.new.self) stop.0 in
     whole_lacks run_turns run_spelled (stage_of c.args.self.now) c.args.line.now stop.1 (c.is_whole.ensures.whole c.if-not-is_whole.false)
-    (subst (λ (s : Stage). Lacks run_turns s c.args.line.now stop.1) same stop.2)
+    (subst (λ (s : RunStage). Lacks run_turns s c.args.line.now stop.1) same stop.2)
 
 pub returns-in-Err-Fault-clause-taken : goal.returns-in-Err-Fault-clause-taken
 returns-in-Err-Fault-clause-taken g c =
