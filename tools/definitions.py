@@ -65,10 +65,22 @@ def uses(text):
     return names, aliases
 
 
+def flat(text):
+    """The text of a file where what stands in a module with arguments stands as what is outside it does."""
+    out, inside = [], False
+    for line in text.split("\n"):
+        if re.match(r"module _ .* where$", line):
+            inside = True
+            continue
+        inside = inside and (not line or line.startswith("  "))
+        out.append(line[2:] if inside and line else line)
+    return "\n".join(out)
+
+
 def blocks(text):
     """The definitions of a file: the name and the lines of each, without comments."""
     found = {}
-    for part in re.split(r"\n\s*\n", text):
+    for part in re.split(r"\n\s*\n", flat(text)):
         lines = [it for it in part.split("\n") if it.strip() and not it.lstrip().startswith("--")]
         if not lines or lines[0].startswith(("use ", "pub use ", "pub mod ", "mod ")):
             continue

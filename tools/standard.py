@@ -112,6 +112,9 @@ def joined(lines):
         part = [left.pop(0)]
         while left and (left[0].startswith(" ") or left[0] == "}"):
             part.append(left.pop(0))
+        if part[-1] == "}" and ": Turns " in lines[0]:
+            out += part
+            continue
         whole = re.sub(r"; \}", " }", " ".join([part[0], *(it.strip() for it in part[1:])]))
         other = wrapped(whole, WIDTH)
         out += other if len(other) < len(part) and " let " not in whole and max(map(len, other)) <= WIDTH else part

@@ -7,7 +7,7 @@ import shutil
 import sys
 
 from antt import wrapped
-from definitions import SPECS, imports, public_items, read, uses
+from definitions import SPECS, flat, imports, public_items, read, uses
 
 WIDTH = 118
 PROFILE = re.compile(r",? ?\((?:all of it is |this is )?this profile's own(?:, as are all below)?\)")
@@ -21,7 +21,7 @@ def fail(text):
 
 
 def spec_text(module):
-    return read(f"crates/{module[0]}/specs/{module[1].replace('.', '/')}.antt")
+    return flat(read(f"crates/{module[0]}/specs/{module[1].replace('.', '/')}.antt"))
 
 
 def module_of(text):
