@@ -5,7 +5,7 @@ pub mod EscapeLaws
 pub mod SourceLemmas
 pub mod OneVerdict
 pub mod FaultPlaces
-mod OriginLemmas
+pub mod OriginLemmas
 pub mod ReportLemmas
 pub mod InTurn
 pub mod ExpectedLemmas

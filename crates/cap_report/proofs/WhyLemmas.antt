@@ -9,7 +9,7 @@ use Rattle.cap_judge.specs.declared.verdict.Verdict.{Verdict, TheVariants.{Yes, 
 use Rattle.cap_judge.specs.{Judgings.{IsVerdictOf, IsAnswerOf, LeadsAfter, StopsBefore, StopsIn}, OriginLists.report_text}
 use Rattle.cap_judge.specs.{Readings.{AnswerAtEnd, VerdictWith, IsFaultOf, at, due_of}, Reports.Tells, Turns.{unread, log_turns}}
 use Rattle.cap_judge.specs.VerdictLines.{verdict_line}
-use Rattle.cap_judge.proofs.{FaultPlaces.at_fault, ReportLemmas.{IsHeld, tells}, TurnLaws.{fault_ends, reached, told as told_at_end}}
+use Rattle.cap_judge.proofs.{FaultPlaces.at_fault, ReportLemmas.{IsHeld, tells}, TurnLaws.{fault_ends, told as told_at_end}}
 use Rattle.cap_report.specs.FaultReports.{IsLineReport, IsReport}
 use Rattle.cap_report.specs.Whys.{Explains, ExplainsEnd, ExplainsSoFar, IsWhyText}
 use Rattle.cap_turns.specs.Readings.{Follows}
@@ -83,9 +83,8 @@ pub so_far : (bytes : List ℕ) (stage : Due) (held : Held) (fault : RefusedLine
     → IsFaultOf (due_of stage) (Some fault) → IsLineReport (account_of held) (bytes_of fault.text) fault.refusal report
     → ExplainsSoFar bytes (Some (No fault.line fault.refusal)) (verdict_line (No fault.line fault.refusal) ++ report)
 so_far bytes stage held fault report follows is told =
-    let reached = reached bytes (at stage held) follows in
     no_text bytes false held fault.line fault.refusal (bytes_of fault.text) report
-    (fault_ends bytes (at stage held) fault.line fault.refusal (bytes_of fault.text) reached is held refl false) told
+    (fault_ends bytes (at stage held) fault.line fault.refusal (bytes_of fault.text) follows is held refl false) told
 
 -- the text of a verdict on bytes that end after lines that a judge was handed
 pub yes_at_end : (bytes rest : List ℕ) (stage : Due) (held : Held) (end : Result Verdict RefusedLine) (verdict : Verdict) → end ≡ Ok verdict

@@ -1,7 +1,7 @@
 -- Lines of one number after another, and the texts that a sink took of them.
 use Rattle.std.proofs.Common.{◌≡◌, ℕ, zero, suc, ◌+◌, ◌-◌, ◌≤◌, ◌<◌, List, [], ◌∷◌, ◌++◌, take}
-use Rattle.std.proofs.Common.{Result, Ok, Err, OnOk, OnErr, refl, sym, ap, subst, ◌∙◌, append-nil, append_assoc, arith}
-use Rattle.cap_streams.specs.declared.sinks.PushFault.{PushFault}
+use Rattle.std.proofs.Common.{refl, sym, ap, subst, ◌∙◌, append-nil, append_assoc, arith}
+use Rattle.cap_judge.proofs.OriginLemmas.{began}
 use Rattle.cap_run_judge.specs.OwnerLists.{lines_from}
 
 lines-zero : (line : ℕ → List ℕ) (from : ℕ) → lines_from line from 0 ≡ []
@@ -61,21 +61,6 @@ one_more line from done at next here more =
     ∙ ap (λ (l : List ℕ). lines_from line from done ++ l) (sym (lines-one line (from + done)))
     ∙ sym (ap (lines_from line from) more ∙ lines-split line from done 1)
 
--- a beginning of a text is one of a longer text
-taken : (n : ℕ) (ys zs : List ℕ) → (m : ℕ) × (take m (ys ++ zs) ≡ take n ys)
-taken zero ys zs = (0, refl)
-taken (suc n) [] zs = (0, refl)
-taken (suc n) (y ∷ ys) zs = let rest = taken n ys zs in (suc rest.0, ap (λ (l : List ℕ). y ∷ l) rest.1)
-
--- so is it where another text was pushed before
-began : (n : ℕ) (xs ys zs : List ℕ) → (m : ℕ) × (take m (xs ++ (ys ++ zs)) ≡ xs ++ take n ys)
-began n [] ys zs = taken n ys zs
-began n (x ∷ xs) ys zs = let rest = began n xs ys zs in (suc rest.0, ap (λ (l : List ℕ). x ∷ l) rest.1)
-
-ended : (n : ℕ) (xs ys : List ℕ) → (m : ℕ) × (take m (xs ++ ys) ≡ xs ++ take n ys)
-ended n [] ys = (n, refl)
-ended n (x ∷ xs) ys = let rest = ended n xs ys in (suc rest.0, ap (λ (l : List ℕ). x ∷ l) rest.1)
-
 -- a beginning of one line after those before it
 pub stopped : (line : ℕ → List ℕ) (from done at count n : ℕ) → at ≡ from + done → done < count
     → (m : ℕ) × (lines_from line from done ++ take n (line at) ≡ take m (lines_from line from count))
@@ -92,22 +77,3 @@ stopped line from done at count n here less =
           ∙ ap (λ (l : List ℕ). lines_from line from done ++ l) (lines-split line (from + done) 1 rest))
           ∙ m.1),
     )
-
--- two texts, one after the other
-module _ {K : Type 0} (took : K → K → List ℕ → Type 0) (a b c : K) (joined : (x y z : K) (xs ys : List ℕ) → took x y xs
-    → took y z ys → took x z (xs ++ ys))
-    (xs ys text : List ℕ) (is : xs ++ ys ≡ text) where
-  pub both_ok : (result : Result (Unit {0}) PushFault) → took a b xs → OnOk result (took b c ys) → OnOk result (took a c text)
-  both_ok (Ok done) before now = subst (took a c) is (joined a b c xs ys before now)
-  both_ok (Err fault) before now = tt
-
-  pub both_err : (result : Result (Unit {0}) PushFault) → took a b xs → OnErr result ((n : ℕ) × took b c (take n ys))
-      → OnErr result ((n : ℕ) × took a c (take n text))
-  both_err (Ok done) before now = tt
-  both_err (Err fault) before now =
-      let m = ended now.0 xs ys in
-      (m.0, subst (took a c) (sym m.1 ∙ ap (take m.0) is) (joined a b c xs (take now.0 ys) before now.1))
-
--- a beginning of the first of two texts
-pub first_err : (took : List ℕ → Type 0) (xs ys text : List ℕ) → xs ++ ys ≡ text → (n : ℕ) × took (take n xs) → (n : ℕ) × took (take n text)
-first_err took xs ys text is part = let m = taken part.0 xs ys in (m.0, subst took (sym m.1 ∙ ap (take m.0) is) part.1)

@@ -1,5 +1,6 @@
 use Rattle.std.proofs.Common.{List, OnErr, OnOk, subst, take, ℕ}
-use Rattle.cap_run_judge.proofs.{OwnerLemmas.{both_ok, both_err, first_err}, RunReportLemmas.{asked_text, no_text, plain_text}}
+use Rattle.cap_judge.proofs.OriginLemmas.{both_ok, both_err, first_err}
+use Rattle.cap_run_judge.proofs.RunReportLemmas.{asked_text, no_text, plain_text}
 use Rattle.cap_run_judge.proofs.output.push_run_report.Goals as goal
 use Rattle.cap_run.specs.Machines.{run_in}
 

@@ -1,5 +1,5 @@
 use Rattle.std.proofs.Common.{refl}
-use Rattle.cap_run_judge.proofs.OwnerLemmas.{both_ok, both_err, first_err}
+use Rattle.cap_judge.proofs.OriginLemmas.{both_ok, both_err, first_err}
 use Rattle.cap_run_judge.proofs.owners.push_places.Goals as goal
 
 pub returns-in-Ok-clause-ok : goal.returns-in-Ok-clause-ok

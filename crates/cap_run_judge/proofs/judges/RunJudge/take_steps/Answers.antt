@@ -1,6 +1,11 @@
-use Rattle.std.proofs.Common.{[], refl, subst, sym}
+use Rattle.std.proofs.Common.{◌≡◌, ◌++◌, ℕ, List, [], refl, subst, sym}
+use Rattle.tagmem.specs.declared.store.TaggedStore.{Ghosts}
+use Rattle.cap_run.specs.StepLines.{MakesUsualSteps}
+use Rattle.cap_run.specs.declared.run_machine.RunMachine.{RunMachine}
+use Rattle.cap_run_judge.specs.declared.judges.RunJudge.{RunJudge}
+use Rattle.cap_run_judge.specs.declared.judges.Due.TheVariants as dues
 use Rattle.cap_run.specs.declared.asks.Asks.{Asks}
-use Rattle.cap_run_judge.specs.{Readings.stage_of, Turns.run_turns}
+use Rattle.cap_run_judge.specs.{Readings.stage_of, Turns.{RunStage, run_turns}}
 use Rattle.cap_run_judge.proofs.TurnLemmas.{body, steps_go}
 use Rattle.cap_run_judge.proofs.judges.RunJudge.take_steps.Goals as goal
 use Rattle.cap_run.specs.Machines.{run_in}
@@ -10,45 +15,42 @@ use Rattle.cap_turns.proofs.{TurnLemmas.{goes_more, goes_none}, LineLemmas.later
 pub lines-init : goal.lines-init
 lines-init g c = record { taken = ([], refl, goes_none run_turns (stage_of c.args.self.now)); body = c.requires }
 
+-- lines of derivations and exchanges, and steps after them
+both_taken : {M : Type 0} {ghosts : Ghosts M} (first old : RunStage) (middle : RunJudge M ghosts) (new : RunMachine M ghosts)
+    (bytes front more derived here steps rest : List ℕ) → bytes ≡ front ++ more → Goes run_turns first front old → more ≡ derived ++ here
+    → Goes run_turns old derived (stage_of middle) → middle.due ≡ dues.Body → here ≡ steps ++ rest
+    → MakesUsualSteps middle.machine.asks (run_in middle.machine) steps (run_in new) → new.asks ≡ middle.machine.asks
+    → (fronts : List ℕ) × (bytes ≡ fronts ++ rest) × Goes run_turns first fronts (body new.asks (run_in new))
+both_taken first old middle new bytes front more derived here steps rest is so_far derived_is on due steps_are makes same =
+    let between = body middle.machine.asks (run_in middle.machine) in
+    let one = goes_more run_turns first old between bytes front more derived here is so_far derived_is (rw due at on) in
+    goes_more run_turns first between (body new.asks (run_in new)) bytes one.0 here steps rest one.1 one.2 steps_are
+    (subst (λ (a : Asks). Goes run_turns between steps (body a (run_in new))) (sym same)
+    (steps_go middle.machine.asks (run_in middle.machine) (run_in new) steps makes))
+
 pub lines-preserved : goal.lines-preserved
 lines-preserved g c =
-    let first = stage_of c.args.self.now in
-    let middle = c.take_derivations-before.new.self in
-    let new = c.take_steps-behind.new.self in
     let so_far = c.lines.invariant.taken in
     let derived = c.take_derivations-before.ensures.taken in
-    let taken = c.take_steps-behind.ensures.taken in
-    let here = c.take_derivations-before.result.now in
-    let derived_on = rw c.take_derivations-before.ensures.body at derived.2 in
-    let on = goes_more run_turns first (stage_of c.lines.self) (body middle.machine.asks (run_in middle.machine)) c.args.bytes.now so_far.0 c.lines.rest.now
-    derived.0 here so_far.1 so_far.2 derived.1 derived_on in
-    let steps = subst (λ (a : Asks). Goes run_turns (body middle.machine.asks (run_in middle.machine)) taken.0 (body a (run_in new))) (sym c.take_steps-behind.ensures.asks)
-    (steps_go middle.machine.asks (run_in middle.machine) (run_in new) taken.0 taken.2) in
+    let steps = c.take_steps-behind.ensures.taken in
     record {
       taken = rw c.take_derivations-before.ensures.body
-          (goes_more run_turns first (body middle.machine.asks (run_in middle.machine)) (body new.asks (run_in new)) c.args.bytes.now on.0 here taken.0
-          c.take_steps-behind.result.now on.1 on.2 taken.1 steps);
+          (both_taken (stage_of c.args.self.now) (stage_of c.lines.self) c.take_derivations-before.new.self c.take_steps-behind.new.self c.args.bytes.now
+          so_far.0 c.lines.rest.now derived.0 c.take_derivations-before.result.now steps.0 c.take_steps-behind.result.now so_far.1 so_far.2
+          derived.1 derived.2 c.take_derivations-before.ensures.body steps.1 steps.2 c.take_steps-behind.ensures.asks);
       body = c.take_derivations-before.ensures.body;
     }
 
 pub returns-then-behind-before : goal.returns-then-behind-before
 returns-then-behind-before g c =
-    let first = stage_of c.args.self.now in
-    let middle = c.take_derivations-before.new.self in
-    let new = c.take_steps-behind.new.self in
     let so_far = c.lines.invariant.taken in
     let derived = c.take_derivations-before.ensures.taken in
-    let taken = c.take_steps-behind.ensures.taken in
-    let here = c.take_derivations-before.result.now in
-    let derived_on = rw c.take_derivations-before.ensures.body at derived.2 in
-    let on = goes_more run_turns first (stage_of c.lines.self) (body middle.machine.asks (run_in middle.machine)) c.args.bytes.now so_far.0 c.lines.rest.now
-    derived.0 here so_far.1 so_far.2 derived.1 derived_on in
-    let steps = subst (λ (a : Asks). Goes run_turns (body middle.machine.asks (run_in middle.machine)) taken.0 (body a (run_in new))) (sym c.take_steps-behind.ensures.asks)
-    (steps_go middle.machine.asks (run_in middle.machine) (run_in new) taken.0 taken.2) in
+    let steps = c.take_steps-behind.ensures.taken in
     record {
       taken = rw c.take_derivations-before.ensures.body
-          (goes_more run_turns first (body middle.machine.asks (run_in middle.machine)) (body new.asks (run_in new)) c.args.bytes.now on.0 here taken.0
-          c.take_steps-behind.result.now on.1 on.2 taken.1 steps);
+          (both_taken (stage_of c.args.self.now) (stage_of c.lines.self) c.take_derivations-before.new.self c.take_steps-behind.new.self c.args.bytes.now
+          so_far.0 c.lines.rest.now derived.0 c.take_derivations-before.result.now steps.0 c.take_steps-behind.result.now so_far.1 so_far.2
+          derived.1 derived.2 c.take_derivations-before.ensures.body steps.1 steps.2 c.take_steps-behind.ensures.asks);
     }
 
 pub lines-smaller : goal.lines-smaller
