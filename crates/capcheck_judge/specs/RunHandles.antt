@@ -19,8 +19,11 @@ use Rattle.capcheck_judge.specs.declared.{answers.{LinesTaken.LinesTaken, Passed
 use Rattle.capcheck_judge.specs.{Holding.IsNoStep, RunAnswers.{run_numbers_of, run_without_verdict}}
 
 -- a judge of run logs, over pages
+abbrev pub RunJudgeRow : RattleType
+RunJudgeRow = run_judge_row store_row ghosts
+
 abbrev pub RunJudgeIn : Type 0
-RunJudgeIn = RattleType.Denot (run_judge_row store_row ghosts)
+RunJudgeIn = RattleType.Denot RunJudgeRow
 
 -- what a handle holds: a judge, or none
 abbrev pub HeldRunJudge : Type 0
