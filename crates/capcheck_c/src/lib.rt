@@ -15,7 +15,6 @@ mod names;
 mod operations;
 mod read_lines;
 mod read_run_lines;
-mod refusals;
 mod requests;
 mod run_lines;
 mod step_lines;

@@ -1,18 +1,20 @@
 //! The names of what C knows by number, and a sentence for each.
 
-ghost use Rattle.std.specs.Prelude.{◌≡◌, ◌≤◌, codes, length};
-ghost use Rattle.capcheck_c.specs.{Answers.c_string, Names.{c_string_in, kind_sentence, kind_sentences, kind_text, state_names}};
+ghost use Rattle.std.specs.Prelude.{◌≡◌, ◌≢◌, ◌≤◌, codes, length};
+ghost use Rattle.cap_ops.specs.Refusals.{refusal_name_at, refusal_sentence_at};
+ghost use Rattle.capcheck_c.specs.{Answers.{bad_argument, c_string}, Names.{c_string_in, kind_sentence, kind_sentences, kind_text, state_names}};
 ghost use Rattle.capcheck_c.specs.Names.{run_kind_sentences, run_kind_words, state_sentences, text_at};
 
 use crate::values::{RefusalName, Sentence};
 use cap_halves::kinds::FIRST_RUN_KIND;
 use cap_log::kinds::kind_word;
+use cap_ops::{refusal_name_at, refusal_sentence_at};
 
 /// The version of this library, that of `include/capcheck.h`.
 const VERSION: &str = "1.3.0-dev";
 
 /// A text as a C string.
-pub(crate) fn as_c_string(text: &str) -> RefusalName
+fn as_c_string(text: &str) -> RefusalName
     requires { length text.now ≤ 23 }
     ensures { result.text ≡ c_string text.now }
 {
@@ -22,7 +24,7 @@ pub(crate) fn as_c_string(text: &str) -> RefusalName
 }
 
 /// A sentence as a C string.
-pub(crate) fn as_sentence(text: &str) -> Sentence
+fn as_sentence(text: &str) -> Sentence
     requires { length text.now ≤ 95 }
     ensures { result.text ≡ c_string_in 96 text.now }
 {
@@ -37,6 +39,28 @@ pub extern "C" fn capcheck_version() -> RefusalName
     ensures version { result.text ≡ c_string (codes "1.3.0-dev") }
 {
     as_c_string(VERSION)
+}
+
+/// The name of a refusal by its number, as a C string: of each that a verdict line can show, 1 to 41; `BadArgument` of 255;
+/// and an empty string of every other number.
+#[unsafe(no_mangle)]
+pub extern "C" fn capcheck_refusal_name(refusal: u8) -> RefusalName
+    ensures named { refusal ≢ bad_argument → result.text ≡ c_string (refusal_name_at refusal) }
+    ensures bad_argument { refusal ≡ bad_argument → result.text ≡ c_string (codes "BadArgument") }
+{
+    as_c_string(match refusal {
+        255 => "BadArgument",
+        _ => refusal_name_at(refusal),
+    })
+}
+
+/// Why a line is refused, in a sentence as a C string, by the number of the refusal; an empty string of a number that no
+/// verdict line can show.
+#[unsafe(no_mangle)]
+pub extern "C" fn capcheck_refusal_sentence(refusal: u8) -> Sentence
+    ensures told { result.text ≡ c_string_in 96 (refusal_sentence_at refusal) }
+{
+    as_sentence(refusal_sentence_at(refusal))
 }
 
 /// The name of a state of an answer, as `GoesOn`, and an empty string of a number that is none.

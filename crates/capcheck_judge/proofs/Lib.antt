@@ -1,8 +1,8 @@
 pub mod HandleFields
 pub mod HandleLemmas
 pub mod HeldFields
-pub mod RunHandleFields
 mod HeapLemmas
+mod HoldingLemmas
 mod RunStepLemmas
 mod RunTakingLemmas
 mod TakingLemmas

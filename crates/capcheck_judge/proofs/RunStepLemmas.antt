@@ -1,44 +1,25 @@
 -- What a handle's judge takes that is handed one line of a run log, or a step.
-use Rattle.std.proofs.Common.{◌≡◌, ◌≢◌, ◌<◌, ◌⊎◌, ◌∙◌, inl, inr, ℕ, List, [], ◌∷◌, ◌++◌, ap, arith, refl, sym, subst, IfNone, IfSome, None, Some, Option, option_map}
+use Rattle.std.proofs.Common.{◌≡◌, ◌<◌, ◌⊎◌, ◌∙◌, inl, inr, ℕ, List, [], ◌∷◌, ◌++◌, ap, arith, refl, sym, subst, IfNone, IfSome, None, Some, Option, option_map}
 use Rattle.cap_run.specs.{Run.Run, declared.asks.Asks.Asks}
 use Rattle.cap_run_log.specs.declared.lines.{RunLine.RunLine, RunPlace.RunPlace}
 use Rattle.cap_run_log.specs.RunLines.{IsRunLineInRange, IsRunPlace, run_spelling}
-use Rattle.cap_run_judge.specs.{declared.verdict.RunVerdict.TheVariants.No, Readings.stage_of, Turns.{unread, run_turns}}
+use Rattle.cap_run_judge.specs.declared.verdict.RunVerdict.TheVariants.{No}
+use Rattle.cap_run_judge.specs.{Readings.stage_of, Turns.unread}
 use Rattle.cap_run_judge.proofs.EndLemmas.{no_stands}
 use Rattle.cap_halves.specs.{PassedRuns.IsStepFrom, declared.values.PassedPlace.PassedPlace}
 use Rattle.cap_run_report.specs.ObjectParts.{HasNoHolder, IsFirstHolder}
 use Rattle.capcheck_judge.specs.RunPlaces.{IsHolderTold, holder_passed}
 use Rattle.capcheck_judge.specs.RunHandles.{HandsOverRun, HandsOverRunStep, HandsOverRunText, HeldRunJudge, HoldsRun, RunJudgeIn, stage_in}
 use Rattle.capcheck_judge.specs.{Holding.IsNoStep, RunTakings.TakesRunLine}
-use Rattle.capcheck_judge.proofs.RunTakingLemmas.{held_taken, lacking, there}
+use Rattle.capcheck_judge.proofs.HoldingLemmas.{any_state, few, no_line, none_taken, not_five, there, unheld}
+use Rattle.capcheck_judge.proofs.RunTakingLemmas.{held_taken, lacking}
 use Rattle.cap_turns.specs.Readings.{Follows}
 use Rattle.cap_turns.proofs.FollowLemmas.{clear_goes, follows_on, refused_in}
-
--- the states of a call on a judge that is there
-IsState : ℕ → Type 0
-IsState state = (state ≡ 0) ⊎ (state ≡ 2) ⊎ (state ≡ 3) ⊎ (state ≡ 5)
-
-few : (state : ℕ) → IsState state → (state < 6) × (state ≢ 1) × (state ≢ 4)
-unfolding IsState
-few state (inl is) = (omega (arith, is), λ one. omega (arith, is, one), λ four. omega (arith, is, four))
-few state (inr (inl is)) = (omega (arith, is), λ one. omega (arith, is, one), λ four. omega (arith, is, four))
-few state (inr (inr (inl is))) = (omega (arith, is), λ one. omega (arith, is, one), λ four. omega (arith, is, four))
-few state (inr (inr (inr is))) = (omega (arith, is), λ one. omega (arith, is, one), λ four. omega (arith, is, four))
-
-pub any_state : (state : ℕ) → (state ≡ 0) ⊎ (state ≡ 2) ⊎ (state ≡ 3) → (state ≡ 0) ⊎ (state ≡ 2) ⊎ (state ≡ 3) ⊎ (state ≡ 5)
-any_state state (inl is) = inl is
-any_state state (inr (inl is)) = inr (inl is)
-any_state state (inr (inr is)) = inr (inr (inl is))
-
-not_five : (state : ℕ) → (state ≡ 0) ⊎ (state ≡ 2) ⊎ (state ≡ 3) → state ≢ 5
-not_five state (inl is) five = omega (arith, is, five)
-not_five state (inr (inl is)) five = omega (arith, is, five)
-not_five state (inr (inr is)) five = omega (arith, is, five)
+use Rattle.cap_run_judge.specs.Turns.{run_turns}
 
 -- the handle's judge was handed a text as one line
 pub text_handed : (text : List ℕ) (held after : HeldRunJudge) (old new : RunJudgeIn) (state : ℕ) → held ≡ Some old → after ≡ Some new
     → (state ≡ 0) ⊎ (state ≡ 2) ⊎ (state ≡ 3) ⊎ (state ≡ 5) → TakesRunLine old text state new → HandsOverRunText text held after state
-unfolding IsState
 text_handed text held after old new state is now answers takes =
     let small = few state answers in
     let read : state < 3 → (asks_are : Asks) (bytes : List ℕ) → HoldsRun held asks_are bytes → Follows run_turns (unread asks_are) (bytes ++ text) (stage_of new) =
@@ -64,39 +45,20 @@ text_handed text held after old new state is now answers takes =
       held = (λ none. absurd (there after new now none), λ none. absurd (there held old is none));
     }
 
--- an answer that is none of the first three
-not_three : (state : ℕ) → (state ≡ 4) ⊎ (state ≡ 5) → (state < 3 → ⊥) × (state ≢ 0) × (state ≢ 2) × (state ≢ 3)
-not_three state (inl is) = (λ below. omega (arith, is, below), λ it. omega (arith, is, it), λ it. omega (arith, is, it), λ it. omega (arith, is, it))
-not_three state (inr is) = (λ below. omega (arith, is, below), λ it. omega (arith, is, it), λ it. omega (arith, is, it), λ it. omega (arith, is, it))
-
 -- no line was handed over to the judge that is there
-pub none_handed : (text : List ℕ) (held after : HeldRunJudge) (state : ℕ) → IsNoStep held state → after ≡ held → HandsOverRunText text held after state
-none_handed text None after state is same =
-    let no = not_three state (inl is) in
+none_handed : (text : List ℕ) (held after : HeldRunJudge) (state : ℕ) → IsNoStep held state → after ≡ held → HandsOverRunText text held after state
+none_handed text held after state is same =
+    let large = none_taken held state is in
     record {
-      answers = omega (arith, is);
-      never_yes = λ one. omega (arith, is, one);
-      taken = λ below asks_are bytes holds. absurd (no.0 below);
-      goes_on = λ zero asks_are bytes holds. absurd (no.1 zero);
-      at_fault = λ two asks_are bytes holds. absurd (no.2 two);
-      unchanged = λ large. ap stage_in same;
-      still_holds = λ large asks_are bytes holds. subst (λ (h : HeldRunJudge). HoldsRun h asks_are bytes) (sym same) holds;
-      no_memory = λ three asks_are bytes holds. absurd (no.3 three);
-      no_judge = (λ four. refl, λ none. is);
-      held = (λ none. sym same ∙ none, λ none. same ∙ none);
-    }
-none_handed text (Some judge) after state is same =
-    let no = not_three state (inr is) in
-    record {
-      answers = omega (arith, is);
-      never_yes = λ one. omega (arith, is, one);
-      taken = λ below asks_are bytes holds. absurd (no.0 below);
-      goes_on = λ zero asks_are bytes holds. absurd (no.1 zero);
-      at_fault = λ two asks_are bytes holds. absurd (no.2 two);
-      unchanged = λ large. ap stage_in same;
-      still_holds = λ large asks_are bytes holds. subst (λ (h : HeldRunJudge). HoldsRun h asks_are bytes) (sym same) holds;
-      no_memory = λ three asks_are bytes holds. absurd (no.3 three);
-      no_judge = (λ four. let never : ⊥ = omega (arith, is, four) in absurd never, λ none. absurd (there (Some judge) judge refl none));
+      answers = large.1;
+      never_yes = λ one. omega (arith, large.0, one);
+      taken = λ below asks_are bytes holds. absurd (omega (arith, large.0, below));
+      goes_on = λ zero asks_are bytes holds. absurd (omega (arith, large.0, zero));
+      at_fault = λ two asks_are bytes holds. absurd (omega (arith, large.0, two));
+      unchanged = λ more. ap stage_in same;
+      still_holds = λ more asks_are bytes holds. subst (λ (h : HeldRunJudge). HoldsRun h asks_are bytes) (sym same) holds;
+      no_memory = λ three asks_are bytes holds. absurd (omega (arith, large.0, three));
+      no_judge = unheld held state is;
       held = (λ none. sym same ∙ none, λ none. same ∙ none);
     }
 
@@ -112,14 +74,12 @@ step_handed line held after old new state range is now answers takes = record {
 -- none was handed over, since its numbers are out of range, or since there is no judge
 pub unhanded : (line : RunLine) (held after : HeldRunJudge) (state : ℕ) → ¬ IsRunLineInRange line → IsNoStep held state → after ≡ held
     → HandsOverRun line held after state
-unhanded line None after state out is same = record {
-  handed = none_handed (run_spelling line ++ 10 ∷ []) None after state is same;
-  no_line = (λ five. let never : ⊥ = omega (arith, is, five) in absurd never, λ both. absurd (both.0 refl));
-}
-unhanded line (Some judge) after state out is same = record {
-  handed = none_handed (run_spelling line ++ 10 ∷ []) (Some judge) after state is same;
-  no_line = (λ five. (λ none. there (Some judge) judge refl none, out), λ both. is);
-}
+unhanded line held after state out is same =
+    let five = no_line held state is in
+    record {
+      handed = none_handed (run_spelling line ++ 10 ∷ []) held after state is same;
+      no_line = (λ is_five. (five.0 is_five, out), λ both. five.1 both.0);
+    }
 
 -- the same for a step that C's numbers name, of this line, if they do
 pub run_step_handed : {A : Type 0} (line_of : A → RunLine) (passed : Option A) (step : A) (held after : HeldRunJudge) (old new : RunJudgeIn) (state : ℕ)

@@ -1,24 +1,29 @@
 -- What a handle's judge takes that is handed lines of a run log.
 use Rattle.std.proofs.Common.{inl, inr, ◌≡◌, ◌≢◌, ◌≤◌, ◌∙◌, ℕ, List, [], ◌++◌, ap, append_assoc, arith, drop}
-use Rattle.std.proofs.Common.{length, refl, subst, sym, take, take-append-drop, None, Option, Some}
-use Rattle.std.proofs.lemmas.Option.{none-some}
-use Rattle.cap_streams.specs.{FaultLines.bytes_of}
+use Rattle.std.proofs.Common.{length, refl, subst, sym, take, take-append-drop, Option, Some}
 use Rattle.cap_run_log.specs.RunLines.{run_spelling}
-use Rattle.cap_judge.specs.declared.judges.Stop.{Stop, TheVariants.{Cut, Fault, NoMemory}}
+use Rattle.cap_judge.specs.declared.judges.{Stop.{Stop, TheVariants.{Cut, Fault, NoMemory}}, Taken.Taken}
 use Rattle.cap_run.specs.declared.asks.Asks.{Asks}
 use Rattle.cap_run_judge.specs.{Questions.verdict_so_far, declared.verdict.RunVerdict.{RunVerdict, TheVariants.No}}
-use Rattle.cap_run_judge.specs.{Turns.{RunStage, unread, run_turns}, Readings.{VerdictAtEnd, stage_of}}
-use Rattle.cap_run_judge.proofs.{EndLemmas.{all_ends, no_stands}, TurnLemmas.run_spelled, CountLemmas.run_lawful}
-use Rattle.capcheck_judge.specs.declared.{answers.LinesTaken.LinesTaken, run_answers.RunAnswer.RunAnswer}
+use Rattle.cap_run_judge.specs.Turns.{RunStage, unread}
+use Rattle.cap_run_judge.specs.Readings.{VerdictAtEnd, stage_of}
+use Rattle.cap_run_judge.proofs.EndLemmas.{all_ends, no_stands}
+use Rattle.capcheck_judge.specs.declared.run_answers.RunAnswer.{RunAnswer}
 use Rattle.capcheck_judge.specs.RunAnswers.{run_numbers_of}
 use Rattle.capcheck_judge.specs.RunHandles.{AnswersRunEnd, AnswersRunSoFar, StandingRun, StandsRun}
 use Rattle.capcheck_judge.specs.RunHandles.{BeginsRun, HandsOverRunLines, HeldRunJudge, HoldsRun, IsRunRefusedAfter, RunJudgeIn}
-use Rattle.capcheck_judge.specs.{RunTakings.TakesRunLines, Takings.state_at}
-use Rattle.capcheck_judge.proofs.TakingLemmas.{few_states, no_bytes, stop_of}
-use Rattle.cap_turns.specs.{Turns.{Due, Goes, IsAtFault, Refused}, Readings.{Follows, StopsAt}, Verdicts.{Lacks, MayLackMemory}}
-use Rattle.cap_turns.proofs.FollowLemmas.{clear_goes, fault_allows, fault_stays, faults_at, follows_on, goes_clear, refused_in}
-use Rattle.cap_turns.proofs.FollowLemmas.{stop_follows}
-use Rattle.cap_turns.proofs.{EndLemmas.lacks_memory, TurnLemmas.{goes_on, line_is}, OneEnd.never_faulty}
+use Rattle.capcheck_judge.specs.Takings.{lines_taken, state_at}
+use Rattle.capcheck_judge.proofs.{HoldingLemmas.there, TakingLemmas.{few_states, no_bytes, stop_of}}
+use Rattle.cap_turns.specs.Turns.{Due, Goes, IsAtFault, Refused}
+use Rattle.cap_turns.specs.Readings.{Follows, StopsAt}
+use Rattle.cap_turns.specs.Verdicts.{Lacks, MayLackMemory}
+use Rattle.cap_turns.proofs.FollowLemmas.{clear_goes, fault_allows, fault_stays, faults_at, follows_on, goes_clear, refused_in, stop_follows}
+use Rattle.cap_turns.proofs.EndLemmas.{lacks_memory}
+use Rattle.cap_turns.proofs.TurnLemmas.{goes_on, line_is}
+use Rattle.cap_run_judge.specs.Turns.{run_turns}
+use Rattle.cap_run_judge.proofs.TurnLemmas.{run_spelled}
+use Rattle.cap_run_judge.proofs.CountLemmas.{run_lawful}
+use Rattle.cap_turns.proofs.OneEnd.{never_faulty}
 
 -- What a handle holds
 
@@ -32,10 +37,6 @@ pub held_taken : (held : HeldRunJudge) (asks_are : Asks) (bytes : List ℕ) → 
     → held ≡ Some judge → Follows run_turns (unread asks_are) bytes (stage_of judge)
 held_taken held asks_are bytes holds judge is =
     subst (λ (j : RunJudgeIn). Follows run_turns (unread asks_are) bytes (stage_of j)) (sym (one_held held asks_are bytes holds judge is)) holds.taken
-
--- what holds a judge isn't without one
-pub there : (held : HeldRunJudge) (judge : RunJudgeIn) → held ≡ Some judge → held ≡ None → ⊥
-there held judge is none = none-some judge (sym none ∙ is)
 
 -- the faulty line begins the rest that a judge stopped at, where none was faulty before
 refused_after : (asks_are : Asks) (old new : RunStage) (front rest before : List ℕ) → StopsAt run_turns old front rest Fault new
@@ -68,30 +69,31 @@ front_read old new front rest Fault stops other = absurd (other refl)
 front_read old new front rest NoMemory stops other = stops.0
 
 -- the handle's judge took lines
-pub took_run_lines : (given : List ℕ) (held after : HeldRunJudge) (old new : RunJudgeIn) (answer : LinesTaken) → held ≡ Some old
-    → after ≡ Some new → TakesRunLines old given answer new → HandsOverRunLines given held after answer
-took_run_lines given held after old new answer is now takes =
-    let front = take answer.bytes given in
-    let rest = drop answer.bytes given in
-    let state = takes.state_is in
-    let few = few_states takes.stop in
-    let at : (stop : Stop) → answer.state ≡ state_at stop → StopsAt run_turns (stage_of old) front rest stop (stage_of new) = λ stop wanted.
-    subst (λ (s : Stop). StopsAt run_turns (stage_of old) front rest s (stage_of new)) (stop_of takes.stop stop (sym state ∙ wanted)) takes.stops in
+pub took_run_lines : (given : List ℕ) (held after : HeldRunJudge) (old new : RunJudgeIn) (taken : Taken) → held ≡ Some old → after ≡ Some new
+    → taken.count ≤ length given
+    → StopsAt run_turns (stage_of old) (take taken.count given) (drop taken.count given) taken.stop (stage_of new)
+    → HandsOverRunLines given held after (lines_taken taken)
+took_run_lines given held after old new taken is now few_bytes stops_at =
+    let front = take taken.count given in
+    let rest = drop taken.count given in
+    let few = few_states taken.stop in
+    let at : (stop : Stop) → state_at taken.stop ≡ state_at stop → StopsAt run_turns (stage_of old) front rest stop (stage_of new) = λ stop wanted.
+    subst (λ (s : Stop). StopsAt run_turns (stage_of old) front rest s (stage_of new)) (stop_of taken.stop stop wanted) stops_at in
     let read : (asks_are : Asks) (bytes text : List ℕ) → HoldsRun held asks_are bytes → Follows run_turns (stage_of old) text (stage_of new)
     → Follows run_turns (unread asks_are) (bytes ++ text) (stage_of new) = λ asks_are bytes text holds on.
     follows_on run_turns (unread asks_are) (stage_of old) (stage_of new) bytes text (held_taken held asks_are bytes holds old is) on in
-    let all : answer.state ≡ 2 → Follows run_turns (stage_of old) given (stage_of new) = λ two.
-    subst (λ (g : List ℕ). Follows run_turns (stage_of old) g (stage_of new)) (take-append-drop answer.bytes given)
+    let all : state_at taken.stop ≡ 2 → Follows run_turns (stage_of old) given (stage_of new) = λ two.
+    subst (λ (g : List ℕ). Follows run_turns (stage_of old) g (stage_of new)) (take-append-drop taken.count given)
     (stop_follows run_turns (stage_of old) (stage_of new) front rest (at Fault two)) in
     record {
-      few = takes.few;
-      answers = omega (arith, state, few.0);
-      never_yes = λ one. few.1 (sym state ∙ one);
+      few = few_bytes;
+      answers = omega (arith, few.0);
+      never_yes = few.1;
       taken = λ other asks_are bytes holds. record {
         judge = new;
         held_is = now;
         taken = read asks_are bytes front holds
-            (inl (front_read (stage_of old) (stage_of new) front rest takes.stop takes.stops (λ two. other (state ∙ two))));
+            (inl (front_read (stage_of old) (stage_of new) front rest taken.stop stops_at other));
       };
       goes_on = λ zero asks_are bytes holds.
           let stop = at Cut zero in
@@ -107,18 +109,18 @@ took_run_lines given held after old new answer is now takes =
           );
       faulty = λ two asks_are bytes holds. refused_after asks_are (stage_of old) (stage_of new) front rest bytes (at Fault two)
           (held_taken held asks_are bytes holds old is);
-      faulty_before = λ two asks_are bytes holds. none_taken asks_are (stage_of old) (stage_of new) given answer.bytes bytes takes.few (at Fault two)
+      faulty_before = λ two asks_are bytes holds. none_taken asks_are (stage_of old) (stage_of new) given taken.count bytes few_bytes (at Fault two)
           (held_taken held asks_are bytes holds old is);
       no_memory = λ three asks_are bytes holds.
           let stop = at NoMemory three in
-          let same = append_assoc bytes front rest ∙ ap (λ (g : List ℕ). bytes ++ g) (take-append-drop answer.bytes given) in
+          let same = append_assoc bytes front rest ∙ ap (λ (g : List ℕ). bytes ++ g) (take-append-drop taken.count given) in
           let goes = lacking asks_are (bytes ++ front) rest (stage_of new) stop.1 (read asks_are bytes front holds (inl stop.0)) stop.2 in (
             run_spelling stop.2.line,
             stop.1,
             line_is run_turns run_spelled stop.2.line rest stop.1 stop.2.begins,
             subst (λ (b : List ℕ). MayLackMemory run_turns (unread asks_are) b stop.1) same goes,
           );
-      no_judge = (λ four. absurd (omega (arith, state, few.0, four)), λ none. absurd (there held old is none));
+      no_judge = (λ four. absurd (omega (arith, few.0, four)), λ none. absurd (there held old is none));
       nothing = λ none. absurd (there held old is none);
       held = (λ none. absurd (there after new now none), λ none. absurd (there held old is none));
     }

@@ -1,17 +1,19 @@
 -- What a handle's judge takes that is handed lines.
-use Rattle.std.proofs.Common.{inl, ◌≡◌, ◌≢◌, ◌<◌, ◌≤◌, ◌∙◌, ℕ, List, ◌++◌, ap, append_assoc, arith, drop, refl, subst, sym}
+use Rattle.std.proofs.Common.{inl, ◌≡◌, ◌≢◌, ◌<◌, ◌≤◌, ◌∙◌, ℕ, List, ◌++◌, ap, append_assoc, arith, drop, refl, subst}
 use Rattle.std.proofs.Common.{[], ◌∷◌, length, suc, take, take-append-drop, zero, Some}
 use Rattle.cap_log.specs.Lines.{spelling}
-use Rattle.cap_judge.specs.{declared.judges.Stop.{Stop, TheVariants.{Cut, Fault, NoMemory}}, Judgings.IsBehind}
-use Rattle.cap_judge.specs.{Logs.{MayLackMemory, Refuses}, Readings.{BeginsWhole, HasRead, IsRest, stage_of}}
-use Rattle.cap_judge.specs.Turns.{LogStage, unread, log_turns}
-use Rattle.cap_judge.proofs.{TurnLaws.{begins, fault_reached, lacks_memory, never_faulty, reached}, TurnLemmas.log_spelled}
-use Rattle.capcheck_judge.specs.declared.answers.LinesTaken.{LinesTaken}
-use Rattle.capcheck_judge.specs.{Handles.{HandsOverLines, HeldJudge, Holds, IsRefusedAfter}, Takings.{TakesLines, state_at}}
-use Rattle.capcheck_judge.proofs.HandleLemmas.{J, held_taken, there}
-use Rattle.cap_turns.specs.{Readings.{Follows, StopsAt}, Turns.{Due, Goes, IsAtFault}}
+use Rattle.cap_judge.specs.{declared.judges.{Stop.{Stop, TheVariants.{Cut, Fault, NoMemory}}, Taken.Taken}, Judgings.IsBehind}
+use Rattle.cap_judge.specs.{Logs.{MayLackMemory, Refuses}, Readings.{BeginsWhole, HasRead, IsRest}}
+use Rattle.cap_judge.specs.{Readings.stage_of, Turns.{LogStage, unread}}
+use Rattle.cap_judge.proofs.TurnLaws.{begins, fault_reached, lacks_memory, never_faulty, reached}
+use Rattle.capcheck_judge.specs.{Handles.{HandsOverLines, HeldJudge, Holds, IsRefusedAfter, JudgeIn}, Takings.{lines_taken, state_at}}
+use Rattle.capcheck_judge.proofs.{HandleLemmas.held_taken, HoldingLemmas.there}
+use Rattle.cap_turns.specs.Readings.{Follows, StopsAt}
+use Rattle.cap_turns.specs.Turns.{Due, Goes, IsAtFault}
 use Rattle.cap_turns.proofs.FollowLemmas.{clear_goes, fault_stays, faults_at, follows_on, refused_in, stop_follows}
 use Rattle.cap_turns.proofs.TurnLemmas.{goes_on, line_is}
+use Rattle.cap_judge.specs.Turns.{log_turns}
+use Rattle.cap_judge.proofs.TurnLemmas.{log_spelled}
 
 -- the faulty line begins the rest that a judge stopped at, where none was faulty before
 refused_after : (old new : LogStage) (front rest before : List ℕ) → StopsAt log_turns old front rest Fault new → Follows log_turns unread before old
@@ -60,29 +62,30 @@ front_read old new front rest Fault stops other = absurd (other refl)
 front_read old new front rest NoMemory stops other = stops.0
 
 -- the handle's judge took lines
-pub took_lines : (given : List ℕ) (held after : HeldJudge) (old new : J) (answer : LinesTaken) → held ≡ Some old → after ≡ Some new
-    → TakesLines old given answer new → HandsOverLines given held after answer
-took_lines given held after old new answer is now takes =
-    let front = take answer.bytes given in
-    let rest = drop answer.bytes given in
-    let state = takes.state_is in
-    let few = few_states takes.stop in
-    let at : (stop : Stop) → answer.state ≡ state_at stop → StopsAt log_turns (stage_of old) front rest stop (stage_of new) = λ stop wanted.
-    subst (λ (s : Stop). StopsAt log_turns (stage_of old) front rest s (stage_of new)) (stop_of takes.stop stop (sym state ∙ wanted)) takes.stops in
+pub took_lines : (given : List ℕ) (held after : HeldJudge) (old new : JudgeIn) (taken : Taken) → held ≡ Some old → after ≡ Some new
+    → taken.count ≤ length given
+    → StopsAt log_turns (stage_of old) (take taken.count given) (drop taken.count given) taken.stop (stage_of new)
+    → HandsOverLines given held after (lines_taken taken)
+took_lines given held after old new taken is now few_bytes stops_at =
+    let front = take taken.count given in
+    let rest = drop taken.count given in
+    let few = few_states taken.stop in
+    let at : (stop : Stop) → state_at taken.stop ≡ state_at stop → StopsAt log_turns (stage_of old) front rest stop (stage_of new) = λ stop wanted.
+    subst (λ (s : Stop). StopsAt log_turns (stage_of old) front rest s (stage_of new)) (stop_of taken.stop stop wanted) stops_at in
     let read : (bytes text : List ℕ) → Holds held bytes → Follows log_turns (stage_of old) text (stage_of new) → HasRead new (bytes ++ text) =
     λ bytes text holds on. follows_on log_turns unread (stage_of old) (stage_of new) bytes text (held_taken held bytes holds old is) on in
-    let all : answer.state ≡ 2 → Follows log_turns (stage_of old) given (stage_of new) = λ two.
-    subst (λ (g : List ℕ). Follows log_turns (stage_of old) g (stage_of new)) (take-append-drop answer.bytes given)
+    let all : state_at taken.stop ≡ 2 → Follows log_turns (stage_of old) given (stage_of new) = λ two.
+    subst (λ (g : List ℕ). Follows log_turns (stage_of old) g (stage_of new)) (take-append-drop taken.count given)
     (stop_follows log_turns (stage_of old) (stage_of new) front rest (at Fault two)) in
     record {
-      few = takes.few;
-      answers = omega (arith, state, few.0);
-      never_yes = λ one. few.1 (sym state ∙ one);
+      few = few_bytes;
+      answers = omega (arith, few.0);
+      never_yes = few.1;
       taken = λ other bytes holds. record {
         judge = new;
         held_is = now;
         taken = read bytes front holds
-            (inl (front_read (stage_of old) (stage_of new) front rest takes.stop takes.stops (λ two. other (state ∙ two))));
+            (inl (front_read (stage_of old) (stage_of new) front rest taken.stop stops_at other));
       };
       goes_on = λ zero bytes holds.
           let stop = at Cut zero in
@@ -95,18 +98,18 @@ took_lines given held after old new answer is now takes =
           (faults_at log_turns stop.0 rest (stage_of new) stop.2);
       faulty = λ two bytes holds. refused_after (stage_of old) (stage_of new) front rest bytes (at Fault two)
           (held_taken held bytes holds old is);
-      faulty_before = λ two bytes holds. none_taken (stage_of old) (stage_of new) given answer.bytes bytes takes.few (at Fault two)
+      faulty_before = λ two bytes holds. none_taken (stage_of old) (stage_of new) given taken.count bytes few_bytes (at Fault two)
           (held_taken held bytes holds old is);
       no_memory = λ three bytes holds.
           let stop = at NoMemory three in
-          let same = append_assoc bytes front rest ∙ ap (λ (g : List ℕ). bytes ++ g) (take-append-drop answer.bytes given) in (
+          let same = append_assoc bytes front rest ∙ ap (λ (g : List ℕ). bytes ++ g) (take-append-drop taken.count given) in (
             spelling stop.2.line,
             stop.1,
             line_is log_turns log_spelled stop.2.line rest stop.1 stop.2.begins,
             subst (λ (b : List ℕ). MayLackMemory b stop.1) same
                 (lacks_memory (bytes ++ front) rest stop.1 (stage_of new) (read bytes front holds (inl stop.0)) stop.2),
           );
-      no_judge = (λ four. absurd (omega (arith, state, few.0, four)), λ none. absurd (there held old is none));
+      no_judge = (λ four. absurd (omega (arith, few.0, four)), λ none. absurd (there held old is none));
       nothing = λ none. absurd (there held old is none);
       held = (λ none. absurd (there after new now none), λ none. absurd (there held old is none));
     }

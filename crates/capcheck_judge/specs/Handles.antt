@@ -21,9 +21,16 @@ use Rattle.capcheck_judge.specs.declared.answers.{PassedExpected.PassedExpected,
 use Rattle.capcheck_judge.specs.Holding.{IsNoStep}
 use Rattle.capcheck_judge.specs.declared.handle.Handle.{Handle}
 
+-- a judge over pages
+abbrev pub JudgeRow : RattleType
+JudgeRow = judge_row store_row ghosts
+
+abbrev pub JudgeIn : Type 0
+JudgeIn = RattleType.Denot JudgeRow
+
 -- what a handle holds: a judge, or none
 abbrev pub HeldJudge : Type 0
-HeldJudge = Option (RattleType.Denot (judge_row store_row ghosts))
+HeldJudge = Option JudgeIn
 
 -- what this handle holds
 abbrev pub held_in : Handle → HeldJudge
@@ -36,7 +43,7 @@ known_in (Some judge) = Some (known_of judge)
 
 -- a handle holds a judge that has taken these bytes
 pub record Holds (held : HeldJudge) (bytes : List ℕ) : Type 0 where
-  pub judge : RattleType.Denot (judge_row store_row ghosts)
+  pub judge : JudgeIn
   pub held_is : held ≡ Some judge
   pub taken : HasRead judge bytes
 
@@ -48,20 +55,26 @@ state_behind holds = (stage_of holds.judge).account.state
 abbrev pub tag_behind : {held : HeldJudge} {bytes : List ℕ} → Holds held bytes → ℕ → Bool
 tag_behind holds key = let cap = state_behind holds key in cap.tag
 
+-- what a call answers that hands over a text as one line: that it was taken, and no line so far is faulty; that it or one
+-- before it is faulty; that memory ran out at it, which names a granule for the first time; that there is no judge; or that
+-- it is none
+pub record HandsOverText (text : List ℕ) (old new : HeldJudge) (state : ℕ) : Type 0 where
+  pub answers : state < 6
+  pub never_yes : state ≢ 1
+  pub taken : state < 3 → (bytes : List ℕ) → Holds old bytes → Holds new (bytes ++ text)
+  pub goes_on : state ≡ 0 → (bytes : List ℕ) → Holds old bytes → BeginsWhole (bytes ++ text)
+  pub at_fault : state ≡ 2 → (bytes : List ℕ) → Holds old bytes → BeginsWhole (bytes ++ text) → ⊥
+  pub unchanged : 2 < state → known_in new ≡ known_in old
+  pub still_holds : 2 < state → (bytes : List ℕ) → Holds old bytes → Holds new bytes
+  pub no_memory : state ≡ 3 → (bytes : List ℕ) → Holds old bytes → MayLackMemory (bytes ++ text) []
+  pub no_judge : (state ≡ 4) ↔ (old ≡ None)
+  pub held : (new ≡ None) ↔ (old ≡ None)
+
 -- what a call answers that hands over a step: where the step's line is in range, what the call answers that hands over
 -- that line; else that it is none
 pub record HandsOver (line : Line) (old new : HeldJudge) (state : ℕ) : Type 0 where
-  pub answers : state < 6
-  pub never_yes : state ≢ 1
-  pub taken : state < 3 → (bytes : List ℕ) → Holds old bytes → Holds new (bytes ++ (spelling line ++ 10 ∷ []))
-  pub goes_on : state ≡ 0 → (bytes : List ℕ) → Holds old bytes → BeginsWhole (bytes ++ (spelling line ++ 10 ∷ []))
-  pub at_fault : state ≡ 2 → (bytes : List ℕ) → Holds old bytes → BeginsWhole (bytes ++ (spelling line ++ 10 ∷ [])) → ⊥
-  pub unchanged : 2 < state → known_in new ≡ known_in old
-  pub still_holds : 2 < state → (bytes : List ℕ) → Holds old bytes → Holds new bytes
-  pub no_memory : state ≡ 3 → (bytes : List ℕ) → Holds old bytes → MayLackMemory (bytes ++ (spelling line ++ 10 ∷ [])) []
-  pub no_judge : (state ≡ 4) ↔ (old ≡ None)
+  pub handed : HandsOverText (spelling line ++ 10 ∷ []) old new state
   pub no_line : (state ≡ 5) ↔ ((old ≢ None) × (¬ IsInRange line))
-  pub held : (new ≡ None) ↔ (old ≡ None)
 
 -- the same for a step that C's numbers name; and where they name none, nothing has changed
 abbrev pub HandsOverStep : Option Step → HeldJudge → HeldJudge → ℕ → Type 0

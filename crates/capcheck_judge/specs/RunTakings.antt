@@ -1,16 +1,11 @@
 -- What a judge of run logs takes that is handed lines (this profile's own).
-use Rattle.std.specs.Prelude.{◌≡◌, ◌≤◌, ◌<◌, ℕ, List, [], length, drop, take}
-use Rattle.cap_judge.specs.declared.judges.Stop.{Stop}
-use Rattle.cap_run_judge.specs.{Readings.stage_of, Turns.run_turns}
-use Rattle.capcheck_judge.specs.{RunHandles.RunJudgeIn, Takings.state_at, declared.answers.LinesTaken.LinesTaken}
-use Rattle.cap_turns.specs.{Readings.{Follows, StopsAt}, Turns.IsAtFault, Verdicts.Lacks}
-
--- a judge took whole lines from the front of some bytes, and stopped
-pub record TakesRunLines (old : RunJudgeIn) (given : List ℕ) (answer : LinesTaken) (new : RunJudgeIn) : Type 0 where
-  pub few : answer.bytes ≤ length given
-  pub stop : Stop
-  pub state_is : answer.state ≡ state_at stop
-  pub stops : StopsAt run_turns (stage_of old) (take answer.bytes given) (drop answer.bytes given) stop (stage_of new)
+use Rattle.std.specs.Prelude.{◌≡◌, ◌<◌, ℕ, List, []}
+use Rattle.cap_run_judge.specs.Readings.{stage_of}
+use Rattle.capcheck_judge.specs.RunHandles.{RunJudgeIn}
+use Rattle.cap_turns.specs.Readings.{Follows}
+use Rattle.cap_turns.specs.Turns.{IsAtFault}
+use Rattle.cap_turns.specs.Verdicts.{Lacks}
+use Rattle.cap_run_judge.specs.Turns.{run_turns}
 
 -- a judge was handed a line: it took the line, and none so far is faulty, or one is; or nothing has changed
 pub record TakesRunLine (old : RunJudgeIn) (line : List ℕ) (state : ℕ) (new : RunJudgeIn) : Type 0 where

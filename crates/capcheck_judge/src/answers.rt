@@ -1,6 +1,11 @@
 //! What a judge tells of the machine of a log: structs of plain numbers.
 
+ghost use Rattle.std.specs.Prelude.{◌≡◌};
+ghost use Rattle.capcheck_judge.specs.Takings.{lines_taken};
+
 use cap_halves::values::Capability;
+use cap_judge::{Stop, Taken};
+use cap_report::answers::{GOES_ON, NO, NO_MEMORY};
 
 /// A capability, or none (in C `capcheck_optional_cap`).
 #[repr(C)]
@@ -34,4 +39,18 @@ pub struct PassedExpected {
     pub size: u8,
     /// 1 if it is the capability, 2 if it is the number, and 0 if there is none.
     pub kind: u8,
+}
+
+/// What a judge took of some lines, in numbers.
+pub(crate) fn lines_taken(taken: Taken) -> LinesTaken
+    ensures { result ≡ lines_taken taken }
+{
+    LinesTaken {
+        bytes: taken.count as u64,
+        state: match taken.stop {
+            Stop::Cut => GOES_ON,
+            Stop::Fault => NO,
+            Stop::NoMemory => NO_MEMORY,
+        },
+    }
 }

@@ -20,6 +20,20 @@ macro_rules! ask {
     };
 }
 
+// What a call answers that hands over a line: whether a judge took it, and if so whether a line so far is faulty.
+macro_rules! state {
+    ($taken:expr, $faulty:expr) => {
+        match $taken {
+            Ok(()) => match $faulty {
+                None => GOES_ON,
+                Some(_) => NO,
+            },
+            Err(TakeFault::NoMemory) => NO_MEMORY,
+            Err(TakeFault::NoLine) => NO_LINE,
+        }
+    };
+}
+
 // What is done with a step of version 2, whatever its kind.
 macro_rules! by_kind {
     ($any:expr, $step:ident => $done:expr) => {

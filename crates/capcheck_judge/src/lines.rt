@@ -1,15 +1,14 @@
 //! A judge that C opens, hands the lines of a log to, and closes.
 
-ghost use Rattle.std.specs.Prelude.{◌≡◌, ◌≢◌, ◌↔◌, ◌⊎◌, ◌<◌, ℕ, List, [], ◌++◌, None};
-ghost use Rattle.cap_judge.specs.{Logs.MayLackMemory, Readings.BeginsWhole};
+ghost use Rattle.std.specs.Prelude.{◌≡◌, ◌≢◌, ◌↔◌, ◌⊎◌, ℕ, List, [], None};
 ghost use Rattle.cap_report.specs.Answers.{NamesEscapesIn, without_verdict};
-ghost use Rattle.capcheck_judge.specs.Handles.{AnswersEnd, AnswersSoFar, HandsOverLines, Holds, held_in, known_in};
-ghost use Rattle.capcheck_judge.specs.Takings.{TakesLine, TakesLines};
+ghost use Rattle.capcheck_judge.specs.Handles.{AnswersEnd, AnswersSoFar, HandsOverLines, HandsOverText, Holds, held_in};
+ghost use Rattle.capcheck_judge.specs.Takings.{TakesLine};
 ghost use Rattle.cap_turns.specs.Readings.{IsNoLine};
 
-use crate::answers::LinesTaken;
+use crate::answers::{LinesTaken, lines_taken};
 use crate::handle::Handle;
-use cap_judge::{Judge, Stop, TakeFault};
+use cap_judge::{Judge, TakeFault};
 use cap_report::answers::{
     Answer, GOES_ON, NO, NO_JUDGE, NO_LINE, NO_MEMORY, numbers_of, without_verdict,
 };
@@ -40,21 +39,8 @@ pub extern "C" fn capcheck_judge_open(alloc: Global, judge: &mut Handle) -> u8
 /// nothing has changed, and the line may be handed over again.
 #[unsafe(no_mangle)]
 pub extern "C" fn capcheck_judge_line(alloc: Global, judge: &mut Handle, line: &[u8]) -> u8
-    ensures answers { result < 6 }
-    ensures never_yes { result ≢ 1 }
-
-    // A line that is taken is taken after all that was taken before.
-    ensures taken { result < 3 → (bytes : List ℕ) → Holds (held_in judge.old) bytes → Holds (held_in judge.new) (bytes ++ line.now) }
-    ensures goes_on { result ≡ 0 → (bytes : List ℕ) → Holds (held_in judge.old) bytes → BeginsWhole (bytes ++ line.now) }
-    ensures at_fault { result ≡ 2 → (bytes : List ℕ) → Holds (held_in judge.old) bytes → BeginsWhole (bytes ++ line.now) → ⊥ }
-    ensures unchanged { 2 < result → known_in (held_in judge.new) ≡ known_in (held_in judge.old) }
-    ensures still_holds { 2 < result → (bytes : List ℕ) → Holds (held_in judge.old) bytes → Holds (held_in judge.new) bytes }
-
-    // Memory is wanted only if this very line, which no check refuses, names a granule for the first time.
-    ensures no_memory { result ≡ 3 → (bytes : List ℕ) → Holds (held_in judge.old) bytes → MayLackMemory (bytes ++ line.now) [] }
-    ensures no_judge { (result ≡ 4) ↔ (held_in judge.old ≡ None) }
+    ensures handed { HandsOverText line.now (held_in judge.old) (held_in judge.new) result }
     ensures no_line { (result ≡ 5) ↔ ((held_in judge.old ≢ None) × IsNoLine line.now) }
-    ensures held { (held_in judge.new ≡ None) ↔ (held_in judge.old ≡ None) }
 {
     ask!(judge, alloc, |held| state = take_line(&mut held, line), state, else NO_JUDGE)
 }
@@ -71,7 +57,7 @@ pub extern "C" fn capcheck_judge_lines(
 ) -> LinesTaken
     ensures handed { HandsOverLines bytes.now (held_in judge.old) (held_in judge.new) result }
 {
-    ask!(judge, alloc, |held| taken = take_lines(&mut held, bytes), taken, else LinesTaken {
+    ask!(judge, alloc, |held| taken = held.take(bytes), lines_taken(taken), else LinesTaken {
         bytes: 0,
         state: NO_JUDGE,
     })
@@ -118,27 +104,5 @@ fn take_line(judge: &mut Judge<PageStore>, line: &[u8]) -> u8
     ensures takes { TakesLine judge.old line.now result judge.new }
     ensures no_line { (result ≡ 5) ↔ IsNoLine line.now }
 {
-    match judge.take_line(line) {
-        Ok(()) => match judge.answer() {
-            None => GOES_ON,
-            Some(_) => NO,
-        },
-        Err(TakeFault::NoMemory) => NO_MEMORY,
-        Err(TakeFault::NoLine) => NO_LINE,
-    }
-}
-
-/// Hands lines to a judge, as [`capcheck_judge_lines`] says.
-fn take_lines(judge: &mut Judge<PageStore>, bytes: &[u8]) -> LinesTaken
-    ensures taken { TakesLines judge.old bytes.now result judge.new }
-{
-    let taken = judge.take(bytes);
-    LinesTaken {
-        bytes: taken.count as u64,
-        state: match taken.stop {
-            Stop::Cut => GOES_ON,
-            Stop::Fault => NO,
-            Stop::NoMemory => NO_MEMORY,
-        },
-    }
+    state!(judge.take_line(line), judge.answer())
 }

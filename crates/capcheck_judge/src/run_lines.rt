@@ -4,13 +4,13 @@ ghost use Rattle.std.specs.Prelude.{◌≡◌, ◌≢◌, ◌↔◌, ◌⊎◌, 
 ghost use Rattle.cap_run.specs.declared.asks.Asks.{Asks as AsksIn};
 ghost use Rattle.capcheck_judge.specs.RunAnswers.{asks_passed, run_without_verdict};
 ghost use Rattle.capcheck_judge.specs.RunHandles.{AnswersRunBytes, AnswersRunEnd, AnswersRunSoFar, HandsOverRunLines, HandsOverRunText, HoldsRun};
-ghost use Rattle.capcheck_judge.specs.{RunHandles.run_held_in, RunTakings.{TakesRunLine, TakesRunLines}};
+ghost use Rattle.capcheck_judge.specs.{RunHandles.run_held_in, RunTakings.TakesRunLine};
 ghost use Rattle.cap_turns.specs.Readings.{IsNoLine};
 
-use crate::answers::LinesTaken;
+use crate::answers::{LinesTaken, lines_taken};
 use crate::run_answers::{PassedAsks, RunAnswer, asks_of, run_numbers_of, run_without_verdict};
 use crate::run_handle::RunHandle;
-use cap_judge::{Stop, TakeFault};
+use cap_judge::TakeFault;
 use cap_report::answers::{GOES_ON, NO, NO_JUDGE, NO_LINE, NO_MEMORY};
 use cap_run_judge::{RunJudge, judge_run_bytes};
 use std::alloc::Global;
@@ -79,7 +79,7 @@ pub extern "C" fn capcheck_run_judge_lines(
 ) -> LinesTaken
     ensures handed { HandsOverRunLines bytes.now (run_held_in judge.old) (run_held_in judge.new) result }
 {
-    ask!(judge, alloc, |held| taken = take_run_lines(&mut held, bytes), taken, else LinesTaken {
+    ask!(judge, alloc, |held| taken = held.take(bytes), lines_taken(taken), else LinesTaken {
         bytes: 0,
         state: NO_JUDGE,
     })
@@ -124,27 +124,5 @@ fn take_run_line(judge: &mut RunJudge<PageStore>, line: &[u8]) -> u8
     ensures takes { TakesRunLine judge.old line.now result judge.new }
     ensures no_line { (result ≡ 5) ↔ IsNoLine line.now }
 {
-    match judge.take_line(line) {
-        Ok(()) => match judge.answer() {
-            None => GOES_ON,
-            Some(_) => NO,
-        },
-        Err(TakeFault::NoMemory) => NO_MEMORY,
-        Err(TakeFault::NoLine) => NO_LINE,
-    }
-}
-
-// Hands lines to a judge of run logs, as `capcheck_run_judge_lines` says.
-fn take_run_lines(judge: &mut RunJudge<PageStore>, bytes: &[u8]) -> LinesTaken
-    ensures taken { TakesRunLines judge.old bytes.now result judge.new }
-{
-    let taken = judge.take(bytes);
-    LinesTaken {
-        bytes: taken.count as u64,
-        state: match taken.stop {
-            Stop::Cut => GOES_ON,
-            Stop::Fault => NO,
-            Stop::NoMemory => NO_MEMORY,
-        },
-    }
+    state!(judge.take_line(line), judge.answer())
 }

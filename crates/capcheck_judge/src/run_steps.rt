@@ -131,12 +131,5 @@ fn take_unmade_line(judge: &mut RunJudge<PageStore>, line: &RunLine, end: Option
     ensures answers { (result ≡ 0) ⊎ (result ≡ 2) ⊎ (result ≡ 3) }
     ensures takes { TakesRunLine judge.old (run_spelling line.now ++ 10 ∷ []) result judge.new }
 {
-    match judge.take_unmade(line, end) {
-        Ok(()) => match judge.refused() {
-            None => GOES_ON,
-            Some(_) => NO,
-        },
-        Err(TakeFault::NoMemory) => NO_MEMORY,
-        Err(TakeFault::NoLine) => NO_LINE,
-    }
+    state!(judge.take_unmade(line, end), judge.refused())
 }

@@ -259,12 +259,5 @@ fn take_unmade<I: Instruction>(judge: &mut Judge<PageStore>, step: I, end: Optio
     ensures answers { (result ≡ 0) ⊎ (result ≡ 2) ⊎ (result ≡ 3) }
     ensures takes { TakesLine judge.old (spelling (line.Step (I.step step)) ++ 10 ∷ []) result judge.new }
 {
-    match judge.take_unmade(step.into_step(), end) {
-        Ok(()) => match judge.answer() {
-            None => GOES_ON,
-            Some(_) => NO,
-        },
-        Err(TakeFault::NoMemory) => NO_MEMORY,
-        Err(TakeFault::NoLine) => NO_LINE,
-    }
+    state!(judge.take_unmade(step.into_step(), end), judge.answer())
 }

@@ -1,4 +1,4 @@
-use Rattle.std.proofs.Common.{◌∙◌, ap, refl, subst, sym, Option, Some}
+use Rattle.std.proofs.Common.{refl, subst, sym, Option}
 use Rattle.capcheck_judge.specs.{Holding.IsNoStep, RunHandles.RunJudgeIn}
 use Rattle.capcheck_judge.proofs.run_steps.hand_over_none.Goals as goal
 

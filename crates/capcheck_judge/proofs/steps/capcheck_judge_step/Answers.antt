@@ -1,5 +1,5 @@
-use Rattle.std.proofs.Common.{◌≡◌, ◌∙◌, ap, refl, subst, sym, Option, Some}
-use Rattle.cap_log.specs.{Lines.IsStepInRange, declared.kinds.Step.Step}
+use Rattle.std.proofs.Common.{◌≡◌, ◌∙◌, ap, refl, subst, sym, Some}
+use Rattle.cap_log.specs.{Lines.IsStepInRange}
 use Rattle.cap_halves.specs.{PassedLines.step_passed, PassedRuns.IsStepFrom}
 use Rattle.capcheck_judge.specs.{Handles.HeldJudge, Holding.IsNoStep}
 use Rattle.capcheck_judge.proofs.HandleLemmas.{no_step, passed_step, unjudged_step}

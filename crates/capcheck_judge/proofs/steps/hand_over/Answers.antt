@@ -1,6 +1,7 @@
 use Rattle.std.proofs.Common.{◌≡◌, ◌∙◌, ◌++◌, ◌∷◌, [], ap, refl, subst, sym, Some}
 use Rattle.cap_log.specs.{declared.lines.Line.Line, Lines.spelling, Parts.IsMade}
-use Rattle.capcheck_judge.proofs.HandleLemmas.{HandsLine, handed, line_handed}
+use Rattle.capcheck_judge.specs.Takings.{TakesLine}
+use Rattle.capcheck_judge.proofs.HandleLemmas.{handed}
 use Rattle.capcheck_judge.proofs.steps.hand_over.Goals as goal
 
 pub returns-in-Some-take : goal.returns-in-Some-take
@@ -14,7 +15,6 @@ returns-in-Some-take g c =
     let new = c.take_step-state.new.judge in
     let state = c.take_step-state.result in
     let ensures = c.take_step-state.ensures in
-    let taken = line_handed (spelling (Line.Step (step_of c.in-Some.step)) ++ 10 ∷ []) held after c.deref_mut.result.now new state is
-    c.put.ensures (ensures.takes (step_of c.in-Some.step) refl) in
+    let takes = ensures.takes (step_of c.in-Some.step) refl in
     handed (Line.Step (step_of wanted)) held after c.deref_mut.result.now new state of.0 is c.put.ensures ensures.answers
-    (subst (λ operands. HandsLine (spelling (Line.Step (step_of operands)) ++ 10 ∷ []) held after state) of.1 taken)
+    (subst (λ operands. TakesLine c.deref_mut.result.now (spelling (Line.Step (step_of operands)) ++ 10 ∷ []) state new) of.1 takes)

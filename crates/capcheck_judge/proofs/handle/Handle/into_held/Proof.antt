@@ -25,8 +25,10 @@ use types.Logic.{sem}
 use types.Match.{live}
 use types.Part.{agg, sub, whole}
 use types.Run.{stop, fld, lit, of_opd, no_more, and_then, first, branches, exec, returns, enter}
+use Rattle.capcheck_judge.specs.Handles.{JudgeRow as J}
+use Rattle.capcheck_judge.specs.contracts.handle.Handle.{the_row as H}
 use Rattle.capcheck_judge.specs.contracts.handle.Handle.into_held.{ended, clauses, Key.name as #self}
-use Rattle.capcheck_judge.proofs.HandleFields.{J, Z, H, three, ptr_good, handle_good, handle_out, either_held}
+use Rattle.capcheck_judge.proofs.HandleFields.{Z, three, ptr_good, handle_good, handle_out, either_held}
 use Rattle.capcheck_judge.proofs.{HandleFields.owns_judge, HeldFields.{pair, runs_from, KeptBox, held_good, held_in}}
 use Rattle.capcheck_judge.proofs.handle.Handle.into_held.Statement.{statement}
 use Rattle.capcheck_judge.proofs.handle.Handle.into_held.Code as code
@@ -41,8 +43,8 @@ into_held_spec 𝓤 𝓛 𝓜 𝓡 wired =
     let Run : List Val → SProp 𝓤 = λ ws. WpFn 𝓤 𝓗 𝓣.C 𝓣.Λ fn ws Post in
     let Out : RattleType = type_at En.signature.result κs in let toks = ‵ ftrue in let asked = raw ((c κs z.0.3).requires z.1) in
     qed 𝓛 ((toks ⊛ ‵ (owns (types_at En.signature.params κs) z.0.3 z.0.4)) ∷ asked ∷ []) ∵ split ! $ move ! (1 ∷ []) $ fsplit ! $
-    handle_out ! v z.0.4.0 (λ h ws fits flag.
-    either_held ! (owns_judge a v.at) v.judge
+    handle_out J ! v.at v.held v.alloc v.judge z.0.4.0 (λ h ws fits flag.
+    either_held J ! (owns_judge J a v.at) v.judge
     (λ is. let w : Val = three (ptr_val v.at) (vbool false) h in
     let eq : z.0.4.0 ≡ w ∷ [] = ws ∙ ap (λ (y : Bool). three (ptr_val v.at) (vbool y) h ∷ []) (flag ∙ ap is_some is) in
     suffices ! (Run (w ∷ [])) (runs_from 𝓤 Run eq) $
@@ -59,7 +61,7 @@ into_held_spec 𝓤 𝓛 𝓜 𝓡 wired =
     use0 𝓛 (raw (fact 𝓤 (v.judge ≡ None))) (fact_i 𝓤 (v.judge ≡ None) (emp 𝓤) is) $ nothing ! $ nothing ! $ fjoin ! $
     returns ! (look_at ! 0 refl) $ free_all ! refl $ keep ! (5 ∷ 0 ∷ 2 ∷ 1 ∷ []) $
     by ! (leaves 𝓛 En hs c z (live 0 vnil) None (_, tt) (tt, tt)))))
-    (λ x is. in_a_block ! v.at (λ p. owns_judge a p x) (fst∗ 𝓤 (never 𝓤) (sem 𝓛 (ghosts.dealloc_token a (bare (layout J)) null_ptr)))
+    (λ x is. in_a_block ! v.at (λ p. owns_judge J a p x) (fst∗ 𝓤 (never 𝓤) (sem 𝓛 (ghosts.dealloc_token a (bare (layout J)) null_ptr)))
     (λ b o e.
     let w : Val = three (vptr b o) (vbool true) h in
     let eq : z.0.4.0 ≡ w ∷ [] = ws ∙ ap (λ (y : Bool). three (ptr_val v.at) (vbool y) h ∷ []) (flag ∙ ap is_some is) ∙ ap

@@ -19,8 +19,9 @@ use types.ByLocal.{alloc_all, pass_all, free_all, look_at, get, get_in, sets}
 use types.Kit.{‵, raw, ◌⊛◌, ◌$◌, ◌∵◌, !, qed, by, move, keep, split, fsplit, fjoin, suffices, use0}
 use types.Part.{agg, sub, whole}
 use types.Run.{stop, fld, of_opd, true_lit, no_more, and_then, returns, enter}
+use Rattle.capcheck_judge.specs.Handles.{JudgeRow as J}
 use Rattle.capcheck_judge.specs.contracts.handle.Handle.of.{ended, clauses, Key.name as #self}
-use Rattle.capcheck_judge.proofs.{HandleFields.{J, Z, three, handle_good, handle_in}, HeldFields.{pair, runs_from}}
+use Rattle.capcheck_judge.proofs.{HandleFields.{Z, three, handle_good, handle_in}, HeldFields.{pair, runs_from}}
 use Rattle.capcheck_judge.proofs.{HeldFields.{KeptBox, held_good, held_out}, handle.Handle.of.Statement.statement}
 use Rattle.capcheck_judge.proofs.handle.Handle.of.Code as code
 
@@ -43,7 +44,7 @@ of_spec 𝓤 𝓛 𝓜 𝓡 wired =
     sets ! (of_opd ! (get_in ! (fld ! refl (stop !)) (sub ! 1 refl (whole !)))) refl fits $
     sets ! (of_opd ! (get ! refl)) refl (tt, tt) $
     sets ! (agg ! (and_then ! (get ! refl) (and_then ! (true_lit !) (and_then ! (get ! refl) (no_more !))))) refl (handle_good
-    (block_ptr b o) true h fits) $ handle_in ! (block_ptr b o) true h a there refl $
+    (block_ptr b o) true h fits) $ handle_in J ! (block_ptr b o) true h a there refl $
     use0 𝓛 (raw (fact 𝓤 (there ≡ there))) (fact_i 𝓤 (there ≡ there) (emp 𝓤) refl) $ nothing ! $ nothing ! $ fjoin ! $
     returns ! (look_at ! 0 refl) $ free_all ! refl $ keep ! (4 ∷ 0 ∷ 2 ∷ 1 ∷ []) $
     by ! (leaves 𝓛 En hs c z (three (vptr b o) (vbool true) h) (record { at = block_ptr b o; held = true; alloc = a; judge = there })

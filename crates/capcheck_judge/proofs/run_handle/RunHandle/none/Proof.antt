@@ -18,8 +18,9 @@ use types.ByLocal.{alloc_all, pass_all, free_all, look_at, get, sets}
 use types.Kit.{‵, raw, ◌⊛◌, ◌$◌, ◌∵◌, !, qed, by, move, keep, split, fsplit, fjoin, suffices, use0}
 use types.Part.{agg}
 use types.Run.{lit, false_lit, no_more, and_then, returns, enter}
+use Rattle.capcheck_judge.specs.RunHandles.{RunJudgeRow as J}
 use Rattle.capcheck_judge.specs.contracts.run_handle.RunHandle.none.{ended, clauses, Key.name as #self}
-use Rattle.capcheck_judge.proofs.{RunHandleFields.{Z, al, three, handle_good, handle_in}, HeldFields.runs_from}
+use Rattle.capcheck_judge.proofs.{HandleFields.{Z, al, three, handle_good, handle_in}, HeldFields.runs_from}
 use Rattle.capcheck_judge.proofs.run_handle.RunHandle.none.Statement.{statement}
 use Rattle.capcheck_judge.proofs.run_handle.RunHandle.none.Code as code
 
@@ -36,7 +37,7 @@ none_spec 𝓤 𝓛 𝓜 𝓡 wired =
     suffices ! (Run (h ∷ [])) (runs_from 𝓤 Run ea) $
     enter ! 𝓣.C 𝓣.Λ fn (h ∷ []) Post $ alloc_all ! (λ l. pass_all ! refl (fits, tt) $ nothing ! $
     sets ! (agg ! (and_then ! (lit ! tt) (and_then ! (false_lit !) (and_then ! (get ! refl) (no_more !))))) refl
-    (handle_good null_ptr false h fits) $ handle_in ! null_ptr false h a None refl $
+    (handle_good null_ptr false h fits) $ handle_in J ! null_ptr false h a None refl $
     use0 𝓛 (raw (fact 𝓤 (None ≡ None))) (fact_i 𝓤 (None ≡ None) (emp 𝓤) refl) $ nothing ! $ nothing ! $ fjoin ! $
     returns ! (look_at ! 0 refl) $ free_all ! refl $ keep ! (4 ∷ 0 ∷ 2 ∷ 1 ∷ []) $
     by ! (leaves 𝓛 En hs c z (three (ptr_val null_ptr) (vbool false) h)
