@@ -2,7 +2,7 @@
 use Rattle.std.proofs.Common.{inl, inr, ◌≡◌, ◌≢◌, ◌≤◌, ◌∙◌, ℕ, List, [], ◌++◌, ap, append_assoc, arith, drop}
 use Rattle.std.proofs.Common.{length, refl, subst, sym, take, take-append-drop, Option, Some}
 use Rattle.cap_run_log.specs.RunLines.{run_spelling}
-use Rattle.cap_judge.specs.declared.judges.{Stop.{Stop, TheVariants.{Cut, Fault, NoMemory}}, Taken.Taken}
+use Rattle.cap_turns.specs.declared.stops.{Stop.{Stop, TheVariants.{Cut, Fault, NoMemory}}, Taken.Taken}
 use Rattle.cap_run.specs.declared.asks.Asks.{Asks}
 use Rattle.cap_run_judge.specs.{Questions.verdict_so_far, declared.verdict.RunVerdict.{RunVerdict, TheVariants.No}}
 use Rattle.cap_run_judge.specs.Turns.{RunStage, unread}
@@ -23,6 +23,7 @@ use Rattle.cap_turns.proofs.TurnLemmas.{goes_on, line_is}
 use Rattle.cap_run_judge.specs.Turns.{run_turns}
 use Rattle.cap_run_judge.proofs.TurnLemmas.{run_spelled}
 use Rattle.cap_run_judge.proofs.CountLemmas.{run_lawful}
+use Rattle.cap_run.specs.declared.ends.RunRefusal.{RunRefusal}
 use Rattle.cap_turns.proofs.OneEnd.{never_faulty}
 
 -- What a handle holds
@@ -60,7 +61,7 @@ pub lacking : (asks_are : Asks) (front rest : List ℕ) (stage : RunStage) (more
     → Lacks run_turns stage rest more → MayLackMemory run_turns (unread asks_are) (front ++ rest) more
 lacking asks_are front rest stage more (inl goes) lack = lacks_memory run_turns (run_lawful asks_are) front rest stage goes more lack
 lacking asks_are front rest stage more (inr faulty) lack =
-    absurd (fault_allows run_turns stage.state.asks stage.state.run stage.due lack.line (faults_at run_turns faulty.3 faulty.1 stage faulty.5) lack.allowed)
+    absurd (fault_allows run_turns stage.state stage.due lack.line (faults_at run_turns faulty.3 faulty.1 stage faulty.5) lack.allowed)
 
 -- unless a line is faulty, the front was read
 front_read : (old new : RunStage) (front rest : List ℕ) (stop : Stop) → StopsAt run_turns old front rest stop new → state_at stop ≢ 2 → Goes run_turns old front new
@@ -131,7 +132,7 @@ took_run_lines given held after old new taken is now few_bytes stops_at =
 stands_by : (asks_are : Asks) (bytes : List ℕ) (stage : RunStage) (due : Due RunRefusal) → stage.due ≡ due → Follows run_turns (unread asks_are) bytes stage
     → StandsRun asks_are bytes (verdict_so_far due)
 stands_by asks_are bytes stage (Refused n refusal text) is read = no_stands asks_are bytes stage n refusal text read is
-stands_by asks_are bytes stage due is read = (stage, clear_goes run_turns (unread asks_are) bytes stage read (subst (λ (d : Due). IsAtFault d → ⊥) (sym is) (λ f. f)))
+stands_by asks_are bytes stage due is read = (stage, clear_goes run_turns (unread asks_are) bytes stage read (subst (λ (d : Due RunRefusal). IsAtFault d → ⊥) (sym is) (λ f. f)))
 
 pub answered_so_far : (held : HeldRunJudge) (judge : RunJudgeIn) (asks_are : Asks) (bytes : List ℕ) (so_far : Option RunVerdict) (answer : RunAnswer)
     → held ≡ Some judge → so_far ≡ verdict_so_far (stage_of judge).due → StandingRun so_far answer → HoldsRun held asks_are bytes

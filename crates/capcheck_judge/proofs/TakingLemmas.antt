@@ -2,7 +2,9 @@
 use Rattle.std.proofs.Common.{inl, ◌≡◌, ◌≢◌, ◌<◌, ◌≤◌, ◌∙◌, ℕ, List, ◌++◌, ap, append_assoc, arith, drop, refl, subst}
 use Rattle.std.proofs.Common.{[], ◌∷◌, length, suc, take, take-append-drop, zero, Some}
 use Rattle.cap_log.specs.Lines.{spelling}
-use Rattle.cap_judge.specs.{declared.judges.{Stop.{Stop, TheVariants.{Cut, Fault, NoMemory}}, Taken.Taken}, Judgings.IsBehind}
+use Rattle.cap_turns.specs.declared.stops.{Stop.{Stop, TheVariants.{Cut, Fault, NoMemory}}, Taken.Taken}
+use Rattle.cap_ops.specs.declared.refusal.Refusal.{Refusal}
+use Rattle.cap_judge.specs.Judgings.{IsBehind}
 use Rattle.cap_judge.specs.{Logs.{MayLackMemory, Refuses}, Readings.{BeginsWhole, HasRead, IsRest}}
 use Rattle.cap_judge.specs.{Readings.stage_of, Turns.{LogStage, unread}}
 use Rattle.cap_judge.proofs.TurnLaws.{begins, fault_reached, lacks_memory, never_faulty, reached}
@@ -24,11 +26,11 @@ refused_after old new front rest before (middle, goes, faults) read whole =
     let is = fault_reached (before ++ front) rest middle new on faults in
     let fault = refused_in new.due (faults_at log_turns middle rest new faults) in
     let behind = subst (IsBehind ((before ++ front) ++ rest) is.0.beginning) is.1 is.0.behind in
-    let found = subst (λ (d : Due). IsRest d is.0.beginning is.0.rest) fault.3 is.0.rest_is in
+    let found = subst (λ (d : Due Refusal). IsRest d is.0.beginning is.0.rest) fault.3 is.0.rest_is in
     (is.0.beginning, fault.1, behind, subst (λ (r : List ℕ). (more : List ℕ) → Refuses is.0.beginning (r ++ more) fault.1) is.1 found.2)
 
 -- nothing is taken where a line was faulty before
-faulty_at : (due : Due) → ((IsAtFault due → ⊥) → ⊥) → IsAtFault due
+faulty_at : (due : Due Refusal) → ((IsAtFault due → ⊥) → ⊥) → IsAtFault due
 faulty_at (Due.Refused line refusal text) some = tt
 faulty_at due some = absurd (some (λ fault. fault))
 
@@ -41,7 +43,7 @@ none_taken : (old new : LogStage) (given : List ℕ) (n : ℕ) (before : List �
     → StopsAt log_turns old (take n given) (drop n given) Fault new → Follows log_turns unread before old → (BeginsWhole before → ⊥) → n ≡ 0
 none_taken old new given n before few (middle, goes, faults) read some =
     let is = faulty_at old.due (λ clear. some (begins before old (reached before old read) clear)) in
-    no_bytes given n few (fault_stays log_turns old (take n given) middle is goes)
+    no_bytes given n few (fault_stays log_turns old (take n given) middle is goes).0
 
 -- the states of a call
 pub stop_of : (stop wanted : Stop) → state_at stop ≡ state_at wanted → stop ≡ wanted
