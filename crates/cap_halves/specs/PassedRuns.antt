@@ -37,7 +37,7 @@ place_passed place =
 
 -- the steps that C's numbers name, if they are in range
 abbrev pub derive_by : Option RunRegister → Option RunRegister → Cap → Option RunStep
-derive_by (Some target) (Some source) recorded = Some (steps.Derive target source recorded)
+derive_by (Some target) (Some source) recorded = Some (steps.Derive (record { target = target; source = source; result = recorded }))
 derive_by target source recorded = None
 
 abbrev pub derive_passed : PassedPlace → PassedPlace → Capability → Option RunStep
@@ -45,11 +45,22 @@ derive_passed target source recorded = derive_by (register_passed target) (regis
 
 abbrev pub exchange_passed : ℕ → ℕ → ℕ → Capability → Capability → RunStep
 exchange_passed target source special recorded special_recorded =
-    steps.Exchange target source special (cap_of recorded) (cap_of special_recorded)
+    steps.Exchange (record {
+      target = target;
+      source = source;
+      special = special;
+      result = cap_of recorded;
+      special_result = cap_of special_recorded;
+    })
 
 abbrev pub invoke_passed : ℕ → ℕ → Halves → Halves → RunStep
 invoke_passed code datum code_word datum_word =
-    steps.Invoke code datum (record { 0 = whole_of code_word }) (record { 0 = whole_of datum_word })
+    steps.Invoke (record {
+      code = code;
+      datum = datum;
+      code_word = record { 0 = whole_of code_word };
+      datum_word = record { 0 = whole_of datum_word };
+    })
 
 abbrev pub drop_by : Option RunPlace → Option RunStep
 drop_by (Some place) = Some (steps.Drop place)

@@ -6,7 +6,8 @@ ghost use Rattle.cap_run_log.specs.declared.lines.{RunPlace.{RunPlace as PlaceIn
 ghost use Rattle.cap_halves.specs.PassedRuns.{passed_nowhere, passed_place, passed_register, place_passed, register_passed};
 
 use crate::values::PassedPlace;
-use cap_run_log::{RunPlace, RunRegister};
+use cap_log::{Register, Target};
+use cap_run_log::{RunPlace, RunRegister, RunSource, RunTarget, Special};
 
 // The kinds of places, as C has them, and 0 for none.
 const GENERAL: u8 = 1;
@@ -15,17 +16,28 @@ const GRANULE: u8 = 2;
 
 const SPECIAL: u8 = 3;
 
-/// The register that C names, of which a general-purpose one has at least this number. `None` if it names none.
-pub fn register_from(least: u64, place: PassedPlace) -> Option<RunRegister>
+/// The register that C names and that a step reads. `None` if it names none.
+pub fn source_from(place: PassedPlace) -> Option<RunSource>
     ensures register { MatchOption result
-        ((register : RegisterIn) → register_passed place ≡ Some register → ¬ IsRunRegister least register)
-        (λ register. (register_passed place ≡ Some register) × IsRunRegister least register) }
+        ((register : RegisterIn) → register_passed place ≡ Some register → ¬ IsRunRegister 0 register)
+        (λ register. (register_passed place ≡ Some register) × IsRunRegister 0 register) }
 {
     match place.kind {
-        GENERAL if least <= place.number && place.number < 32 => {
-            Some(RunRegister::General(place.number as u8))
-        }
-        SPECIAL if place.number < 32 => Some(RunRegister::Special(place.number as u8)),
+        GENERAL => Some(RunSource::general(Register::new(place.number)?)),
+        SPECIAL => Some(RunSource::special(Special::new(place.number)?)),
+        _ => None,
+    }
+}
+
+/// The register that C names and that a step writes: not c0. `None` if it names none.
+pub fn target_from(place: PassedPlace) -> Option<RunTarget>
+    ensures register { MatchOption result
+        ((register : RegisterIn) → register_passed place ≡ Some register → ¬ IsRunRegister 1 register)
+        (λ register. (register_passed place ≡ Some register) × IsRunRegister 1 register) }
+{
+    match place.kind {
+        GENERAL => Some(RunTarget::general(Target::new(place.number)?)),
+        SPECIAL => Some(RunTarget::special(Special::new(place.number)?)),
         _ => None,
     }
 }

@@ -6,10 +6,10 @@ ghost use Rattle.cap_halves.specs.PassedRuns.{IsStepFrom, derive_passed, drop_pa
 ghost use Rattle.cap_halves.specs.PassedRuns.{object_passed};
 
 use crate::halves::{from_c, word_of};
-use crate::places::{place_from, register_from};
+use crate::places::{place_from, source_from, target_from};
 use crate::values::{Capability, Halves, PassedPlace};
 use cap_log::{Register, Target};
-use cap_run_log::RunStep;
+use cap_run_log::{Derive, Exchange, Invoke, RunStep, Special};
 
 /// The step `derive` of C's numbers: the target is a register 1 to 31 or a special register, the source a register 0 to 31
 /// or a special register.
@@ -21,9 +21,13 @@ pub fn derive_from(
     ensures step { IsStepFrom IsRunStepInRange (derive_passed target source recorded) result }
     ensures range { IfSome result IsRunStepInRange }
 {
-    let target = register_from(1, target)?;
-    let source = register_from(0, source)?;
-    Some(RunStep::Derive(target, source, from_c(recorded)))
+    let target = target_from(target)?;
+    let source = source_from(source)?;
+    Some(RunStep::Derive(Derive {
+        target,
+        source,
+        result: from_c(recorded),
+    }))
 }
 
 /// The step `exchange` of C's numbers: a target 1 to 31, a source 0 to 31 and a special register 0 to 31.
@@ -39,16 +43,14 @@ pub fn exchange_from(
 {
     let target = Target::new(target)?;
     let source = Register::new(source)?;
-    if special > 31 {
-        return None;
-    }
-    Some(RunStep::Exchange {
-        target: target.number(),
-        source: source.number(),
-        special: special as u8,
+    let special = Special::new(special)?;
+    Some(RunStep::Exchange(Exchange {
+        target,
+        source,
+        special,
         result: from_c(recorded),
         special_result: from_c(special_recorded),
-    })
+    }))
 }
 
 /// The step `invoke` of C's numbers: the registers of the code and of the datum, 0 to 31.
@@ -58,12 +60,12 @@ pub fn invoke_from(code: u64, datum: u64, code_word: Halves, datum_word: Halves)
 {
     let code = Register::new(code)?;
     let datum = Register::new(datum)?;
-    Some(RunStep::Invoke {
-        code: code.number(),
-        datum: datum.number(),
+    Some(RunStep::Invoke(Invoke {
+        code,
+        datum,
         code_word: word_of(code_word),
         datum_word: word_of(datum_word),
-    })
+    }))
 }
 
 /// The step `drop` of C's numbers: the place is a register 1 to 31, a special register, or a granule at an address that is a

@@ -8,12 +8,13 @@ use Rattle.cap_machine.proofs.StepLemmas.{parent_in}
 use Rattle.cap_objects.specs.{Counts.{is_owner, most_places, owned_by}, declared.objects.Object.Object, Extents.{Objects, is_present}}
 use Rattle.cap_objects.specs.{Handed.with_held, Indexes.kept, Objects.{Share, top_of_extent}}
 use Rattle.cap_objects.proofs.{BelowLemmas.below-where, KeyLemmas.is_owner-self}
-use Rattle.cap_run_log.specs.declared.lines.{RunLine.RunLine, RunPlace.RunPlace, RunRegister.RunRegister}
+use Rattle.cap_run_log.specs.declared.lines.{RunLine.RunLine, RunPlace.RunPlace}
 use Rattle.cap_run_log.specs.declared.lines.RunLine.TheVariants as lines
 use Rattle.cap_run_log.specs.declared.lines.RunPlace.TheVariants as places
-use Rattle.cap_run_log.specs.declared.lines.RunRegister.TheVariants.{General, Special}
+use Rattle.cap_run_log.specs.declared.lines.RunRegister.TheVariants.{Special}
 use Rattle.cap_run_log.specs.declared.lines.RunStep.TheVariants as steps
-use Rattle.cap_run_log.specs.RunLines.{IsRunLineInRange, IsRunPlace, IsRunRegister}
+use Rattle.cap_run_log.specs.RunLines.{IsRunLineInRange, IsRunPlace}
+use Rattle.cap_run.proofs.OwnerLemmas.{target-low}
 use Rattle.cap_run.specs.{Allowed.{AreAllowed, IsLineAllowed}, declared.asks.Asks.Asks, Descents.{line_parent, run_along}, Holders.{ReachesSome, handed_by}}
 use Rattle.cap_run.specs.{Owned.IsWithin, Run.{Run, first_special, register_key}, Safety.{IsKeptApart, IsSafe}}
 use Rattle.cap_run.specs.RunChanges.{line_after, main_of, no_run, place_key, usual_after}
@@ -41,10 +42,6 @@ record IsKept (keeps : Bool) (run : Run) : Type 0 where
 far_hit : (target key : ℕ) → target < most_places → most_places ≤ key → (target == key) ≡ false
 far_hit target key low far = ne_eqb target key (λ same. omega (arith, same, low, far))
 
-target_low : (register : RunRegister) → IsRunRegister 1 register → register_key register < most_places
-target_low (General number) range = omega (arith, range.1)
-target_low (Special number) range = omega (arith, range)
-
 place_low : (place : RunPlace) → IsRunPlace place → place_key place < most_places
 place_low (places.General number) range = omega (arith, range.1)
 place_low (places.Special number) range = omega (arith, range)
@@ -60,28 +57,20 @@ two_missed true other there here key missed too = absurd (false≢true (sym miss
 two_missed false other there here key missed too = one_missed other here key too
 
 far_parent : (run : Run) (line : RunLine) (key : ℕ) → IsRunLineInRange line → most_places ≤ key → line_parent run line key ≡ Some key
-far_parent run lines.Version key range far = refl
-far_parent run (lines.Mode mode) key range far = refl
-far_parent run (lines.Plain version) key range far = refl
-far_parent run (lines.Root place word) key range far = refl
-far_parent run (lines.End count) key range far = refl
 far_parent run (lines.Step step) key range far =
     ap (λ (hit : Bool). parent_in hit (main_of (usual_after run step).state key).tag (row_of (main_of run.state) step).parent key)
     (hits_no_special (main_of run.state) step key range (omega (arith, far)))
-far_parent run (lines.Run (steps.Derive target source result)) key range far =
-    one_missed _ _ key (far_hit (register_key target) key (target_low target range.0) far)
-far_parent run (lines.Run (steps.Exchange target source special result special_result)) key range far =
-    two_missed _ _ _ _ key (far_hit target key (omega (arith, range.0)) far)
-    (far_hit (register_key (Special special)) key (omega (arith, range.2)) far)
-far_parent run (lines.Run (steps.Invoke code datum code_word datum_word)) key range far =
+far_parent run (lines.Run (steps.Derive step)) key range far =
+    one_missed _ _ key (far_hit (register_key step.target) key (target-low step.target range.0) far)
+far_parent run (lines.Run (steps.Exchange step)) key range far =
+    two_missed _ _ _ _ key (far_hit step.target key (omega (arith, range.0)) far)
+    (far_hit (register_key (Special step.special)) key (omega (arith, range.2)) far)
+far_parent run (lines.Run (steps.Invoke step)) key range far =
     two_missed _ _ _ _ key (far_hit first_special key (omega arith) far) (far_hit 31 key (omega arith) far)
 far_parent run (lines.Run (steps.Drop place)) key range far = one_missed _ _ key (far_hit (place_key place) key (place_low place range) far)
 far_parent run (lines.Run (steps.Fill granule word)) key range far =
     one_missed _ _ key (far_hit (granule + 32) key (omega (arith, range.0)) far)
-far_parent run (lines.Run (steps.Object register)) key range far = refl
-far_parent run (lines.Run (steps.Widen register number)) key range far = refl
-far_parent run (lines.Run (steps.FreeOwner register)) key range far = refl
-far_parent run (lines.Run (steps.FreeNumber number)) key range far = refl
+far_parent run line key range far = refl
 
 -- the register of an `object` line is a place
 handed_low : (run : Run) (line : RunLine) (key number : ℕ) → IsRunLineInRange line → handed_by run line ≡ Some (key, number) → key < most_places
@@ -89,19 +78,7 @@ handed_low run (lines.Run (steps.Object register)) key number range names =
     subst (λ (p : ℕ × ℕ). p.0 < most_places) (same_Some (register, run.count + 1) (key, number) names) (omega (arith, range))
 handed_low run (lines.Run (steps.Widen register of)) key number range names =
     subst (λ (p : ℕ × ℕ). p.0 < most_places) (same_Some (register, of) (key, number) names) (omega (arith, range.0))
-handed_low run lines.Version key number range names = absurd (none-some _ names)
-handed_low run (lines.Mode mode) key number range names = absurd (none-some _ names)
-handed_low run (lines.Plain version) key number range names = absurd (none-some _ names)
-handed_low run (lines.Root place word) key number range names = absurd (none-some _ names)
-handed_low run (lines.Step step) key number range names = absurd (none-some _ names)
-handed_low run (lines.End count) key number range names = absurd (none-some _ names)
-handed_low run (lines.Run (steps.Derive target source result)) key number range names = absurd (none-some _ names)
-handed_low run (lines.Run (steps.Exchange target source special result special_result)) key number range names = absurd (none-some _ names)
-handed_low run (lines.Run (steps.Invoke code datum code_word datum_word)) key number range names = absurd (none-some _ names)
-handed_low run (lines.Run (steps.Drop place)) key number range names = absurd (none-some _ names)
-handed_low run (lines.Run (steps.Fill granule word)) key number range names = absurd (none-some _ names)
-handed_low run (lines.Run (steps.FreeOwner register)) key number range names = absurd (none-some _ names)
-handed_low run (lines.Run (steps.FreeNumber of)) key number range names = absurd (none-some _ names)
+handed_low run line key number range names = absurd (none-some _ names)
 
 held_present : (freed some : Bool) → some ≡ true → (not freed || some) ≡ true
 held_present true some is = is

@@ -85,38 +85,19 @@ widen_choice asks run number w (Some object) = object_choice asks run (Some numb
 
 held_by_choice : (asks : Asks) (run : Run) (line : RunLine)
     → EndsEarlier StillHeld IsAfterHeld (line_end (record asks { held = false }) run line) (line_end (record asks { held = true }) run line)
-held_by_choice asks run lines.Version = inl refl
-held_by_choice asks run (lines.Mode mode) = inl refl
-held_by_choice asks run (lines.Plain version) = inl refl
-held_by_choice asks run (lines.Root place word) = inl refl
-held_by_choice asks run (lines.Step step) = inl refl
-held_by_choice asks run (lines.Run (steps.Derive target source result)) = inl refl
-held_by_choice asks run (lines.Run (steps.Exchange target source special result special_result)) = inl refl
-held_by_choice asks run (lines.Run (steps.Invoke code datum code_word datum_word)) = inl refl
-held_by_choice asks run (lines.Run (steps.Drop place)) = inl refl
-held_by_choice asks run (lines.Run (steps.Fill granule word)) = inl refl
 held_by_choice asks run (lines.Run (steps.Object register)) =
     after_refusal StillHeld IsAfterHeld (object_refusal run register) _ _ (object_choice asks run None _ _)
 held_by_choice asks run (lines.Run (steps.Widen register number)) =
     after_refusal StillHeld IsAfterHeld (object_refusal run register) _ _
     (after_refusal StillHeld IsAfterHeld (number_end run number) _ _ (widen_choice asks run number _ (run.objects number)))
-held_by_choice asks run (lines.Run (steps.FreeOwner register)) = inl refl
-held_by_choice asks run (lines.Run (steps.FreeNumber number)) = inl refl
-held_by_choice asks run (lines.End count) = inl refl
+held_by_choice asks run line = inl refl
 
 -- the ends of steps that only runs have don't depend on what is asked of accesses
 run_choice : (refusal : RunRefusal) (IsAfter : Option RunRefusal → Type 0) (held used owned other_used other_owned : Bool) (run : Run) (step : RunStep)
     → EndsEarlier refusal IsAfter (line_end (record { held = held; used = used; owned = owned }) run (lines.Run step))
     (line_end (record { held = held; used = other_used; owned = other_owned }) run (lines.Run step))
-run_choice refusal IsAfter held used owned other_used other_owned run (steps.Derive target source result) = inl refl
-run_choice refusal IsAfter held used owned other_used other_owned run (steps.Exchange target source special result special_result) = inl refl
-run_choice refusal IsAfter held used owned other_used other_owned run (steps.Invoke code datum code_word datum_word) = inl refl
 run_choice refusal IsAfter held used owned other_used other_owned run (steps.Drop place) = inl refl
-run_choice refusal IsAfter held used owned other_used other_owned run (steps.Fill granule word) = inl refl
-run_choice refusal IsAfter held used owned other_used other_owned run (steps.Object register) = inl refl
-run_choice refusal IsAfter held used owned other_used other_owned run (steps.Widen register number) = inl refl
-run_choice refusal IsAfter held used owned other_used other_owned run (steps.FreeOwner register) = inl refl
-run_choice refusal IsAfter held used owned other_used other_owned run (steps.FreeNumber number) = inl refl
+run_choice refusal IsAfter held used owned other_used other_owned run step = inl refl
 
 -- the last checks of a step of version 2
 abbrev pub last_checks : Run → Step → List (Bool × RunRefusal)

@@ -144,19 +144,16 @@ usual_bare asks other run steps_are step less free =
 
 run_bare : (asks other : Asks) (run : Run) (steps_are : ℕ) (step : RunStep) → is_of_objects step ≡ false → steps_are ≤ run.steps
     → run_end asks run step ≡ None → run_end other (bare run steps_are) step ≡ None
-run_bare asks other run steps_are (steps.Derive target source result) plain less free = later_bare run steps_are less _ free
-run_bare asks other run steps_are (steps.Exchange target source special result special_result) plain less free =
+run_bare asks other run steps_are (steps.Derive step) plain less free = later_bare run steps_are less _ free
+run_bare asks other run steps_are (steps.Exchange step) plain less free =
     twice_bare run steps_are less _ _ free
-run_bare asks other run steps_are (steps.Invoke code datum code_word datum_word) plain less free = later_bare run steps_are less _ free
+run_bare asks other run steps_are (steps.Invoke step) plain less free = later_bare run steps_are less _ free
 run_bare asks other run steps_are (steps.Drop place) plain less free = limit_bare run steps_are less free
 run_bare asks other run steps_are (steps.Fill granule word) plain less free =
     let none : List (Bool × RunRefusal) = [] in
     first_free (passes_limit (bare run steps_are) (Some granule)) (Usual LimitPassed) none
     (passes_bare run steps_are less (Some granule) (none_hold ((passes_limit run (Some granule), Usual LimitPassed) ∷ none) free).0) refl
-run_bare asks other run steps_are (steps.Object register) plain less free = absurd (false≢true (sym plain))
-run_bare asks other run steps_are (steps.Widen register number) plain less free = absurd (false≢true (sym plain))
-run_bare asks other run steps_are (steps.FreeOwner register) plain less free = absurd (false≢true (sym plain))
-run_bare asks other run steps_are (steps.FreeNumber number) plain less free = absurd (false≢true (sym plain))
+run_bare asks other run steps_are step plain less free = absurd (false≢true (sym plain))
 
 -- two runs of the same parts
 abbrev run_with : State → Owners → Objects → ℕ → Rules → Limits → ℕ → ℕ → (ℕ → Bool) → ℕ → Run
@@ -187,22 +184,19 @@ as_bare run other steps_are state owners objects count rules limits roots steps_
 -- what a step that isn't of objects makes of a run without them
 after_run : (run : Run) (steps_are : ℕ) (step : RunStep) → is_of_objects step ≡ false
     → run_after (bare run steps_are) step ≡ bare (run_after run step) (steps_are + 1)
-after_run run steps_are (steps.Derive target source result) plain =
-    as_bare (run_after run (steps.Derive target source result)) _ (steps_are + 1) refl (put_none _ _ _ (λ key. refl) (no_owner _ None refl)) (λ number. refl) refl refl refl refl refl refl refl
-after_run run steps_are (steps.Exchange target source special result special_result) plain =
-    as_bare (run_after run (steps.Exchange target source special result special_result)) _ (steps_are + 1) refl (put_none _ _ _ (put_none _ _ _ (λ key. refl) (no_owner _ None refl)) (no_owner _ None refl)) (λ number. refl) refl refl refl refl
+after_run run steps_are (steps.Derive step) plain =
+    as_bare (run_after run (steps.Derive step)) _ (steps_are + 1) refl (put_none _ _ _ (λ key. refl) (no_owner _ None refl)) (λ number. refl) refl refl refl refl refl refl refl
+after_run run steps_are (steps.Exchange step) plain =
+    as_bare (run_after run (steps.Exchange step)) _ (steps_are + 1) refl (put_none _ _ _ (put_none _ _ _ (λ key. refl) (no_owner _ None refl)) (no_owner _ None refl)) (λ number. refl) refl refl refl refl
     refl refl refl
-after_run run steps_are (steps.Invoke code datum code_word datum_word) plain =
-    as_bare (run_after run (steps.Invoke code datum code_word datum_word)) _ (steps_are + 1) refl (put_none _ _ _ (put_none _ _ _ (λ key. refl) (no_owner _ None refl)) (no_owner _ None refl)) (λ number. refl) refl refl refl refl
+after_run run steps_are (steps.Invoke step) plain =
+    as_bare (run_after run (steps.Invoke step)) _ (steps_are + 1) refl (put_none _ _ _ (put_none _ _ _ (λ key. refl) (no_owner _ None refl)) (no_owner _ None refl)) (λ number. refl) refl refl refl refl
     refl refl refl
 after_run run steps_are (steps.Drop place) plain =
     as_bare (run_after run (steps.Drop place)) _ (steps_are + 1) refl (put_none _ _ _ (λ key. refl) (no_owner _ None refl)) (λ number. refl) refl refl refl refl refl refl refl
 after_run run steps_are (steps.Fill granule word) plain =
     as_bare (run_after run (steps.Fill granule word)) _ (steps_are + 1) refl (put_none _ _ _ (λ key. refl) (no_owner _ None refl)) (λ number. refl) refl refl refl refl refl refl refl
-after_run run steps_are (steps.Object register) plain = absurd (false≢true (sym plain))
-after_run run steps_are (steps.Widen register number) plain = absurd (false≢true (sym plain))
-after_run run steps_are (steps.FreeOwner register) plain = absurd (false≢true (sym plain))
-after_run run steps_are (steps.FreeNumber number) plain = absurd (false≢true (sym plain))
+after_run run steps_are step plain = absurd (false≢true (sym plain))
 
 -- naming a granule sees of an account which ones were named
 naming_named : (one two : Account) (granule : Option ℕ) → one.is_named ≡ two.is_named → (naming one granule).is_named ≡ (naming two granule).is_named
@@ -251,22 +245,11 @@ object_step asks run steps_are (steps.FreeOwner register) of free =
     let owner = named_owner (run.state register).tag (run.owners register) (number_end run) (step_limit run) free in
     (freed_bare run (run.owners register) steps_are, ap (λ (o : Option ℕ). (with_freed run o).steps) owner.1)
 object_step asks run steps_are (steps.FreeNumber number) of free = (refl, refl)
-object_step asks run steps_are (steps.Derive target source result) of free = absurd (false≢true of)
-object_step asks run steps_are (steps.Exchange target source special result special_result) of free = absurd (false≢true of)
-object_step asks run steps_are (steps.Invoke code datum code_word datum_word) of free = absurd (false≢true of)
-object_step asks run steps_are (steps.Drop place) of free = absurd (false≢true of)
-object_step asks run steps_are (steps.Fill granule word) of free = absurd (false≢true of)
+object_step asks run steps_are step of free = absurd (false≢true of)
 
 plain_steps : (run : Run) (step : RunStep) → is_of_objects step ≡ false → (run_after run step).steps ≡ run.steps + 1
-plain_steps run (steps.Derive target source result) plain = refl
-plain_steps run (steps.Exchange target source special result special_result) plain = refl
-plain_steps run (steps.Invoke code datum code_word datum_word) plain = refl
-plain_steps run (steps.Drop place) plain = refl
-plain_steps run (steps.Fill granule word) plain = refl
-plain_steps run (steps.Object register) plain = refl
-plain_steps run (steps.Widen register number) plain = refl
 plain_steps run (steps.FreeOwner register) plain = absurd (false≢true (sym plain))
-plain_steps run (steps.FreeNumber number) plain = refl
+plain_steps run step plain = refl
 
 -- lines are allowed without objects, and lead to a run but for its objects and so many steps
 record LeadsBare (other : Asks) (run : Run) (steps_are : ℕ) (kept : List RunLine) (last : Run) (gone : ℕ) : Type 0 where

@@ -343,16 +343,9 @@ module _ (asks : Asks) (run : Run) (known : AreCounted run) (apart_are : AreApar
   line_made (lines.Mode mode) allowed = plain (lines.Mode mode) refl (counted_itself run known)
   line_made (lines.Plain version) allowed = plain (lines.Plain version) refl (counted_itself run known)
   line_made (lines.Root place word) allowed = plain (lines.Root place word) refl (counted_itself run known)
-  line_made (lines.Step step) allowed = plain (lines.Step step) refl (λ number. refl)
   line_made (lines.End count) allowed = plain (lines.End count) refl (counted_itself run known)
-  line_made (lines.Run (steps.Derive target source result)) allowed = plain (lines.Run (steps.Derive target source result)) refl (λ number. refl)
-  line_made (lines.Run (steps.Exchange target source special result special_result)) allowed =
-      plain (lines.Run (steps.Exchange target source special result special_result)) refl (λ number. refl)
-  line_made (lines.Run (steps.Invoke code datum code_word datum_word)) allowed =
-      plain (lines.Run (steps.Invoke code datum code_word datum_word)) refl (λ number. refl)
-  line_made (lines.Run (steps.Drop place)) allowed = plain (lines.Run (steps.Drop place)) refl (λ number. refl)
-  line_made (lines.Run (steps.Fill granule word)) allowed = plain (lines.Run (steps.Fill granule word)) refl (λ number. refl)
   line_made (lines.Run (steps.Object register)) allowed = object_made register allowed
   line_made (lines.Run (steps.Widen register number)) allowed = widen_made register number allowed
   line_made (lines.Run (steps.FreeOwner register)) allowed = freed_line (lines.Run (steps.FreeOwner register)) (run.owners register) refl refl
   line_made (lines.Run (steps.FreeNumber number)) allowed = freed_line (lines.Run (steps.FreeNumber number)) (Some number) refl refl
+  line_made line allowed = plain line refl (λ number. refl)

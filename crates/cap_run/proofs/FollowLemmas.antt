@@ -10,7 +10,7 @@ use Rattle.cap_machine.specs.States.{State, granule_key, key_of, put, tagged, un
 use Rattle.cap_machine.specs.Steps.{Access, Row, granule_through, row_of, state_with}
 use Rattle.cap_machine.proofs.StepLemmas.{hits, hits-row_by, parent_in, row_by-access}
 use Rattle.cap_objects.specs.Counts.{Owners}
-use Rattle.cap_run_log.specs.declared.lines.{RunLine.RunLine, RunPlace.RunPlace, RunRegister.RunRegister, RunStep.RunStep}
+use Rattle.cap_run_log.specs.declared.lines.{Derive.Derive, RunLine.RunLine, RunPlace.RunPlace, RunStep.RunStep}
 use Rattle.cap_run_log.specs.declared.lines.RunLine.TheVariants as lines
 use Rattle.cap_run_log.specs.declared.lines.RunRegister.TheVariants.{Special}
 use Rattle.cap_run_log.specs.declared.lines.RunStep.TheVariants as steps
@@ -89,12 +89,13 @@ owner_written : (state : State) (at : ℕ) (cap : Cap) (owner : Option ℕ) → 
 owner_written state at cap owner = ap (λ (c : Cap). owner_for c owner) (sym (cond-true (at == at) cap (state at) (eq-eqb at at refl)))
 
 module _ (run : Run) (reach : AllReach run) where
-  derive_follows : (key : ℕ) (target source : RunRegister) (result : Cap)
-      → (let after = run_after run (steps.Derive target source result) in
-      Follows run (after.state key) (line_parent run (lines.Run (steps.Derive target source result)) key) (after.owners key))
-  derive_follows key target source result =
-      let to = register_key target in
-      let from = register_key source in
+  derive_follows : (key : ℕ) (step : Derive)
+      → (let after = run_after run (steps.Derive step) in
+      Follows run (after.state key) (line_parent run (lines.Run (steps.Derive step)) key) (after.owners key))
+  derive_follows key step =
+      let to = register_key step.target in
+      let from = register_key step.source in
+      let result = step.result in
       subst (λ (o : Option ℕ). Follows run (if to == key then result else run.state key) (if to == key then source_if result.tag from else Some key)
       (if to == key then o else run.owners key)) (owner_written run.state to result (run.owners from))
       (follows_if run (to == key) result (run.state key) (source_if result.tag from) (Some key) (owner_for result (run.owners from)) (run.owners key)
@@ -132,15 +133,15 @@ module _ (run : Run) (reach : AllReach run) where
 
   run_follows : (key : ℕ) (step : RunStep) → IsRunStepInRange step → handed_by run (lines.Run step) ≡ None
       → Follows run ((run_after run step).state key) (line_parent run (lines.Run step) key) ((run_after run step).owners key)
-  run_follows key (steps.Derive target source result) range none = derive_follows key target source result
-  run_follows key (steps.Exchange target source special result special_result) range none =
-      let at = register_key (Special special) in
-      both_follow key target at at source result special_result (λ here there.
-      let here_is = eqb-true target key here in
+  run_follows key (steps.Derive step) range none = derive_follows key step
+  run_follows key (steps.Exchange step) range none =
+      let at = register_key (Special step.special) in
+      both_follow key step.target at at step.source step.result step.special_result (λ here there.
+      let here_is = eqb-true step.target key here in
       let there_is = eqb-true at key there in
       omega (arith, here_is, there_is, range.0))
-  run_follows key (steps.Invoke code datum code_word datum_word) range none =
-      both_follow key first_special 31 code datum (tagged code_word) (tagged datum_word) (λ here there.
+  run_follows key (steps.Invoke step) range none =
+      both_follow key first_special 31 step.code step.datum (tagged step.code_word) (tagged step.datum_word) (λ here there.
       let here_is = eqb-true first_special key here in
       let there_is = eqb-true 31 key there in
       omega (arith, here_is, there_is))

@@ -41,19 +41,7 @@ hands asks run (lines.Run (steps.Object at)) register number allowed names =
 hands asks run (lines.Run (steps.Widen at of)) register number allowed names =
     subst (λ (p : ℕ × ℕ). Hands run (lines.Run (steps.Widen at of)) p.0 p.1) (same_Some _ _ names)
     (record { unowned = unowned_by run at _ allowed; owners_are = λ key. refl; state_is = refl; parent_is = λ key. refl; steps_is = refl })
-hands asks run lines.Version register number allowed names = absurd (none-some _ names)
-hands asks run (lines.Mode mode) register number allowed names = absurd (none-some _ names)
-hands asks run (lines.Plain version) register number allowed names = absurd (none-some _ names)
-hands asks run (lines.Root place word) register number allowed names = absurd (none-some _ names)
-hands asks run (lines.Step step) register number allowed names = absurd (none-some _ names)
-hands asks run (lines.End count) register number allowed names = absurd (none-some _ names)
-hands asks run (lines.Run (steps.Derive target source result)) register number allowed names = absurd (none-some _ names)
-hands asks run (lines.Run (steps.Exchange target source special result special_result)) register number allowed names = absurd (none-some _ names)
-hands asks run (lines.Run (steps.Invoke code datum code_word datum_word)) register number allowed names = absurd (none-some _ names)
-hands asks run (lines.Run (steps.Drop place)) register number allowed names = absurd (none-some _ names)
-hands asks run (lines.Run (steps.Fill granule word)) register number allowed names = absurd (none-some _ names)
-hands asks run (lines.Run (steps.FreeOwner at)) register number allowed names = absurd (none-some _ names)
-hands asks run (lines.Run (steps.FreeNumber of)) register number allowed names = absurd (none-some _ names)
+hands asks run line register number allowed names = absurd (none-some _ names)
 
 -- where the owner of a place comes from: the line, or its parent
 abbrev pub OwnerFrom : Run → RunLine → ℕ → ℕ → Type 0

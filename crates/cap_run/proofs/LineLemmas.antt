@@ -227,36 +227,40 @@ freed-state run (Some number) = refl
 
 run_comes : (asks : Asks) (run : Run) (step : RunStep) (key : ℕ) → IsRunStepInRange step → IsSoundState run.state → run_end asks run step ≡ None
     → Comes run.state ((run_after run step).state key) (line_parent run (lines.Run step) key)
-run_comes asks run (steps.Derive target source result) key range sound free =
-    let from = register_key source in
-    let may = later_none (derived_refusal target (run.state from) result) _ free in
-    comes_if run.state (register_key target == key) result (run.state key) (source_if result.tag from) (Some key)
-    (comes_within run.state result.tag result.word from sound (register_derived target (run.state from) result.tag result.word may.0))
+run_comes asks run (steps.Derive step) key range sound free =
+    let from = register_key step.source in
+    let result = step.result in
+    let may = later_none (derived_refusal step.target (run.state from) result) _ free in
+    comes_if run.state (register_key step.target == key) result (run.state key) (source_if result.tag from) (Some key)
+    (comes_within run.state result.tag result.word from sound (register_derived step.target (run.state from) result.tag result.word may.0))
     (comes_here run.state key sound)
-run_comes asks run (steps.Exchange target source special result special_result) key range sound free =
-    let at = register_key (Special special) in
-    let may = later_none (derived_refusal (General target) (run.state at) result) _ free in
-    let may_special = later_none (derived_refusal (Special special) (run.state source) special_result) _ may.1 in
-    comes_two run.state (target == key) (at == key) result special_result (run.state key) (source_if result.tag at)
-    (source_if special_result.tag source) (Some key)
+run_comes asks run (steps.Exchange step) key range sound free =
+    let at = register_key (Special step.special) in
+    let result = step.result in
+    let special_result = step.special_result in
+    let may = later_none (derived_refusal (General step.target) (run.state at) result) _ free in
+    let may_special = later_none (derived_refusal (Special step.special) (run.state step.source) special_result) _ may.1 in
+    comes_two run.state (step.target == key) (at == key) result special_result (run.state key) (source_if result.tag at)
+    (source_if special_result.tag step.source) (Some key)
     (λ here there.
-    let here_is = eqb-true target key here in
+    let here_is = eqb-true step.target key here in
     let there_is = eqb-true at key there in
     omega (arith, here_is, there_is, range.0))
-    (comes_within run.state result.tag result.word at sound (register_derived (General target) (run.state at) result.tag result.word may.0))
-    (comes_within run.state special_result.tag special_result.word source sound
-    (register_derived (Special special) (run.state source) special_result.tag special_result.word may_special.0))
+    (comes_within run.state result.tag result.word at sound (register_derived (General step.target) (run.state at) result.tag result.word may.0))
+    (comes_within run.state special_result.tag special_result.word step.source sound
+    (register_derived (Special step.special) (run.state step.source) special_result.tag special_result.word may_special.0))
     (comes_here run.state key sound)
-run_comes asks run (steps.Invoke code datum code_word datum_word) key range sound free =
-    let may = later_none (invoked_refusal (run.state code) (run.state datum) code_word datum_word) _ free in
-    let within = invoked (run.state code) (run.state datum) code_word datum_word may.0 in
-    comes_two run.state (first_special == key) (31 == key) (tagged code_word) (tagged datum_word) (run.state key) (Some code) (Some datum) (Some key)
+run_comes asks run (steps.Invoke step) key range sound free =
+    let may = later_none (invoked_refusal (run.state step.code) (run.state step.datum) step.code_word step.datum_word) _ free in
+    let within = invoked (run.state step.code) (run.state step.datum) step.code_word step.datum_word may.0 in
+    comes_two run.state (first_special == key) (31 == key) (tagged step.code_word) (tagged step.datum_word) (run.state key) (Some step.code)
+    (Some step.datum) (Some key)
     (λ here there.
     let here_is = eqb-true first_special key here in
     let there_is = eqb-true 31 key there in
     omega (arith, here_is, there_is))
-    (comes_within run.state true code_word code sound (λ _. within.0))
-    (comes_within run.state true datum_word datum sound (λ _. within.1))
+    (comes_within run.state true step.code_word step.code sound (λ _. within.0))
+    (comes_within run.state true step.datum_word step.datum sound (λ _. within.1))
     (comes_here run.state key sound)
 run_comes asks run (steps.Drop place) key range sound free =
     let to = place_key place in

@@ -12,7 +12,8 @@ use Rattle.cap_ops.specs.declared.derived_words.InvokeFault.TheVariants as invok
 use Rattle.cap_log.specs.declared.kinds.Step.{Step}
 use Rattle.cap_machine.specs.Accounts.{most_steps, named_by, passes_granule_limit, row_in}
 use Rattle.cap_machine.specs.Steps.{agrees}
-use Rattle.cap_run_log.specs.declared.lines.{RunPlace.RunPlace, RunRegister.RunRegister, RunRegister.TheVariants.{General, Special}}
+use Rattle.cap_run_log.specs.declared.lines.{Derive.Derive, Exchange.Exchange, Invoke.Invoke, RunPlace.RunPlace}
+use Rattle.cap_run_log.specs.declared.lines.RunRegister.{RunRegister, TheVariants.{General, Special}}
 use Rattle.cap_run.specs.declared.{asks.Asks.Asks, ends.RunRefusal.RunRefusal}
 use Rattle.cap_run.specs.declared.ends.RunRefusal.TheVariants as refusals
 use Rattle.cap_run.specs.{ObjectSteps.{is_capability, object_refusal}, Run.Run, RunChanges.{account_in, granule_in, place_key}}
@@ -61,17 +62,17 @@ invoke_not (Some invoke.AuthorityUntagged) = tt
 invoke_not (Some invoke.NotInvokable) = tt
 invoke_not (Some invoke.WrongResult) = tt
 
-pub derive_end_not : (run : Run) (target source : RunRegister) (result : Cap) → NotHeld (derive_end run target source result)
-derive_end_not run target source result = later _ _ (derived_not target _ result) (limit_not run)
+pub derive_end_not : (run : Run) (step : Derive) → NotHeld (derive_end run step)
+derive_end_not run step = later _ _ (derived_not step.target _ step.result) (limit_not run)
 
-pub exchange_end_not : (run : Run) (target source special : ℕ) (result special_result : Cap)
-    → NotHeld (exchange_end run target source special result special_result)
-exchange_end_not run target source special result special_result =
-    later _ _ (derived_not (General target) _ result) (later _ _ (derived_not (Special special) _ special_result) (limit_not run))
+pub exchange_end_not : (run : Run) (step : Exchange) → NotHeld (exchange_end run step)
+exchange_end_not run step =
+    later _ _ (derived_not (General step.target) _ step.result)
+    (later _ _ (derived_not (Special step.special) _ step.special_result) (limit_not run))
 
-pub invoke_end_not : (run : Run) (code datum : ℕ) (code_word datum_word : Word) → NotHeld (invoke_end run code datum code_word datum_word)
-invoke_end_not run code datum code_word datum_word =
-    later _ _ (invoke_not (first_of (invoke_checks (run.state code) (run.state datum) code_word.0 datum_word.0))) (limit_not run)
+pub invoke_end_not : (run : Run) (step : Invoke) → NotHeld (invoke_end run step)
+invoke_end_not run step =
+    later _ _ (invoke_not (first_of (invoke_checks (run.state step.code) (run.state step.datum) step.code_word.0 step.datum_word.0))) (limit_not run)
 
 pub fill_not : (passed : Bool) → NotHeld (first_of ((passed, refusals.Usual LimitPassed) ∷ []))
 fill_not true = tt

@@ -50,24 +50,14 @@ freed_kind run register (Some number) is = inr (record { steps_are = ap (λ (o :
 
 step_kind : (run : Run) (step : RunStep) → IsQuiet run (lines.Run step) ⊎ IsCounted run (lines.Run step)
 step_kind run (steps.FreeOwner register) = freed_kind run register (run.owners register) refl
-step_kind run (steps.Derive target source result) = inr (record { steps_are = refl })
-step_kind run (steps.Exchange target source special result special_result) = inr (record { steps_are = refl })
-step_kind run (steps.Invoke code datum code_word datum_word) = inr (record { steps_are = refl })
-step_kind run (steps.Drop place) = inr (record { steps_are = refl })
-step_kind run (steps.Fill granule word) = inr (record { steps_are = refl })
-step_kind run (steps.Object register) = inr (record { steps_are = refl })
-step_kind run (steps.Widen register number) = inr (record { steps_are = refl })
-step_kind run (steps.FreeNumber number) = inr (record { steps_are = refl })
+step_kind run step = inr (record { steps_are = refl })
 
 kind_of : (run : Run) (line : RunLine) → IsQuiet run line ⊎ IsCounted run line
-kind_of run lines.Version = inl (record { own = λ key. refl; keeps = λ key held. held; steps_are = refl })
-kind_of run (lines.Mode mode) = inl (record { own = λ key. refl; keeps = λ key held. held; steps_are = refl })
-kind_of run (lines.Plain version) = inl (record { own = λ key. refl; keeps = λ key held. held; steps_are = refl })
 kind_of run (lines.Root place word) =
     inl (record { own = λ key. refl; keeps = λ key held. kept_if (place_key place == key) word (run.state key) held; steps_are = refl })
 kind_of run (lines.Step step) = inr (record { steps_are = refl })
 kind_of run (lines.Run step) = step_kind run step
-kind_of run (lines.End count) = inl (record { own = λ key. refl; keeps = λ key held. held; steps_are = refl })
+kind_of run line = inl (record { own = λ key. refl; keeps = λ key held. held; steps_are = refl })
 
 pub steps_grow : (run : Run) (read : List RunLine) → run.steps ≤ (along run read).steps
 steps_grow run [] = omega arith

@@ -11,19 +11,20 @@ use Rattle.cap_objects.specs.Counts.{CountsAre, Moves, Owners, at_key, count_bel
 use Rattle.cap_objects.specs.{declared.objects.Object.Object, Extents.{Objects, is_present}, Handed.{IsRecounted, held_of, with_held}, Indexes.kept}
 use Rattle.cap_objects.proofs.{BelowLemmas.{CountsAre-move, below-put, below-same}, KeyLemmas.choice_under}
 use Rattle.cap_run_log.specs.declared.lines.RunRegister.{RunRegister, TheVariants.{General, Special}}
+use Rattle.cap_run_log.specs.RunLines.{IsRunRegister}
 use Rattle.std.specs.FinMap as map
 use Rattle.std.proofs.Common.{is_some}
 use Rattle.tagmem.specs.Granules.{Granules}
 use Rattle.cap_machine.specs.Helds.{Held}
 use Rattle.cap_objects.specs.declared.handouts.Handouts.{Handouts}
 use Rattle.cap_run.specs.{declared.specials.Specials.Specials, RunOf.run_of, RunSteps.{IsStepped, IsUnstepped}}
-use Rattle.cap_run.specs.{Owned.{AreWithin, IsWithin, is_empty, owner_for}, Run.{IsSource, IsTargetOf, register_key}}
+use Rattle.cap_run.specs.{Owned.{AreWithin, IsWithin, is_empty, owner_for}, Run.register_key}
 
-pub source-low : (register : RunRegister) → IsSource register → register_key register < most_places
+pub source-low : (register : RunRegister) → IsRunRegister 0 register → register_key register < most_places
 source-low (General number) range = omega (arith, range)
 source-low (Special number) range = omega (arith, range)
 
-pub target-low : (register : RunRegister) → IsTargetOf register → register_key register < most_places
+pub target-low : (register : RunRegister) → IsRunRegister 1 register → register_key register < most_places
 target-low (General number) range = omega (arith, range.1)
 target-low (Special number) range = omega (arith, range)
 

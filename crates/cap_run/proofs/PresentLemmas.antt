@@ -67,15 +67,11 @@ freed_counted run (Some number) known =
     stepped_counted (with_object run number (option_map (freed_in (run.steps + 1)) (run.objects number))) (changed_few run number _ (few_of run known))
 
 run_counted : (run : Run) (step : RunStep) → AreCounted run → AreCounted (run_after run step)
-run_counted run (steps.Derive target source result) known = stepped_counted _ (few_of run known)
-run_counted run (steps.Exchange target source special result special_result) known = stepped_counted _ (few_of run known)
-run_counted run (steps.Invoke code datum code_word datum_word) known = stepped_counted _ (few_of run known)
-run_counted run (steps.Drop place) known = stepped_counted _ (few_of run known)
-run_counted run (steps.Fill granule word) known = stepped_counted _ (few_of run known)
 run_counted run (steps.Object register) known = stepped_counted _ (λ other object is. added_few run _ other object (few_of run known) is)
 run_counted run (steps.Widen register number) known = stepped_counted _ (changed_few run number _ (few_of run known))
 run_counted run (steps.FreeOwner register) known = freed_counted run (run.owners register) known
 run_counted run (steps.FreeNumber number) known = freed_counted run (Some number) known
+run_counted run step known = stepped_counted _ (few_of run known)
 
 pub line_counted : (run : Run) (line : RunLine) → AreCounted run → AreCounted (line_after run line)
 line_counted run lines.Version known = known

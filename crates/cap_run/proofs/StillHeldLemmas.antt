@@ -202,13 +202,9 @@ module _ (asks : Asks) (run : Run) (known : AreCounted run) where
   line_held (lines.Root place word) = other_held (lines.Root place word) refl (root_not run place word)
   line_held (lines.Step step) = other_held (lines.Step step) refl (usual_not asks run step)
   line_held (lines.End count) = other_held (lines.End count) refl (end_not (count == run.steps))
-  line_held (lines.Run (steps.Derive target source result)) =
-      other_held (lines.Run (steps.Derive target source result)) refl (derive_end_not run target source result)
-  line_held (lines.Run (steps.Exchange target source special result special_result)) =
-      other_held (lines.Run (steps.Exchange target source special result special_result)) refl
-      (exchange_end_not run target source special result special_result)
-  line_held (lines.Run (steps.Invoke code datum code_word datum_word)) =
-      other_held (lines.Run (steps.Invoke code datum code_word datum_word)) refl (invoke_end_not run code datum code_word datum_word)
+  line_held (lines.Run (steps.Derive step)) = other_held (lines.Run (steps.Derive step)) refl (derive_end_not run step)
+  line_held (lines.Run (steps.Exchange step)) = other_held (lines.Run (steps.Exchange step)) refl (exchange_end_not run step)
+  line_held (lines.Run (steps.Invoke step)) = other_held (lines.Run (steps.Invoke step)) refl (invoke_end_not run step)
   line_held (lines.Run (steps.Drop place)) = other_held (lines.Run (steps.Drop place)) refl (limit_not run)
   line_held (lines.Run (steps.Fill granule word)) = other_held (lines.Run (steps.Fill granule word)) refl (fill_not _)
   line_held (lines.Run (steps.Object register)) = object_held register

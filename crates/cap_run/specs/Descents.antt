@@ -19,11 +19,11 @@ source_if tag source = if tag then Some source else None
 
 -- the places that a step writes, which only runs have
 abbrev pub writes_of : RunStep → List Written
-writes_of (steps.Derive target source result) = (register_key target, source_if result.tag (register_key source)) ∷ []
-writes_of (steps.Exchange target source special result special_result) =
-    let key = register_key (Special special) in
-    (target, source_if result.tag key) ∷ (key, source_if special_result.tag source) ∷ []
-writes_of (steps.Invoke code datum code_word datum_word) = (first_special, Some code) ∷ (31, Some datum) ∷ []
+writes_of (steps.Derive step) = (register_key step.target, source_if step.result.tag (register_key step.source)) ∷ []
+writes_of (steps.Exchange step) =
+    let key = register_key (Special step.special) in
+    (step.target, source_if step.result.tag key) ∷ (key, source_if step.special_result.tag step.source) ∷ []
+writes_of (steps.Invoke step) = (first_special, Some step.code) ∷ (31, Some step.datum) ∷ []
 writes_of (steps.Drop place) = (place_key place, None) ∷ []
 writes_of (steps.Fill granule word) = (granule_key granule, None) ∷ []
 writes_of step = []

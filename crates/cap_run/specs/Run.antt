@@ -1,6 +1,5 @@
 -- A run at a moment: what its places hold, and which objects own them (this profile's own).
-use Rattle.std.specs.Prelude.{ℕ, ◌+◌, ◌-◌, ◌^◌, ◌≤◌, Bool, nat_lt, if◌then◌else◌}
-use Rattle.cap_log.specs.{Lines.IsTarget}
+use Rattle.std.specs.Prelude.{ℕ, ◌+◌, ◌-◌, ◌^◌, Bool, nat_lt, if◌then◌else◌}
 use Rattle.cap_machine.specs.{declared.{limits.Limits.Limits, rules.Rules.Rules}, States.{State}}
 use Rattle.cap_objects.specs.{Counts.Owners, Extents.Objects}
 use Rattle.cap_run_log.specs.declared.lines.RunRegister.{RunRegister, TheVariants.{General, Special}}
@@ -12,15 +11,6 @@ first_special = 2 ^ 60 + 32
 abbrev pub register_key : RunRegister → ℕ
 register_key (General number) = number
 register_key (Special number) = first_special + number
-
--- a register that can be read, and one that can be written
-abbrev pub IsSource : RunRegister → Type 0
-IsSource (General number) = number ≤ 31
-IsSource (Special number) = number ≤ 31
-
-abbrev pub IsTargetOf : RunRegister → Type 0
-IsTargetOf (General number) = IsTarget number
-IsTargetOf (Special number) = number ≤ 31
 
 -- what is told of each place, where it is told of special registers by their numbers and of the others by their keys
 abbrev pub with_specials : {A : Type 0} → (ℕ → A) → (ℕ → A) → ℕ → A

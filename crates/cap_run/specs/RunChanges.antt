@@ -78,13 +78,13 @@ with_freed run (Some number) = stepped (with_object run number (option_map (free
 
 -- a run after a step that only runs have: what is written has the owner of the place that it is derived from
 abbrev pub run_after : Run → RunStep → Run
-run_after run (steps.Derive target source result) =
-    stepped (with_place run (register_key target) result (run.owners (register_key source)))
-run_after run (steps.Exchange target source special result special_result) =
-    let key = register_key (Special special) in
-    stepped (with_place (with_place run target result (run.owners key)) key special_result (run.owners source))
-run_after run (steps.Invoke code datum code_word datum_word) =
-    stepped (with_place (with_place run first_special (tagged code_word) (run.owners code)) 31 (tagged datum_word) (run.owners datum))
+run_after run (steps.Derive step) =
+    stepped (with_place run (register_key step.target) step.result (run.owners (register_key step.source)))
+run_after run (steps.Exchange step) =
+    let key = register_key (Special step.special) in
+    stepped (with_place (with_place run step.target step.result (run.owners key)) key step.special_result (run.owners step.source))
+run_after run (steps.Invoke step) =
+    stepped (with_place (with_place run first_special (tagged step.code_word) (run.owners step.code)) 31 (tagged step.datum_word) (run.owners step.datum))
 run_after run (steps.Drop place) = stepped (with_place run (place_key place) (untagged (run.state (place_key place))) None)
 run_after run (steps.Fill granule word) =
     stepped (with_place (with_named run (Some granule)) (granule_key granule) (record { tag = false; word = word }) None)

@@ -84,9 +84,9 @@ passes_limit run granule = nat_le most_steps run.steps || passes_granule_limit (
 
 -- why a step that only runs have is refused
 abbrev pub run_end : Asks → Run → RunStep → Option RunRefusal
-run_end asks run (steps.Derive target source result) = derive_end run target source result
-run_end asks run (steps.Exchange target source special result special_result) = exchange_end run target source special result special_result
-run_end asks run (steps.Invoke code datum code_word datum_word) = invoke_end run code datum code_word datum_word
+run_end asks run (steps.Derive step) = derive_end run step
+run_end asks run (steps.Exchange step) = exchange_end run step
+run_end asks run (steps.Invoke step) = invoke_end run step
 run_end asks run (steps.Drop place) = step_limit run
 run_end asks run (steps.Fill granule word) = first_of ((passes_limit run (Some granule), Usual LimitPassed) ∷ [])
 run_end asks run (steps.Object register) = object_end asks run register

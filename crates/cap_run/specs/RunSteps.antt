@@ -7,6 +7,7 @@ use Rattle.cap_ops.specs.declared.refusal.Refusal as usual
 use Rattle.cap_ops.specs.{Checks.first_of, DerivedWords.{derive_checks, invoke_checks}}
 use Rattle.cap_machine.specs.{Accounts.most_steps, Helds.Held, States.{put}}
 use Rattle.cap_objects.specs.{Counts.at_key, Handed.IsRecounted}
+use Rattle.cap_run_log.specs.declared.lines.{Derive.Derive, Exchange.Exchange, Invoke.Invoke}
 use Rattle.cap_run_log.specs.declared.lines.RunRegister.{RunRegister, TheVariants.{General, Special}}
 use Rattle.cap_run.specs.declared.ends.{RunRefusal.RunRefusal}
 use Rattle.cap_run.specs.declared.ends.RunRefusal.TheVariants as refusals
@@ -79,16 +80,16 @@ IsUnstepped old new =
     (new.rules ≡ old.rules) × (new.memory ≡ old.memory) × (new.roots ≡ old.roots) × (new.steps ≡ old.steps) × (new.limits ≡ old.limits)
 
 -- why `derive` is refused
-abbrev pub derive_end : Run → RunRegister → RunRegister → Cap → Option RunRefusal
-derive_end old target source recorded = or_later (derived_refusal target (old.state (register_key source)) recorded) (step_limit old)
+abbrev pub derive_end : Run → Derive → Option RunRefusal
+derive_end old step = or_later (derived_refusal step.target (old.state (register_key step.source)) step.result) (step_limit old)
 
 -- why `exchange` is refused: both sources are read before, and the checks of the first come first
-abbrev pub exchange_end : Run → ℕ → ℕ → ℕ → Cap → Cap → Option RunRefusal
-exchange_end old target source number recorded special_recorded =
-    or_later (derived_refusal (General target) (old.state (register_key (Special number))) recorded)
-    (or_later (derived_refusal (Special number) (old.state source) special_recorded) (step_limit old))
+abbrev pub exchange_end : Run → Exchange → Option RunRefusal
+exchange_end old step =
+    or_later (derived_refusal (General step.target) (old.state (register_key (Special step.special))) step.result)
+    (or_later (derived_refusal (Special step.special) (old.state step.source) step.special_result) (step_limit old))
 
 -- why `invoke` is refused
-abbrev pub invoke_end : Run → ℕ → ℕ → Word → Word → Option RunRefusal
-invoke_end old code data_register code_word data_word =
-    or_later (invoked_refusal (old.state code) (old.state data_register) code_word data_word) (step_limit old)
+abbrev pub invoke_end : Run → Invoke → Option RunRefusal
+invoke_end old step =
+    or_later (invoked_refusal (old.state step.code) (old.state step.datum) step.code_word step.datum_word) (step_limit old)

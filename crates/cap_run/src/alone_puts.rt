@@ -2,7 +2,8 @@
 
 ghost use Rattle.std.specs.Prelude.{◌≡◌, ◌≢◌, ◌<◌, ◌-◌, ◌^◌, None};
 ghost use Rattle.cap_machine.specs.{Parents.IsSoundCap, Places.{IsCoded, place_at}};
-ghost use Rattle.cap_run.specs.{Owned.{object_by, owner_for}, Run.{IsSource, IsTargetOf, register_key}};
+ghost use Rattle.cap_run_log.specs.RunLines.{IsRunRegister};
+ghost use Rattle.cap_run.specs.{Owned.{object_by, owner_for}, Run.register_key};
 ghost use Rattle.cap_run.specs.{RunOf.{run_owners}, RunSteps.{Writes, WritesBoth}};
 ghost use Rattle.cap_run.specs.Machines.{slots_in};
 
@@ -26,8 +27,8 @@ impl<M: TaggedStore> RunMachine<M> {
     #[inline(always)]
     pub(crate) fn write_alone(&mut self, target: RunRegister, _source: RunRegister, cap: Cap)
         requires alone { self.old.objects.count ≡ 0 }
-        requires target { IsTargetOf target }
-        requires source { IsSource _source }
+        requires target { IsRunRegister 1 target }
+        requires source { IsRunRegister 0 _source }
         requires sound { IsSoundCap cap }
         requires few { self.old.machine.steps < 2 ^ 32 - 1 }
         ensures writes { Writes (slots_in self.old) (register_key target) cap
@@ -57,8 +58,8 @@ impl<M: TaggedStore> RunMachine<M> {
         second_cap: Cap,
     )
         requires alone { self.old.objects.count ≡ 0 }
-        requires targets { IsTargetOf first × IsTargetOf second × (register_key first ≢ register_key second) }
-        requires sources { IsSource _first_source × IsSource _second_source }
+        requires targets { IsRunRegister 1 first × IsRunRegister 1 second × (register_key first ≢ register_key second) }
+        requires sources { IsRunRegister 0 _first_source × IsRunRegister 0 _second_source }
         requires sound { IsSoundCap first_cap × IsSoundCap second_cap }
         requires few { self.old.machine.steps < 2 ^ 32 - 1 }
         ensures writes { let owners = run_owners self.old.machine self.old.specials in

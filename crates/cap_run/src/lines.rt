@@ -1,7 +1,7 @@
 //! What the steps that only runs have make of a run, where objects are told by their numbers.
 
 ghost use Rattle.std.specs.Prelude.{◌≡◌, ◌<◌, ◌^◌};
-ghost use Rattle.cap_run_log.specs.RunLines.{IsRunPlace, IsRunStepInRange, derive_step, exchange_step};
+ghost use Rattle.cap_run_log.specs.RunLines.{IsRunPlace, IsRunStepInRange};
 ghost use Rattle.cap_run_log.specs.declared.lines.RunPlace.TheVariants.{Granule};
 ghost use Rattle.cap_run_log.specs.declared.lines.RunStep.TheVariants.{Drop, Fill};
 ghost use Rattle.cap_run.specs.{RunChanges.run_after};
@@ -11,7 +11,7 @@ ghost use Rattle.cap_run.specs.Machines.{run_in};
 use crate::ends::{RunEnd, RunRefusal};
 use crate::run_machine::RunMachine;
 use cap_machine::StepEnd;
-use cap_run_log::{DeriveLine, ExchangeLine, RunPlace, RunRegister, RunStep};
+use cap_run_log::{RunPlace, RunRegister, RunStep};
 use cap_word::Word;
 use tagmem::TaggedStore;
 
@@ -45,20 +45,9 @@ impl<M: TaggedStore> RunMachine<M> {
         ensures asks { self.new.asks ≡ self.old.asks }
     {
         match *step {
-            RunStep::Derive(target, source, recorded) => self.derive(target, source, recorded),
-            RunStep::Exchange {
-                target,
-                source,
-                special,
-                result: recorded,
-                special_result,
-            } => self.exchange(target, source, special, recorded, special_result),
-            RunStep::Invoke {
-                code,
-                datum,
-                code_word,
-                datum_word,
-            } => self.invoke(code, datum, code_word, datum_word),
+            RunStep::Derive(derive) => self.derive(derive),
+            RunStep::Exchange(exchange) => self.exchange(exchange),
+            RunStep::Invoke(invoke) => self.invoke(invoke),
             RunStep::Drop(place) => self.dropped(place),
             RunStep::Fill(granule, word) => self.filled(granule, word),
             RunStep::Object(register) => self.hand_out(register),
@@ -66,38 +55,6 @@ impl<M: TaggedStore> RunMachine<M> {
             RunStep::FreeOwner(register) => self.free_owner(register),
             RunStep::FreeNumber(number) => self.free_by_number(number),
         }
-    }
-
-    /// Makes the step of an `exchange` line, as [`RunMachine::make`] does.
-    #[inline(always)]
-    pub fn make_exchange(&mut self, exchange: ExchangeLine) -> Result<(), RunEnd>
-        requires { IsRunStepInRange (exchange_step exchange) }
-        ensures outcome { let old = run_in self.old in
-            let step = exchange_step exchange in
-            Answers (run_end self.old.asks old step) (run_after old step) (run_wants old step) old result
-            (run_in self.new) }
-        ensures asks { self.new.asks ≡ self.old.asks }
-    {
-        self.exchange(
-            exchange.target,
-            exchange.source,
-            exchange.special,
-            exchange.result,
-            exchange.special_result,
-        )
-    }
-
-    /// Makes the step of a `derive` line, as [`RunMachine::make`] does.
-    #[inline(always)]
-    pub fn make_derive(&mut self, derive: DeriveLine) -> Result<(), RunEnd>
-        requires { IsRunStepInRange (derive_step derive) }
-        ensures outcome { let old = run_in self.old in
-            let step = derive_step derive in
-            Answers (run_end self.old.asks old step) (run_after old step) (run_wants old step) old result
-            (run_in self.new) }
-        ensures asks { self.new.asks ≡ self.old.asks }
-    {
-        self.derive(derive.target, derive.source, derive.result)
     }
 
     // A granule gets a word without a tag.

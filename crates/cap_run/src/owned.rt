@@ -2,8 +2,8 @@
 
 ghost use Rattle.std.specs.Prelude.{◌≡◌, ◌≤◌, ◌<◌, ◌^◌, ℕ, None, Some, IfNone, IfSome};
 ghost use Rattle.cap_machine.specs.States.{granule_key};
-ghost use Rattle.cap_run_log.specs.RunLines.{IsRunPlace};
-ghost use Rattle.cap_run.specs.{Run.{IsSource, register_key}, RunChanges.place_key, RunOf.run_owners};
+ghost use Rattle.cap_run_log.specs.RunLines.{IsRunPlace, IsRunRegister};
+ghost use Rattle.cap_run.specs.{Run.register_key, RunChanges.place_key, RunOf.run_owners};
 ghost use Rattle.cap_run.specs.Machines.{run_in};
 
 use crate::run_machine::RunMachine;
@@ -38,7 +38,7 @@ impl<M: TaggedStore> RunMachine<M> {
 
     /// The number of the object that owns a register, if there is one: c0 has none.
     pub fn register_owner(&self, register: RunRegister) -> Option<u32>
-        requires { IsSource register }
+        requires { IsRunRegister 0 register }
         ensures value { result ≡ (let run = run_in self.now in run.owners (register_key register)) }
     {
         match self.owner(register) {

@@ -4,7 +4,8 @@ ghost use Rattle.std.specs.Prelude.{◌≡◌, ◌≢◌, ◌<◌, ◌≤◌, �
 ghost use Rattle.cap_ops.specs.Authority.{StaysWithin};
 ghost use Rattle.cap_machine.specs.{Helds.code_in, Parents.IsSoundCap, Places.{IsCoded, place_at}, States.put};
 ghost use Rattle.cap_objects.specs.{Counts.{Moves, at_key}, Handed.{IsRecounted, held_of}, HandoutsIn.objects_of};
-ghost use Rattle.cap_run.specs.{Owned.{object_by, owner_for}, Run.{IsSource, IsTargetOf, register_key}};
+ghost use Rattle.cap_run_log.specs.RunLines.{IsRunRegister};
+ghost use Rattle.cap_run.specs.{Owned.{object_by, owner_for}, Run.register_key};
 ghost use Rattle.cap_run.specs.{RunOf.{run_owners, run_state}, RunSteps.{IsUnstepped, Writes, WritesBoth}};
 ghost use Rattle.cap_run.specs.Machines.{slots_in};
 
@@ -26,7 +27,7 @@ pub(crate) fn put_at<M: TaggedStore>(
     cap: Cap,
     label: u64,
 )
-    requires target { IsTargetOf target }
+    requires target { IsRunRegister 1 target }
     requires sound { IsSoundCap cap }
     requires coded { IsCoded cap.tag label }
     ensures state { run_state machine.new specials.new ≡ put (run_state machine.old specials.old) (register_key target) cap }
@@ -78,8 +79,8 @@ impl<M: TaggedStore> RunMachine<M> {
     // Writes to a register what stays within another one, or has no tag, and counts a step.
     #[inline(always)]
     pub(crate) fn write(&mut self, target: RunRegister, source: RunRegister, cap: Cap)
-        requires target { IsTargetOf target }
-        requires source { IsSource source }
+        requires target { IsRunRegister 1 target }
+        requires source { IsRunRegister 0 source }
         requires sound { IsSoundCap cap }
         requires source_sound { IsSoundCap (run_state self.old.machine self.old.specials (register_key source)) }
         requires within { IsTrue cap.tag → StaysWithin cap (run_state self.old.machine self.old.specials (register_key source)) }
@@ -109,8 +110,8 @@ impl<M: TaggedStore> RunMachine<M> {
         second_source: RunRegister,
         second_cap: Cap,
     )
-        requires targets { IsTargetOf first × IsTargetOf second × (register_key first ≢ register_key second) }
-        requires sources { IsSource first_source × IsSource second_source }
+        requires targets { IsRunRegister 1 first × IsRunRegister 1 second × (register_key first ≢ register_key second) }
+        requires sources { IsRunRegister 0 first_source × IsRunRegister 0 second_source }
         requires sound { IsSoundCap first_cap × IsSoundCap second_cap }
         requires source_sound { IsSoundCap (run_state self.old.machine self.old.specials (register_key first_source))
             × IsSoundCap (run_state self.old.machine self.old.specials (register_key second_source)) }

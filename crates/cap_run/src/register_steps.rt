@@ -2,11 +2,10 @@
 
 ghost use Rattle.std.specs.Prelude.{◌≡◌, ◌≤◌, ◌<◌, ◌-◌, ◌^◌, None, IsTrue, true, false};
 ghost use Rattle.cap_ops.specs.Authority.{StaysWithin};
-ghost use Rattle.cap_log.specs.Lines.{IsTarget};
 ghost use Rattle.cap_machine.specs.{Labels.untagged, Parents.IsSoundCap};
-ghost use Rattle.cap_run_log.specs.declared.lines.RunRegister.TheVariants.{General, Special};
-ghost use Rattle.cap_run_log.specs.declared.lines.RunStep.TheVariants.{Derive, Exchange, Invoke};
-ghost use Rattle.cap_run.specs.{Run.{IsSource, IsTargetOf, register_key}, RunOf.{run_state}};
+ghost use Rattle.cap_run_log.specs.declared.lines.RunStep.TheVariants as steps;
+ghost use Rattle.cap_run_log.specs.RunLines.{IsRunRegister};
+ghost use Rattle.cap_run.specs.{Run.register_key, RunOf.{run_state}};
 ghost use Rattle.cap_run.specs.{RunChanges.{run_after, stepped, with_place}, RunChecks.{Answers, run_end, run_wants}};
 ghost use Rattle.cap_run.specs.RunSteps.{derived_refusal, invoked_refusal, is_pcc, step_limit};
 ghost use Rattle.cap_run.specs.Machines.{run_in, slots_in};
@@ -14,9 +13,10 @@ ghost use Rattle.cap_run.specs.Machines.{run_in, slots_in};
 use crate::derivations::is_plainly_derived;
 use crate::ends::{RunEnd, RunRefusal};
 use crate::run_machine::RunMachine;
+use cap_log::{Register, Target};
 use cap_machine::{MOST_STEPS, Refusal};
 use cap_ops::{DeriveFault, InvokeFault, derive_fault, invoke_fault};
-use cap_run_log::RunRegister;
+use cap_run_log::{Derive, Exchange, Invoke, RunRegister, Special};
 use cap_word::{Cap, Word};
 use tagmem::TaggedStore;
 
@@ -34,7 +34,7 @@ fn anew(cap: Cap) -> Cap
 // Whether a register is PCC: there alone a sentry opens.
 #[inline(always)]
 fn is_pcc(register: RunRegister) -> bool
-    requires { IsTargetOf register }
+    requires { IsRunRegister 1 register }
     ensures { result ≡ is_pcc register }
 {
     matches!(register, RunRegister::Special(0))
@@ -43,7 +43,7 @@ fn is_pcc(register: RunRegister) -> bool
 // Why a register can't get what is derived from a source.
 #[inline(never)]
 fn derived_refusal(target: RunRegister, source: Cap, recorded: Cap) -> Option<RunRefusal>
-    requires { IsTargetOf target }
+    requires { IsRunRegister 1 target }
     ensures value { result ≡ derived_refusal target source recorded }
     ensures within { result ≡ None → IsTrue recorded.tag → StaysWithin recorded source }
 {
@@ -104,8 +104,8 @@ impl<M: TaggedStore> RunMachine<M> {
         source: RunRegister,
         recorded: Cap,
     ) -> Option<RunRefusal>
-        requires target { IsTargetOf target }
-        requires source { IsSource source }
+        requires target { IsRunRegister 1 target }
+        requires source { IsRunRegister 0 source }
         ensures value { result ≡ derived_refusal target (run_state self.now.machine self.now.specials (register_key source)) recorded }
         ensures within { result ≡ None → IsTrue recorded.tag
             → StaysWithin recorded (run_state self.now.machine self.now.specials (register_key source)) }
@@ -122,8 +122,8 @@ impl<M: TaggedStore> RunMachine<M> {
     // permissions. `false` says nothing.
     #[inline(always)]
     fn gets<const FAR: bool>(&self, target: RunRegister, source: RunRegister, recorded: Cap) -> bool
-        requires target { IsTargetOf target }
-        requires source { IsSource source }
+        requires target { IsRunRegister 1 target }
+        requires source { IsRunRegister 0 source }
         ensures value { result ≡ true → derived_refusal target (run_state self.now.machine self.now.specials (register_key source)) recorded ≡ None }
         ensures within { result ≡ true → IsTrue recorded.tag
             → StaysWithin recorded (run_state self.now.machine self.now.specials (register_key source)) }
@@ -138,20 +138,15 @@ impl<M: TaggedStore> RunMachine<M> {
     /// (`UnsoundResult`); its bounds leave the source's, or it has a permission more (`BeyondSource`); its seal isn't
     /// kept (`SealChanged`). And of any: there are 4,294,967,295 steps (`LimitPassed`). Then nothing has changed.
     #[inline(always)]
-    pub(crate) fn derive(
-        &mut self,
-        target: RunRegister,
-        source: RunRegister,
-        recorded: Cap,
-    ) -> Result<(), RunEnd>
-        requires target { IsTargetOf target }
-        requires source { IsSource source }
+    pub fn derive(&mut self, derive: Derive) -> Result<(), RunEnd>
         ensures outcome { let old = run_in self.old in
-            let step = Derive target source recorded in
+            let step = steps.Derive derive in
             Answers (run_end self.old.asks old step) (run_after old step) (run_wants old step) old result
             (run_in self.new) }
         ensures asks { self.new.asks ≡ self.old.asks }
     {
+        let (target, source) = (derive.target.register(), derive.source.register());
+        let recorded = derive.result;
         if self.objects.count() == 0
             && self.step_limit().is_none()
             && self.gets::<true>(target, source, recorded)
@@ -170,10 +165,10 @@ impl<M: TaggedStore> RunMachine<M> {
         source: RunRegister,
         recorded: Cap,
     ) -> Result<(), RunEnd>
-        requires target { IsTargetOf target }
-        requires source { IsSource source }
+        requires target { IsRunRegister 1 target }
+        requires source { IsRunRegister 0 source }
         ensures outcome { let old = run_in self.old in
-            let step = Derive target source recorded in
+            let step = steps.Derive (record { target = target; source = source; result = recorded }) in
             Answers (run_end self.old.asks old step) (run_after old step) (run_wants old step) old result
             (run_in self.new) }
         ensures asks { self.new.asks ≡ self.old.asks }
@@ -191,26 +186,18 @@ impl<M: TaggedStore> RunMachine<M> {
     /// c`target` gets what is derived from scr`number`, and scr`number` what is derived from c`source`, both as they were
     /// before: a jump and link, or CSpecialRW. The checks of the first come first.
     #[inline(always)]
-    pub(crate) fn exchange(
-        &mut self,
-        target: u8,
-        source: u8,
-        number: u8,
-        recorded: Cap,
-        special_recorded: Cap,
-    ) -> Result<(), RunEnd>
-        requires target { IsTarget target }
-        requires source { source ≤ 31 }
-        requires number { number ≤ 31 }
+    pub fn exchange(&mut self, exchange: Exchange) -> Result<(), RunEnd>
         ensures outcome { let old = run_in self.old in
-            let step = Exchange target source number recorded special_recorded in
+            let step = steps.Exchange exchange in
             Answers (run_end self.old.asks old step) (run_after old step) (run_wants old step) old result
             (run_in self.new) }
         ensures asks { self.new.asks ≡ self.old.asks }
     {
-        let general = RunRegister::General(target);
-        let special = RunRegister::Special(number);
-        let general_source = RunRegister::General(source);
+        let (target, source, number) = (exchange.target, exchange.source, exchange.special);
+        let (recorded, special_recorded) = (exchange.result, exchange.special_result);
+        let general = RunRegister::General(target.number());
+        let special = RunRegister::Special(number.number());
+        let general_source = RunRegister::General(source.number());
         if self.objects.count() == 0
             && self.step_limit().is_none()
             && self.gets::<false>(general, special, recorded)
@@ -239,24 +226,27 @@ impl<M: TaggedStore> RunMachine<M> {
     #[inline(never)]
     fn exchange_apart(
         &mut self,
-        target: u8,
-        source: u8,
-        number: u8,
+        target: Target,
+        source: Register,
+        number: Special,
         recorded: Cap,
         special_recorded: Cap,
     ) -> Result<(), RunEnd>
-        requires target { IsTarget target }
-        requires source { source ≤ 31 }
-        requires number { number ≤ 31 }
         ensures outcome { let old = run_in self.old in
-            let step = Exchange target source number recorded special_recorded in
+            let step = steps.Exchange (record {
+              target = target;
+              source = source;
+              special = number;
+              result = recorded;
+              special_result = special_recorded;
+            }) in
             Answers (run_end self.old.asks old step) (run_after old step) (run_wants old step) old result
             (run_in self.new) }
         ensures asks { self.new.asks ≡ self.old.asks }
     {
-        let general = RunRegister::General(target);
-        let special = RunRegister::Special(number);
-        let general_source = RunRegister::General(source);
+        let general = RunRegister::General(target.number());
+        let special = RunRegister::Special(number.number());
+        let general_source = RunRegister::General(source.number());
         if let Some(refusal) = self.refusal_of_derived(general, special, recorded) {
             return Err(RunEnd::Refused(refusal));
         }
@@ -278,23 +268,16 @@ impl<M: TaggedStore> RunMachine<M> {
     }
 
     /// PCC gets the code, and c31 the data, of a sealed pair, both without their seals (CInvoke).
-    pub(crate) fn invoke(
-        &mut self,
-        code: u8,
-        data_register: u8,
-        code_word: Word,
-        data_word: Word,
-    ) -> Result<(), RunEnd>
-        requires code { code ≤ 31 }
-        requires data_register { data_register ≤ 31 }
+    pub(crate) fn invoke(&mut self, invoke: Invoke) -> Result<(), RunEnd>
         ensures outcome { let old = run_in self.old in
-            let step = Invoke code data_register code_word data_word in
+            let step = steps.Invoke invoke in
             Answers (run_end self.old.asks old step) (run_after old step) (run_wants old step) old result
             (run_in self.new) }
         ensures asks { self.new.asks ≡ self.old.asks }
     {
-        let code = RunRegister::General(code);
-        let operand = RunRegister::General(data_register);
+        let (code_word, data_word) = (invoke.code_word, invoke.datum_word);
+        let code = RunRegister::General(invoke.code.number());
+        let operand = RunRegister::General(invoke.datum.number());
         if let Some(refusal) = invoked_refusal(
             self.register(code),
             self.register(operand),
@@ -327,7 +310,7 @@ impl<M: TaggedStore> RunMachine<M> {
 
     /// The tag of a register goes, and its word stays: a revoker's work.
     pub(crate) fn drop_register(&mut self, register: RunRegister) -> Result<(), RunEnd>
-        requires { IsTargetOf register }
+        requires { IsRunRegister 1 register }
         ensures outcome { let old = run_in self.old in
             let key = register_key register in
             Answers (step_limit old) (stepped (with_place old key (untagged (old.state key)) None)) false old result

@@ -4,7 +4,8 @@ ghost use Rattle.std.specs.Prelude.{◌≡◌, ◌≤◌, ◌<◌, ◌^◌, ℕ,
 ghost use Rattle.std.specs.FinMap as map;
 ghost use Rattle.cap_machine.specs.{Parents.IsSoundCap, Places.{IsCoded, place_at}};
 ghost use Rattle.cap_objects.specs.{Counts.CountsAre, Handed.held_of, HandoutsIn.objects_of};
-ghost use Rattle.cap_run.specs.{Owned.{AreWithin, object_by}, Run.{IsSource, IsTargetOf, register_key}, RunOf.{run_owners, run_state}};
+ghost use Rattle.cap_run_log.specs.RunLines.{IsRunRegister};
+ghost use Rattle.cap_run.specs.{Owned.{AreWithin, object_by}, Run.register_key, RunOf.{run_owners, run_state}};
 ghost use Rattle.cap_machine.specs.Helds.{account_of};
 ghost use Rattle.cap_run.specs.{Numbers.numbered_run, RunChanges.{account_in, no_run, without_origins}, Safety.IsSafe};
 
@@ -109,7 +110,7 @@ impl<M: TaggedStore> RunMachine<M> {
     /// What a register holds.
     #[inline(always)]
     pub fn register(&self, register: RunRegister) -> Cap
-        requires { IsSource register }
+        requires { IsRunRegister 0 register }
         ensures value { result ≡ run_state self.now.machine self.now.specials (register_key register) }
         ensures sound { IsSoundCap result }
     {
@@ -122,7 +123,7 @@ impl<M: TaggedStore> RunMachine<M> {
     // The label of what a register holds: c0 has none.
     #[inline(always)]
     pub(crate) fn label(&self, register: RunRegister) -> u64
-        requires { IsSource register }
+        requires { IsRunRegister 0 register }
         ensures owner { object_by (place_at result) ≡ run_owners self.now.machine self.now.specials (register_key register) }
         ensures coded { let cap = run_state self.now.machine self.now.specials (register_key register) in IsCoded cap.tag result }
     {
@@ -139,7 +140,7 @@ impl<M: TaggedStore> RunMachine<M> {
     /// The slot of the object that owns a register, if there is one.
     #[inline(always)]
     pub(crate) fn owner(&self, register: RunRegister) -> Option<usize>
-        requires { IsSource register }
+        requires { IsRunRegister 0 register }
         ensures owner { result ≡ run_owners self.now.machine self.now.specials (register_key register) }
     {
         slot_by(self.label(register))

@@ -186,7 +186,7 @@ impl<M: TaggedStore> RunJudge<M> {
         let Some((exchange, rest)) = take_exchange(bytes) else {
             return None;
         };
-        match self.machine.make_exchange(exchange) {
+        match self.machine.exchange(exchange) {
             Ok(()) => Some(rest),
             Err(_) => None,
         }
@@ -207,7 +207,7 @@ impl<M: TaggedStore> RunJudge<M> {
         let Some((derive, rest)) = take_derive(bytes) else {
             return None;
         };
-        match self.machine.make_derive(derive) {
+        match self.machine.derive(derive) {
             Ok(()) => Some(rest),
             Err(_) => None,
         }

@@ -60,17 +60,19 @@ object_numbers = narrowed (below (2 ^ 32)) (λ n range. range.1) (λ n. both (fi
 -- a step of one of the nine kinds
 abbrev ADerive : (RunStep → Type 0) → Type 0
 ADerive P = (target : RunRegister) × IsRunRegister 1 target
-    × ((source : RunRegister) × IsRunRegister 0 source × ((result : Cap) × IsWord result.word.0 × P (RunStep.Derive target source result)))
+    × ((source : RunRegister) × IsRunRegister 0 source × ((result : Cap) × IsWord result.word.0 × P (RunStep.Derive (record { target = target; source = source; result = result }))))
 
 abbrev AnExchange : (RunStep → Type 0) → Type 0
 AnExchange P = (target : ℕ) × IsTarget target
     × ((source : ℕ) × IsRegister source
     × ((special : ℕ) × IsRegister special
-    × ((one : Cap) × IsWord one.word.0 × ((two : Cap) × IsWord two.word.0 × P (RunStep.Exchange target source special one two)))))
+    × ((one : Cap) × IsWord one.word.0 × ((two : Cap) × IsWord two.word.0
+    × P (RunStep.Exchange (record { target = target; source = source; special = special; result = one; special_result = two }))))))
 
 abbrev AnInvoke : (RunStep → Type 0) → Type 0
 AnInvoke P = (code : ℕ) × IsRegister code
-    × ((datum : ℕ) × IsRegister datum × ((one : Word) × IsWord one.0 × ((two : Word) × IsWord two.0 × P (RunStep.Invoke code datum one two))))
+    × ((datum : ℕ) × IsRegister datum × ((one : Word) × IsWord one.0 × ((two : Word) × IsWord two.0
+    × P (RunStep.Invoke (record { code = code; datum = datum; code_word = one; datum_word = two })))))
 
 abbrev AStep : (RunStep → Type 0) → Type 0
 AStep P =
@@ -82,10 +84,17 @@ AStep P =
     ⊎ (((n : ℕ) × IsTarget n × P (RunStep.FreeOwner n)) ⊎ ((k : ℕ) × IsObjectNumber k × P (RunStep.FreeNumber k)))))))))
 
 a_step : (P : RunStep → Type 0) → AStep P → (step : RunStep) × IsRunStepInRange step × P step
-a_step P (inl h) = (RunStep.Derive h.0 h.2.0 h.2.2.0, (h.1, h.2.1, h.2.2.1), h.2.2.2)
-a_step P (inr (inl h)) =
-    (RunStep.Exchange h.0 h.2.0 h.2.2.0 h.2.2.2.0 h.2.2.2.2.0, (h.1, h.2.1, h.2.2.1, h.2.2.2.1, h.2.2.2.2.1), h.2.2.2.2.2)
-a_step P (inr (inr (inl h))) = (RunStep.Invoke h.0 h.2.0 h.2.2.0 h.2.2.2.0, (h.1, h.2.1, h.2.2.1, h.2.2.2.1), h.2.2.2.2)
+a_step P (inl h) = (RunStep.Derive (record { target = h.0; source = h.2.0; result = h.2.2.0 }), (h.1, h.2.1, h.2.2.1), h.2.2.2)
+a_step P (inr (inl h)) = (
+  RunStep.Exchange (record { target = h.0; source = h.2.0; special = h.2.2.0; result = h.2.2.2.0; special_result = h.2.2.2.2.0 }),
+  (h.1, h.2.1, h.2.2.1, h.2.2.2.1, h.2.2.2.2.1),
+  h.2.2.2.2.2,
+)
+a_step P (inr (inr (inl h))) = (
+  RunStep.Invoke (record { code = h.0; datum = h.2.0; code_word = h.2.2.0; datum_word = h.2.2.2.0 }),
+  (h.1, h.2.1, h.2.2.1, h.2.2.2.1),
+  h.2.2.2.2,
+)
 a_step P (inr (inr (inr (inl h)))) = (RunStep.Drop h.0, h.1, h.2)
 a_step P (inr (inr (inr (inr (inl h))))) = (RunStep.Fill h.0 h.2.0, (h.1, h.2.1), h.2.2)
 a_step P (inr (inr (inr (inr (inr (inl h)))))) = (RunStep.Object h.0, h.1, h.2)
@@ -94,11 +103,11 @@ a_step P (inr (inr (inr (inr (inr (inr (inr (inl h)))))))) = (RunStep.FreeOwner 
 a_step P (inr (inr (inr (inr (inr (inr (inr (inr h)))))))) = (RunStep.FreeNumber h.0, h.1, h.2)
 
 by_step : (P : RunStep → Type 0) (step : RunStep) → IsRunStepInRange step → P step → AStep P
-by_step P (RunStep.Derive target source result) range p = inl (target, range.0, (source, range.1, (result, range.2, p)))
-by_step P (RunStep.Exchange target source special one two) range p =
-    inr (inl (target, range.0, (source, range.1, (special, range.2, (one, range.3, (two, range.4, p))))))
-by_step P (RunStep.Invoke code datum one two) range p =
-    inr (inr (inl (code, range.0, (datum, range.1, (one, range.2, (two, range.3, p))))))
+by_step P (RunStep.Derive step) range p = inl (step.target, range.0, (step.source, range.1, (step.result, range.2, p)))
+by_step P (RunStep.Exchange step) range p =
+    inr (inl (step.target, range.0, (step.source, range.1, (step.special, range.2, (step.result, range.3, (step.special_result, range.4, p))))))
+by_step P (RunStep.Invoke step) range p =
+    inr (inr (inl (step.code, range.0, (step.datum, range.1, (step.code_word, range.2, (step.datum_word, range.3, p))))))
 by_step P (RunStep.Drop place) range p = inr (inr (inr (inl (place, range, p))))
 by_step P (RunStep.Fill granule word) range p = inr (inr (inr (inr (inl (granule, range.0, (word, range.1, p))))))
 by_step P (RunStep.Object n) range p = inr (inr (inr (inr (inr (inl (n, range, p))))))
@@ -109,9 +118,11 @@ by_step P (RunStep.FreeNumber k) range p = inr (inr (inr (inr (inr (inr (inr (in
 run_steps : Searched RunStep IsRunStepInRange
 run_steps P decided =
     alike (a_step P) (λ h. by_step P h.0 h.1 h.2)
-    (either (run_registers 1 _ (λ t. run_registers 0 _ (λ s. caps _ (λ c. decided (RunStep.Derive t s c)))))
-    (either (targets _ (λ t. registers _ (λ s. registers _ (λ n. caps _ (λ c. caps _ (λ d. decided (RunStep.Exchange t s n c d)))))))
-    (either (registers _ (λ c. registers _ (λ d. words _ (λ w. words _ (λ v. decided (RunStep.Invoke c d w v))))))
+    (either (run_registers 1 _ (λ t. run_registers 0 _ (λ s. caps _ (λ c. decided (RunStep.Derive (record { target = t; source = s; result = c }))))))
+    (either (targets _ (λ t. registers _ (λ s. registers _ (λ n. caps _ (λ c. caps _ (λ d.
+    decided (RunStep.Exchange (record { target = t; source = s; special = n; result = c; special_result = d }))))))))
+    (either (registers _ (λ c. registers _ (λ d. words _ (λ w. words _ (λ v.
+    decided (RunStep.Invoke (record { code = c; datum = d; code_word = w; datum_word = v })))))))
     (either (run_places _ (λ place. decided (RunStep.Drop place)))
     (either (below (2 ^ 60) _ (λ g. words _ (λ w. decided (RunStep.Fill g w))))
     (either (targets _ (λ n. decided (RunStep.Object n)))

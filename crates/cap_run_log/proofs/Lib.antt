@@ -1,6 +1,6 @@
 pub mod DecidedRunLines
 mod ExchangeLemmas
-mod Operands
+mod OperandLemmas
 mod PartLemmas
 mod ResultLemmas
 mod Rows

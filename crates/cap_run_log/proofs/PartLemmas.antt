@@ -5,24 +5,24 @@ use Rattle.cap_log.specs.Lines.{IsPlace, IsRegister, place_spelling, register_sp
 use Rattle.cap_log.specs.{Parts.{BeginsWithNone, FitBoth, spaced}, Ranges.IsRegisterFrom}
 use Rattle.cap_run_log.specs.RunParts.{IsFreed, IsHanded, freed_spelling, handed_spelling}
 use Rattle.cap_run_log.specs.declared.{lines.{RunPlace.RunPlace, RunRegister.RunRegister}, parts.{Freed.Freed, Handed.Handed}}
-use Rattle.cap_run_log.specs.declared.parts.{ObjectNumber.ObjectNumber, Special.Special}
+use Rattle.cap_run_log.specs.declared.parts.ObjectNumber.{ObjectNumber}
 use Rattle.cap_run_log.specs.RunLines.{IsObjectNumber, IsRunPlace, IsRunRegister, run_place_spelling, run_register_spelling}
 use Rattle.cap_run_log.specs.RunLines.{special_spelling}
 
 abbrev NoSpecial : ℕ → List ℕ → Type 0
-NoSpecial end bytes = BeginsWithNone (λ (special : Special). IsRegister special.0) (λ special. special_spelling special.0) end bytes
+NoSpecial = BeginsWithNone IsRegister special_spelling
 
 -- no register is there if no general-purpose one is, and no special one
 pub no_register_at : (least end : ℕ) (bytes : List ℕ) → NoSpecial end bytes → BeginsWithNone (IsRegisterFrom least) register_spelling end bytes
     → BeginsWithNone (IsRunRegister least) run_register_spelling end bytes
 no_register_at least end bytes no_special no_general (RunRegister.General n) rest begins = no_general n rest begins
-no_register_at least end bytes no_special no_general (RunRegister.Special n) rest begins = no_special (record { 0 = n }) rest begins
+no_register_at least end bytes no_special no_general (RunRegister.Special n) rest begins = no_special n rest begins
 
 -- no place is there if none of a log is, and no special register
 pub no_run_place : (end : ℕ) (bytes : List ℕ) → BeginsWithNone IsPlace place_spelling end bytes → NoSpecial end bytes
     → BeginsWithNone IsRunPlace run_place_spelling end bytes
 no_run_place end bytes no_place no_special (RunPlace.General n) rest begins = no_place (Place.Register n) rest begins
-no_run_place end bytes no_place no_special (RunPlace.Special n) rest begins = no_special (record { 0 = n }) rest begins
+no_run_place end bytes no_place no_special (RunPlace.Special n) rest begins = no_special n rest begins
 no_run_place end bytes no_place no_special (RunPlace.Granule n) rest begins = no_place (Place.Granule n) rest begins
 
 abbrev FitsNumber : ObjectNumber → Type 0

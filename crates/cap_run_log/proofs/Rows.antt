@@ -12,12 +12,11 @@ use Rattle.cap_log.proofs.PartLemmas.{register-operand, result-operand, target-o
 use Rattle.cap_run_log.specs.SpaceLaws.{equals-spaceless, granule-spaceless, place-spaceless, register_at-spaceless}
 pub use Rattle.cap_run_log.specs.SpaceLaws.{run_head-spaceless}
 use Rattle.cap_run_log.specs.SpaceLaws.{special-spaceless, tag-spaceless}
-use Rattle.cap_run_log.proofs.Operands.{freed-operand, granule-operand, handed-operand, register_at-operand, run_place-operand}
-use Rattle.cap_run_log.proofs.Operands.{special-operand, tag-operand}
+use Rattle.cap_run_log.proofs.OperandLemmas.{freed-operand, granule-operand, handed-operand, register_at-operand, run_place-operand}
+use Rattle.cap_run_log.proofs.OperandLemmas.{special-operand, tag-operand}
 use Rattle.cap_log.proofs.{Cuts.same_cut, Shapes.{head_of, operands_of, spelling-of, text}}
 use Rattle.cap_run_log.specs.declared.{heads.RunHead.RunHead, lines.{RunLine.RunLine, RunStep.RunStep}}
-use Rattle.cap_run_log.specs.declared.parts.{Freed.Freed, Granule.Granule, Handed.Handed, Same.Same, Source.Source}
-use Rattle.cap_run_log.specs.declared.{parts.{Special.Special, Tag.Tag, Written.Written}, results.Results.Results}
+use Rattle.cap_run_log.specs.declared.{parts.{Freed.Freed, Granule.Granule, Handed.Handed, Same.Same, Tag.Tag}, results.Results.Results}
 use Rattle.cap_run_log.specs.RunHeads.{IsRunHead, run_head_spelling}
 use Rattle.cap_run_log.specs.RunLines.{IsGranule, IsRunLineInRange, IsRunPlace, IsRunRegister, granule_spelling}
 use Rattle.cap_run_log.specs.RunLines.{run_place_spelling, run_register_spelling, run_spelling, special_spelling}
@@ -52,18 +51,10 @@ abbrev register : Row → Row
 register = then_ (one IsRegister register_spelling 3 register-operand) register-spaceless
 
 abbrev special : Row → Row
-special = then_ (one (λ (s : Special). IsRegister s.0) (λ s. special_spelling s.0) 5
-    (mapped IsRegister special_spelling 5 special-operand (λ s. s.0) (λ n. record { 0 = n }) (λ _. refl))) (λ s fits. special-spaceless s.0 fits)
+special = then_ (one IsRegister special_spelling 5 special-operand) special-spaceless
 
-abbrev written : Row → Row
-written = then_ (one (λ (r : Written). IsRunRegister 1 r.0) (λ r. run_register_spelling r.0) 5
-    (mapped (IsRunRegister 1) run_register_spelling 5 (register_at-operand 1) (λ r. r.0) (λ n. record { 0 = n }) (λ _. refl)))
-    (λ r fits. register_at-spaceless 1 r.0 fits)
-
-abbrev source : Row → Row
-source = then_ (one (λ (r : Source). IsRunRegister 0 r.0) (λ r. run_register_spelling r.0) 5
-    (mapped (IsRunRegister 0) run_register_spelling 5 (register_at-operand 0) (λ r. r.0) (λ n. record { 0 = n }) (λ _. refl)))
-    (λ r fits. register_at-spaceless 0 r.0 fits)
+abbrev run_register : ℕ → Row → Row
+run_register least = then_ (one (IsRunRegister least) run_register_spelling 5 (register_at-operand least)) (register_at-spaceless least)
 
 pub same-operand : (byte : ℕ) → Lacks 10 (byte ∷ []) → IsOperand (λ (it : Same byte). Unit {0}) (λ it. byte ∷ []) 1
 same-operand byte plain = record { one = λ a b fits fits' e. refl; plain = λ a fits. plain; short = λ a fits. lit≤ tt }
@@ -146,7 +137,7 @@ no_results end bytes few x rest begins =
 abbrev pub row : RunHead → Row
 row RunHead.Version = same_byte 49 (Lacks-by_test 10 (codes "1") refl)
 row RunHead.Root = then_ a_place place-spaceless a_word
-row RunHead.Derive = written (source (one (λ (cap : Cap). IsWord cap.word.0) result_spelling 36 result-operand))
+row RunHead.Derive = run_register 1 (run_register 0 (one (λ (cap : Cap). IsWord cap.word.0) result_spelling 36 result-operand))
 row RunHead.Exchange = target (register (special (one FitsResults results_text 71 results-operand)))
 row RunHead.Invoke = register (register (equals (word a_word)))
 row RunHead.Drop = a_place
@@ -180,9 +171,16 @@ freed_step (Freed.Number number) = RunStep.FreeNumber number
 abbrev pub made : (h : RunHead) → Value h → RunLine
 made RunHead.Version x = RunLine.Version
 made RunHead.Root x = RunLine.Root x.0 x.1
-made RunHead.Derive x = RunLine.Run (RunStep.Derive (x.0).0 (x.1.0).0 x.1.1)
-made RunHead.Exchange x = RunLine.Run (RunStep.Exchange x.0 x.1.0 (x.1.1.0).0 (x.1.1.1).general (x.1.1.1).special)
-made RunHead.Invoke x = RunLine.Run (RunStep.Invoke x.0 x.1.0 x.1.1.1.0 x.1.1.1.1)
+made RunHead.Derive x = RunLine.Run (RunStep.Derive (record { target = x.0; source = x.1.0; result = x.1.1 }))
+made RunHead.Exchange x = RunLine.Run (RunStep.Exchange (record {
+  target = x.0;
+  source = x.1.0;
+  special = x.1.1.0;
+  result = (x.1.1.1).general;
+  special_result = (x.1.1.1).special;
+}))
+made RunHead.Invoke x =
+    RunLine.Run (RunStep.Invoke (record { code = x.0; datum = x.1.0; code_word = x.1.1.1.0; datum_word = x.1.1.1.1 }))
 made RunHead.Drop x = RunLine.Run (RunStep.Drop x)
 made RunHead.Fill x = RunLine.Run (RunStep.Fill (x.0).0 x.1)
 made RunHead.Object x = RunLine.Run (handed_step x)
@@ -249,12 +247,11 @@ kind_of (RunLine.Plain version) = Usual (Line.Version version) (λ f. f) refl (�
 kind_of (RunLine.Mode mode) = Usual (Line.Mode mode) (λ f. f) refl (λ e. cc) refl
 kind_of (RunLine.Root place word) = Own RunHead.Root (place, word) refl
 kind_of (RunLine.Step step) = Usual (Line.Step step) (λ f. f) refl (step_not_root step) refl
-kind_of (RunLine.Run (RunStep.Derive target source result)) =
-    Own RunHead.Derive (record { 0 = target }, (record { 0 = source }, result)) refl
-kind_of (RunLine.Run (RunStep.Exchange target source special result special_result)) =
-    Own RunHead.Exchange (target, (source, (record { 0 = special }, record { general = result; special = special_result }))) refl
-kind_of (RunLine.Run (RunStep.Invoke code datum code_word datum_word)) =
-    Own RunHead.Invoke (code, (datum, (record {}, (code_word, datum_word)))) refl
+kind_of (RunLine.Run (RunStep.Derive step)) = Own RunHead.Derive (step.target, (step.source, step.result)) refl
+kind_of (RunLine.Run (RunStep.Exchange step)) =
+    Own RunHead.Exchange (step.target, (step.source, (step.special, record { general = step.result; special = step.special_result }))) refl
+kind_of (RunLine.Run (RunStep.Invoke step)) =
+    Own RunHead.Invoke (step.code, (step.datum, (record {}, (step.code_word, step.datum_word)))) refl
 kind_of (RunLine.Run (RunStep.Drop place)) = Own RunHead.Drop place refl
 kind_of (RunLine.Run (RunStep.Fill granule word)) = Own RunHead.Fill (record { 0 = granule }, word) refl
 kind_of (RunLine.Run (RunStep.Object register)) = Own RunHead.Object (Handed.Alone register) refl

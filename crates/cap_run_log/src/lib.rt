@@ -7,6 +7,7 @@
 mod heads;
 mod laws;
 mod lines;
+mod operands;
 mod parts;
 mod readers;
 mod results;
@@ -14,7 +15,8 @@ mod writers;
 
 pub use crate::heads::RunHead;
 pub use crate::laws::usual_lines_are_run_lines;
-pub use crate::lines::{DeriveLine, ExchangeLine, RunLine, RunPlace, RunRegister, RunStep};
+pub use crate::lines::{Derive, Exchange, Invoke, RunLine, RunPlace, RunRegister, RunStep};
+pub use crate::operands::{RunSource, RunTarget, Special};
 pub use crate::readers::{
     read_run_line, run_spellings_are_distinct, take_derive, take_exchange, take_run_line,
 };

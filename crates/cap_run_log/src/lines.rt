@@ -1,6 +1,7 @@
 //! The lines of a run log, and the places that they name.
 
-use cap_log::{Mode, Step};
+use crate::operands::{RunSource, RunTarget, Special};
+use cap_log::{Mode, Register, Step, Target};
 use cap_word::{Cap, Word};
 
 /// A general-purpose or a special register.
@@ -23,36 +24,54 @@ pub enum RunPlace {
     Granule(u64),
 }
 
+/// `derive`: the target gets what is derived from the source.
+#[derive(Clone, Copy, Debug, PartialEq, Eq)]
+pub struct Derive {
+    /// The register that is written, any but c0.
+    pub target: RunTarget,
+    /// The register that the result comes from.
+    pub source: RunSource,
+    /// What the target holds then.
+    pub result: Cap,
+}
+
+/// `exchange`: a register gets what is derived from a special register, and that what is derived from another register.
+#[derive(Clone, Copy, Debug, PartialEq, Eq)]
+pub struct Exchange {
+    /// The register that is written.
+    pub target: Target,
+    /// The register that the special register's result comes from.
+    pub source: Register,
+    /// The special register.
+    pub special: Special,
+    /// What the target holds then.
+    pub result: Cap,
+    /// What the special register holds then.
+    pub special_result: Cap,
+}
+
+/// `invoke`: PCC gets the code's word and c31 the datum's, of two registers.
+#[derive(Clone, Copy, Debug, PartialEq, Eq)]
+pub struct Invoke {
+    /// The register that holds the code.
+    pub code: Register,
+    /// The register that holds the datum.
+    pub datum: Register,
+    /// What scr0 holds then, tagged.
+    pub code_word: Word,
+    /// What c31 holds then, tagged.
+    pub datum_word: Word,
+}
+
 /// A step that only runs have.
 #[derive(Clone, Copy, Debug, PartialEq, Eq)]
 pub enum RunStep {
-    /// `derive`: the target gets what is derived from the source.
-    Derive(RunRegister, RunRegister, Cap),
-    /// `exchange`: a register 1 to 31 gets what is derived from a special register, and that what is derived from
-    /// another register, 0 to 31.
-    Exchange {
-        /// The register that is written, 1 to 31.
-        target: u8,
-        /// The register that the special register's result comes from, 0 to 31.
-        source: u8,
-        /// The special register, 0 to 31.
-        special: u8,
-        /// What the target holds then.
-        result: Cap,
-        /// What the special register holds then.
-        special_result: Cap,
-    },
-    /// `invoke`: PCC gets the code's word and c31 the datum's, of two registers 0 to 31.
-    Invoke {
-        /// The register that holds the code, 0 to 31.
-        code: u8,
-        /// The register that holds the datum, 0 to 31.
-        datum: u8,
-        /// What scr0 holds then, tagged.
-        code_word: Word,
-        /// What c31 holds then, tagged.
-        datum_word: Word,
-    },
+    /// `derive`.
+    Derive(Derive),
+    /// `exchange`.
+    Exchange(Exchange),
+    /// `invoke`.
+    Invoke(Invoke),
     /// `drop`: the tag of a place goes.
     Drop(RunPlace),
     /// `fill`: a granule gets a word without a tag.
@@ -65,64 +84,6 @@ pub enum RunStep {
     FreeOwner(u8),
     /// `free K`: the object with this number, from 1, is freed.
     FreeNumber(u32),
-}
-
-/// What an `exchange` line says: the fields of [`RunStep::Exchange`].
-#[derive(Clone, Copy, Debug, PartialEq, Eq)]
-pub struct ExchangeLine {
-    /// The register that is written, 1 to 31.
-    pub target: u8,
-    /// The register that the special register's result comes from, 0 to 31.
-    pub source: u8,
-    /// The special register, 0 to 31.
-    pub special: u8,
-    /// What the target holds then.
-    pub result: Cap,
-    /// What the special register holds then.
-    pub special_result: Cap,
-}
-
-impl ExchangeLine {
-    ghost use Rattle.std.specs.Prelude.{◌≡◌};
-    ghost use Rattle.cap_run_log.specs.RunLines.{exchange_step};
-
-    /// The step of the line.
-    #[inline(always)]
-    pub fn into_step(self) -> RunStep
-        ensures step { result ≡ exchange_step self }
-    {
-        RunStep::Exchange {
-            target: self.target,
-            source: self.source,
-            special: self.special,
-            result: self.result,
-            special_result: self.special_result,
-        }
-    }
-}
-
-/// What a `derive` line says: the fields of [`RunStep::Derive`].
-#[derive(Clone, Copy, Debug, PartialEq, Eq)]
-pub struct DeriveLine {
-    /// The register that is written, any but c0.
-    pub target: RunRegister,
-    /// The register that the result comes from.
-    pub source: RunRegister,
-    /// What the target holds then.
-    pub result: Cap,
-}
-
-impl DeriveLine {
-    ghost use Rattle.std.specs.Prelude.{◌≡◌};
-    ghost use Rattle.cap_run_log.specs.RunLines.{derive_step};
-
-    /// The step of the line.
-    #[inline(always)]
-    pub fn into_step(self) -> RunStep
-        ensures step { result ≡ derive_step self }
-    {
-        RunStep::Derive(self.target, self.source, self.result)
-    }
 }
 
 /// One line of a run log.

@@ -6,24 +6,33 @@ ghost use Rattle.std.specs.Prelude.{◌≡◌, ◌≤◌, ◌∷◌, ◌++◌, �
 ghost use Rattle.cap_streams.specs.Front.{HasNoFeed};
 ghost use Rattle.cap_run_log.specs.{declared.lines.RunLine.RunLine, RunLines.SpellsRun};
 ghost use Rattle.cap_log.specs.Parts.{Begins, BeginsWithNone};
-ghost use Rattle.cap_run_log.specs.{RunHeads.{IsRunHead, run_head_spelling}, RunLines.{IsRunLineInRange, derive_line, exchange_line, run_spelling}};
-ghost use Rattle.cap_run_log.specs.declared.lines.DeriveLine.{DeriveLine as DeriveIn};
-ghost use Rattle.cap_run_log.specs.declared.lines.ExchangeLine.{ExchangeLine as ExchangeIn};
-ghost use Rattle.cap_run_log.specs.RunParts.{StandsAfter};
+ghost use Rattle.cap_run_log.specs.{RunHeads.{IsRunHead, run_head_spelling}, RunLines.{IsRunLineInRange, run_spelling}};
+ghost use Rattle.cap_run_log.specs.declared.lines.{Derive.Derive as DeriveIn, Exchange.Exchange as ExchangeIn};
+ghost use Rattle.cap_run_log.specs.declared.lines.RunLine.TheVariants as lines;
+ghost use Rattle.cap_run_log.specs.declared.lines.RunStep.TheVariants as steps;
+ghost use Rattle.cap_run_log.specs.RunParts.{IsFreed, IsHanded, StandsAfter, freed_spelling, handed_spelling};
 ghost use Rattle.cap_run_log.specs.declared.heads.RunHead.{RunHead as RunHeadIn};
 ghost use Rattle.cap_run_log.specs.declared.heads.RunHead.TheVariants as heads;
 
 use crate::heads::{RunHead, strip_derive, strip_exchange};
-use crate::lines::{DeriveLine, ExchangeLine, RunLine, RunPlace, RunStep};
-use crate::parts::{Equals, Freed, Granule, Handed, One, Source, Special, Written};
+use crate::lines::{Derive, Exchange, Invoke, RunLine, RunStep};
+use crate::operands::Special;
+use crate::parts::{Equals, Freed, Granule, Handed, One};
 use crate::results::Results;
 use cap_log::buffers::put;
 use cap_log::{Line, Part, Register, Target, take_line};
 use cap_streams::LINE_LIMIT;
-use cap_word::{Cap, Word};
+use cap_word::Word;
 
-// What follows `derive`.
-type DeriveParts = (Written, (Source, Cap));
+// What is taken as something else, with what follows it.
+macro_rules! taken {
+    ($found:expr, $parts:pat => $made:expr) => {
+        match $found {
+            Some(($parts, rest)) => Some(($made, rest)),
+            None => None,
+        }
+    };
+}
 
 // What follows `exchange`.
 type ExchangeParts = (Target, (Register, (Special, Results)));
@@ -46,10 +55,10 @@ pub fn take_run_line(bytes: &[u8]) -> Option<(RunLine, &[u8])>
 /// Takes an `exchange` line and its line feed from the front of some bytes, sooner than [`take_run_line`] does: what it says,
 /// and what follows it. `None` if no such line and a line feed stand there.
 #[inline(always)]
-pub fn take_exchange(bytes: &[u8]) -> Option<(ExchangeLine, &[u8])>
-    ensures some { IfSome result (λ p. Begins IsRunLineInRange run_spelling 10 bytes.now (exchange_line p.0) p.1.now) }
+pub fn take_exchange(bytes: &[u8]) -> Option<(Exchange, &[u8])>
+    ensures some { IfSome result (λ p. Begins IsRunLineInRange run_spelling 10 bytes.now (lines.Run (steps.Exchange p.0)) p.1.now) }
     ensures none { IfNone result ((exchange : ExchangeIn) (rest : List ℕ)
-        → Begins IsRunLineInRange run_spelling 10 bytes.now (exchange_line exchange) rest → ⊥) }
+        → Begins IsRunLineInRange run_spelling 10 bytes.now (lines.Run (steps.Exchange exchange)) rest → ⊥) }
 {
     let Some(operands) = strip_exchange(bytes) else {
         return None;
@@ -60,10 +69,10 @@ pub fn take_exchange(bytes: &[u8]) -> Option<(ExchangeLine, &[u8])>
 /// Takes a `derive` line and its line feed from the front of some bytes, sooner than [`take_run_line`] does: what it says, and
 /// what follows it. `None` if no such line and a line feed stand there.
 #[inline(always)]
-pub fn take_derive(bytes: &[u8]) -> Option<(DeriveLine, &[u8])>
-    ensures some { IfSome result (λ p. Begins IsRunLineInRange run_spelling 10 bytes.now (derive_line p.0) p.1.now) }
+pub fn take_derive(bytes: &[u8]) -> Option<(Derive, &[u8])>
+    ensures some { IfSome result (λ p. Begins IsRunLineInRange run_spelling 10 bytes.now (lines.Run (steps.Derive p.0)) p.1.now) }
     ensures none { IfNone result ((derive : DeriveIn) (rest : List ℕ)
-        → Begins IsRunLineInRange run_spelling 10 bytes.now (derive_line derive) rest → ⊥) }
+        → Begins IsRunLineInRange run_spelling 10 bytes.now (lines.Run (steps.Derive derive)) rest → ⊥) }
 {
     let Some(operands) = strip_derive(bytes) else {
         return None;
@@ -114,105 +123,19 @@ fn take_usual(bytes: &[u8]) -> Option<(RunLine, &[u8])>
     }
 }
 
-// Parts that make a line with the head before them.
-trait Operands: Part {
-    // That head.
-    ghost head: { RunHeadIn };
-
-    // The line.
-    fn into_line(self) -> RunLine
-        requires { Self.Part.fits self }
-        ensures range { IsRunLineInRange result }
-        ensures spelling { run_spelling result ≡ run_head_spelling head ++ 32 ∷ Self.Part.spelled self };
-}
-
-impl Operands for One {
-    ghost head = { heads.Version };
-
-    #[inline(always)]
-    fn into_line(self) -> RunLine {
-        RunLine::Version
-    }
-}
-
-impl Operands for (RunPlace, Word) {
-    ghost head = { heads.Root };
-
-    #[inline(always)]
-    fn into_line(self) -> RunLine {
-        RunLine::Root(self.0, self.1)
-    }
-}
-
-impl Operands for InvokeParts {
-    ghost head = { heads.Invoke };
-
-    #[inline(always)]
-    fn into_line(self) -> RunLine {
-        let (code, (datum, (_equals, (code_word, datum_word)))) = self;
-        RunLine::Run(RunStep::Invoke {
-            code: code.number(),
-            datum: datum.number(),
-            code_word,
-            datum_word,
-        })
-    }
-}
-
-impl Operands for RunPlace {
-    ghost head = { heads.Drop };
-
-    #[inline(always)]
-    fn into_line(self) -> RunLine {
-        RunLine::Run(RunStep::Drop(self))
-    }
-}
-
-impl Operands for (Granule, Word) {
-    ghost head = { heads.Fill };
-
-    #[inline(always)]
-    fn into_line(self) -> RunLine {
-        RunLine::Run(RunStep::Fill(self.0.0, self.1))
-    }
-}
-
-impl Operands for Handed {
-    ghost head = { heads.Object };
-
-    #[inline(always)]
-    fn into_line(self) -> RunLine {
-        RunLine::Run(match self {
-            Handed::Alone(register) => RunStep::Object(register),
-            Handed::Numbered(register, number) => RunStep::Widen(register, number),
-        })
-    }
-}
-
-impl Operands for Freed {
-    ghost head = { heads.Free };
-
-    #[inline(always)]
-    fn into_line(self) -> RunLine {
-        RunLine::Run(match self {
-            Freed::Owner(register) => RunStep::FreeOwner(register),
-            Freed::Number(number) => RunStep::FreeNumber(number),
-        })
-    }
-}
-
-// Takes the operands that follow their head and its space, with the line feed, as their line.
+// Takes the parts that follow a head and its space, with the line feed.
 #[inline(always)]
-fn take_made<O: Operands>(bytes: &[u8]) -> Option<(RunLine, &[u8])>
-    requires { StandsAfter O.head O.Part.fits O.Part.spelled }
-    ensures some { IfSome result (λ p. Begins IsRunLineInRange run_spelling 10 (run_head_spelling O.head ++ 32 ∷ bytes.now) p.0 p.1.now) }
-    ensures none { IfNone result (BeginsWithNone IsRunLineInRange run_spelling 10 (run_head_spelling O.head ++ 32 ∷ bytes.now)) }
+fn take_parts<P: Part>(head: RunHead, bytes: &[u8]) -> Option<(P, &[u8])>
+    requires { StandsAfter head P.fits P.spelled }
+    ensures some { IfSome result (λ p. Begins P.fits (λ parts. run_head_spelling head ++ 32 ∷ P.spelled parts) 10
+        (run_head_spelling head ++ 32 ∷ bytes.now) p.0 p.1.now) }
+    ensures none { IfNone result (BeginsWithNone IsRunLineInRange run_spelling 10 (run_head_spelling head ++ 32 ∷ bytes.now)) }
 {
     // No others follow this head.
-    let Some((operands, rest)) = O::take(bytes, b'\n') else {
+    let Some((parts, rest)) = P::take(bytes, b'\n') else {
         return None;
     };
-    Some((operands.into_line(), rest))
+    Some((parts, rest))
 }
 
 // Takes what follows a head and its space, with the line feed.
@@ -221,64 +144,79 @@ fn take_run_operands(head: RunHead, bytes: &[u8]) -> Option<(RunLine, &[u8])>
     ensures none { IfNone result (BeginsWithNone IsRunLineInRange run_spelling 10 (run_head_spelling head ++ 32 ∷ bytes.now)) }
 {
     match head {
-        RunHead::Version => take_made::<One>(bytes),
-        RunHead::Root => take_made::<(RunPlace, Word)>(bytes),
+        RunHead::Version => taken!(take_parts::<One>(head, bytes), _one => RunLine::Version),
+        RunHead::Root => {
+            taken!(take_parts(head, bytes), (place, word) => RunLine::Root(place, word))
+        }
         RunHead::Derive => {
-            let Some((derive, rest)) = take_derived(bytes) else {
-                return None;
-            };
-            Some((RunLine::Run(derive.into_step()), rest))
+            taken!(take_derived(bytes), derive => RunLine::Run(RunStep::Derive(derive)))
         }
         RunHead::Exchange => {
-            let Some((exchange, rest)) = take_exchanged(bytes) else {
-                return None;
-            };
-            Some((RunLine::Run(exchange.into_step()), rest))
+            taken!(take_exchanged(bytes), exchange => RunLine::Run(RunStep::Exchange(exchange)))
         }
-        RunHead::Invoke => take_made::<InvokeParts>(bytes),
-        RunHead::Drop => take_made::<RunPlace>(bytes),
-        RunHead::Fill => take_made::<(Granule, Word)>(bytes),
-        RunHead::Object => take_made::<Handed>(bytes),
-        RunHead::Free => take_made::<Freed>(bytes),
+        RunHead::Invoke => {
+            taken!(take_parts::<InvokeParts>(head, bytes), (code, (datum, (_equals, (code_word, datum_word)))) =>
+                RunLine::Run(RunStep::Invoke(Invoke { code, datum, code_word, datum_word })))
+        }
+        RunHead::Drop => {
+            taken!(take_parts(head, bytes), place => RunLine::Run(RunStep::Drop(place)))
+        }
+        RunHead::Fill => {
+            taken!(take_parts::<(Granule, Word)>(head, bytes), (granule, word) => RunLine::Run(RunStep::Fill(granule.0, word)))
+        }
+        RunHead::Object => taken!(take_parts(head, bytes), handed => object_line(handed)),
+        RunHead::Free => taken!(take_parts(head, bytes), freed => free_line(freed)),
     }
+}
+
+// The line of `object` and what follows it.
+#[inline(always)]
+fn object_line(handed: Handed) -> RunLine
+    requires { IsHanded handed }
+    ensures range { IsRunLineInRange result }
+    ensures spelling { run_spelling result ≡ run_head_spelling heads.Object ++ 32 ∷ handed_spelling handed }
+{
+    RunLine::Run(match handed {
+        Handed::Alone(target) => RunStep::Object(target),
+        Handed::Numbered(target, number) => RunStep::Widen(target, number),
+    })
+}
+
+// The line of `free` and what follows it.
+#[inline(always)]
+fn free_line(freed: Freed) -> RunLine
+    requires { IsFreed freed }
+    ensures range { IsRunLineInRange result }
+    ensures spelling { run_spelling result ≡ run_head_spelling heads.Free ++ 32 ∷ freed_spelling freed }
+{
+    RunLine::Run(match freed {
+        Freed::Owner(target) => RunStep::FreeOwner(target),
+        Freed::Number(number) => RunStep::FreeNumber(number),
+    })
 }
 
 // Takes what follows `derive` and its space.
 #[inline(always)]
-fn take_derived(bytes: &[u8]) -> Option<(DeriveLine, &[u8])>
+fn take_derived(bytes: &[u8]) -> Option<(Derive, &[u8])>
     ensures some { IfSome result (λ p. Begins IsRunLineInRange run_spelling 10 (run_head_spelling heads.Derive ++ 32 ∷ bytes.now)
-        (derive_line p.0) p.1.now) }
+        (lines.Run (steps.Derive p.0)) p.1.now) }
     ensures none { IfNone result (BeginsWithNone IsRunLineInRange run_spelling 10 (run_head_spelling heads.Derive ++ 32 ∷ bytes.now)) }
 {
-    let Some((parts, rest)) = DeriveParts::take(bytes, b'\n') else {
-        return None;
-    };
-    let (target, (source, result)) = parts;
-    let derive = DeriveLine {
-        target: target.0,
-        source: source.0,
-        result,
-    };
-    Some((derive, rest))
+    taken!(take_parts(RunHead::Derive, bytes), (target, (source, result)) => Derive { target, source, result })
 }
 
 // Takes what follows `exchange` and its space.
 #[inline(always)]
-fn take_exchanged(bytes: &[u8]) -> Option<(ExchangeLine, &[u8])>
+fn take_exchanged(bytes: &[u8]) -> Option<(Exchange, &[u8])>
     ensures some { IfSome result (λ p. Begins IsRunLineInRange run_spelling 10 (run_head_spelling heads.Exchange ++ 32 ∷ bytes.now)
-        (exchange_line p.0) p.1.now) }
+        (lines.Run (steps.Exchange p.0)) p.1.now) }
     ensures none { IfNone result (BeginsWithNone IsRunLineInRange run_spelling 10 (run_head_spelling heads.Exchange ++ 32 ∷ bytes.now)) }
 {
-    let Some((parts, rest)) = ExchangeParts::take(bytes, b'\n') else {
-        return None;
-    };
-    let (target, (source, (special, results))) = parts;
-    let exchange = ExchangeLine {
-        target: target.number(),
-        source: source.number(),
-        special: special.0,
+    taken!(take_parts::<ExchangeParts>(RunHead::Exchange, bytes), (target, (source, (special, results))) => Exchange {
+        target,
+        source,
+        special,
         result: results.general,
         special_result: results.special,
-    };
-    Some((exchange, rest))
+    })
 }

@@ -9,12 +9,12 @@ ghost use Rattle.cap_run_log.specs.declared.lines.RunLine.TheVariants as lines;
 ghost use Rattle.cap_run_log.specs.declared.lines.RunStep.TheVariants as steps;
 
 use crate::heads::RunHead;
-use crate::lines::{RunLine, RunRegister, RunStep};
-use crate::parts::{EQUALS, Freed, Granule, Handed, ONE, Source, Special, Written};
+use crate::lines::{Exchange, RunLine, RunStep};
+use crate::operands::{RunSource, RunTarget};
+use crate::parts::{EQUALS, Freed, Granule, Handed, ONE};
 use crate::results::Results;
 use cap_log::buffers::put;
 use cap_log::{Line, Part, write_line};
-use cap_word::Cap;
 
 /// Writes a line of a run log and its line feed at the front of the buffer, and returns how many bytes they are. The line's
 /// numbers have to be in their ranges. The rest of the buffer stays as it was.
@@ -34,34 +34,23 @@ pub fn write_run_line(line: &RunLine, buffer: &mut [u8; 96]) -> usize
     }
 }
 
-/// Writes the line of an `exchange` and its line feed, as [`write_run_line`] does, and asks for no other kind: a target, a
-/// source, a special register, and what the target and the special register hold then.
+/// Writes the line of an `exchange` and its line feed, as [`write_run_line`] does, and asks for no other kind.
 #[inline(always)]
-pub fn write_exchange(
-    target: u8,
-    source: u8,
-    special: u8,
-    recorded: Cap,
-    special_recorded: Cap,
-    buffer: &mut [u8; 96],
-) -> usize
-    requires { IsRunStepInRange (steps.Exchange target source special recorded special_recorded) }
-    ensures line { IsRunLineAt (lines.Run (steps.Exchange target source special recorded special_recorded)) buffer.old buffer.new result }
+pub fn write_exchange(exchange: Exchange, buffer: &mut [u8; 96]) -> usize
+    ensures line { IsRunLineAt (lines.Run (steps.Exchange exchange)) buffer.old buffer.new result }
 {
-    let line = RunLine::Run(RunStep::Exchange {
-        target,
-        source,
-        special,
-        result: recorded,
-        special_result: special_recorded,
-    });
     let results = Results {
-        general: recorded,
-        special: special_recorded,
+        general: exchange.result,
+        special: exchange.special_result,
     };
-    let source = Source(RunRegister::General(source));
-    let target = Written(RunRegister::General(target));
-    let parts = (target, (source, (Special(special), results)));
+    let target = RunTarget::general(exchange.target);
+    let source = RunSource::general(exchange.source);
+    let special = exchange.special;
+    special.number();
+    target.register();
+    source.register();
+    let parts = (target, (source, (special, results)));
+    let line = RunLine::Run(RunStep::Exchange(exchange));
     end_line(&line, RunHead::Exchange, parts, buffer)
 }
 
@@ -93,12 +82,8 @@ fn write_run_step(line: &RunLine, step: RunStep, buffer: &mut [u8; 96]) -> usize
             end_line(line, RunHead::Object, Handed::Alone(register), buffer)
         }
         RunStep::Widen(register, number) => {
-            end_line(
-                line,
-                RunHead::Object,
-                Handed::Numbered(register, number),
-                buffer,
-            )
+            let handed = Handed::Numbered(register, number);
+            end_line(line, RunHead::Object, handed, buffer)
         }
         RunStep::FreeOwner(register) => {
             end_line(line, RunHead::Free, Freed::Owner(register), buffer)
@@ -106,28 +91,15 @@ fn write_run_step(line: &RunLine, step: RunStep, buffer: &mut [u8; 96]) -> usize
         RunStep::FreeNumber(number) => {
             end_line(line, RunHead::Free, Freed::Number(number), buffer)
         }
-        RunStep::Derive(target, source, recorded) => end_line(
-            line,
-            RunHead::Derive,
-            (Written(target), (Source(source), recorded)),
-            buffer,
-        ),
-        RunStep::Exchange {
-            target,
-            source,
-            special,
-            result: recorded,
-            special_result,
-        } => write_exchange(target, source, special, recorded, special_result, buffer),
-        RunStep::Invoke {
-            code,
-            datum,
-            code_word,
-            datum_word,
-        } => {
-            let words = (EQUALS, (code_word, datum_word));
-            let datum = Source(RunRegister::General(datum));
-            let code = Source(RunRegister::General(code));
+        RunStep::Derive(step) => {
+            let parts = (step.target, (step.source, step.result));
+            end_line(line, RunHead::Derive, parts, buffer)
+        }
+        RunStep::Exchange(exchange) => write_exchange(exchange, buffer),
+        RunStep::Invoke(step) => {
+            let words = (EQUALS, (step.code_word, step.datum_word));
+            let datum = RunSource::general(step.datum);
+            let code = RunSource::general(step.code);
             end_line(line, RunHead::Invoke, (code, (datum, words)), buffer)
         }
     }

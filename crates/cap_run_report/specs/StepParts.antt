@@ -116,11 +116,11 @@ AreFreeLines run number refusal told = told ≡ []
 
 -- a step that only runs have
 abbrev pub AreRunStepLines : Run → RunStep → RunRefusal → List ℕ → Type 0
-AreRunStepLines run (steps.Derive target source result) refusal told = told ≡ derived_lines run target source result
-AreRunStepLines run (steps.Exchange target source special result special_result) refusal told =
-    told ≡ exchanged_lines run (General target) (General source) (Special special) result special_result
-AreRunStepLines run (steps.Invoke code datum code_word datum_word) refusal told =
-    told ≡ invoked_lines run code datum code_word datum_word refusal
+AreRunStepLines run (steps.Derive step) refusal told = told ≡ derived_lines run step.target step.source step.result
+AreRunStepLines run (steps.Exchange step) refusal told =
+    told ≡ exchanged_lines run (General step.target) (General step.source) (Special step.special) step.result step.special_result
+AreRunStepLines run (steps.Invoke step) refusal told =
+    told ≡ invoked_lines run step.code step.datum step.code_word step.datum_word refusal
 AreRunStepLines run (steps.Object register) refusal told = AreObjectStepLines run register None refusal told
 AreRunStepLines run (steps.Widen register number) refusal told = AreObjectStepLines run register (Some number) refusal told
 AreRunStepLines run (steps.FreeOwner register) refusal told = AreObjectStepLines run register None refusal told

@@ -2,8 +2,7 @@
 
 ghost use Rattle.std.specs.Prelude.{◌≡◌, ◌+◌, ◌++◌, ◌≤◌, length};
 ghost use Rattle.cap_streams.specs.Written.{Writes};
-ghost use Rattle.cap_run.specs.Run.{IsSource};
-ghost use Rattle.cap_run_log.specs.RunLines.{run_place_spelling};
+ghost use Rattle.cap_run_log.specs.RunLines.{IsRunRegister, run_place_spelling};
 ghost use Rattle.cap_texts.specs.TextLines.{says_line};
 ghost use Rattle.cap_report.specs.Says.{taken_text};
 ghost use Rattle.cap_run_report.specs.CapParts.{IsReadable, held_lines, owned_lines, place_of, register_lines};
@@ -19,7 +18,7 @@ use tagmem::TaggedStore;
 
 /// A register as a place.
 pub fn place_of(register: RunRegister) -> RunPlace
-    requires { IsSource register }
+    requires { IsRunRegister 0 register }
     ensures value { result ≡ place_of register }
     ensures readable { IsReadable result }
 {
@@ -75,7 +74,7 @@ pub fn put_register<M: TaggedStore>(
     register: RunRegister,
 ) -> usize
     requires name { length name.now ≤ 9 }
-    requires register { IsSource register }
+    requires register { IsRunRegister 0 register }
     requires room { at + 192 ≤ length buffer.old }
     ensures written { Writes at (register_lines name.now (run_in machine.now) register) buffer.old buffer.new result }
     ensures fits { result ≤ at + 192 }

@@ -5,8 +5,8 @@ ghost use Rattle.cap_streams.specs.Written.{Writes};
 ghost use Rattle.cap_ops.specs.{DerivedWords.is_opened, Permissions.{unsealed_type, with_type}};
 ghost use Rattle.cap_log.specs.Lines.{IsStepInRange};
 ghost use Rattle.cap_machine.specs.Shown.{IsShown, shown_of};
-ghost use Rattle.cap_run.specs.{Run.{IsSource, IsTargetOf}, RunChanges.account_in};
-ghost use Rattle.cap_run_log.specs.RunLines.{IsRunStepInRange};
+ghost use Rattle.cap_run_log.specs.RunLines.{IsRunRegister, IsRunStepInRange};
+ghost use Rattle.cap_run.specs.RunChanges.{account_in};
 ghost use Rattle.cap_run_report.specs.CapParts.{IsReadable};
 ghost use Rattle.cap_run_report.specs.StepParts.{AreAccessLines, AreRunStepLines, AreUsualLines, derived_lines, exchanged_lines};
 ghost use Rattle.cap_run_report.specs.StepParts.{invoked_lines, is_refused, opened_lines};
@@ -88,8 +88,8 @@ fn put_derived<M: TaggedStore>(
     source: RunRegister,
     recorded: Cap,
 ) -> usize
-    requires target { IsSource target }
-    requires source { IsSource source }
+    requires target { IsRunRegister 0 target }
+    requires source { IsRunRegister 0 source }
     requires room { at + 384 ≤ length buffer.old }
     ensures written { Writes at (derived_lines (run_in machine.now) target source recorded) buffer.old buffer.new result }
     ensures fits { result ≤ at + 384 }
@@ -116,9 +116,9 @@ fn put_exchanged<M: TaggedStore>(
     recorded: Cap,
     special_recorded: Cap,
 ) -> usize
-    requires target { IsSource target }
-    requires source { IsSource source }
-    requires special { IsSource special }
+    requires target { IsRunRegister 0 target }
+    requires source { IsRunRegister 0 source }
+    requires special { IsRunRegister 0 special }
     requires room { at + 384 ≤ length buffer.old }
     ensures written { Writes at (exchanged_lines (run_in machine.now) target source special recorded special_recorded) buffer.old buffer.new result }
     ensures fits { result ≤ at + 384 }
@@ -212,33 +212,27 @@ pub fn put_run_step<M: TaggedStore>(
     ensures fits { result ≤ at + 768 }
 {
     match *step {
-        RunStep::Derive(target, source, recorded) => {
-            put_derived(machine, buffer, at, target, source, recorded)
+        RunStep::Derive(step) => {
+            let (target, source) = (step.target.register(), step.source.register());
+            put_derived(machine, buffer, at, target, source, step.result)
         }
-        RunStep::Exchange {
-            target,
-            source,
-            special,
-            result: recorded,
-            special_result,
-        } => put_exchanged(
+        RunStep::Exchange(step) => put_exchanged(
             machine,
             buffer,
             at,
-            RunRegister::General(target),
-            RunRegister::General(source),
-            RunRegister::Special(special),
-            recorded,
-            special_result,
+            RunRegister::General(step.target.number()),
+            RunRegister::General(step.source.number()),
+            RunRegister::Special(step.special.number()),
+            step.result,
+            step.special_result,
         ),
-        RunStep::Invoke {
-            code,
-            datum,
-            code_word,
-            datum_word,
-        } => put_invoked(
-            machine, buffer, at, code, datum, code_word, datum_word, refusal,
-        ),
+        RunStep::Invoke(step) => {
+            let (code, datum) = (step.code.number(), step.datum.number());
+            let (code_word, datum_word) = (step.code_word, step.datum_word);
+            put_invoked(
+                machine, buffer, at, code, datum, code_word, datum_word, refusal,
+            )
+        }
         RunStep::Object(register) => {
             put_object_step(machine, buffer, at, register, None, refusal)
         }

@@ -35,13 +35,14 @@ IsRootRead (Special number) word read = HasNumbers 72 number 0 0 0 (tagged_word 
 
 -- what was read is this step
 abbrev pub IsRunStepRead : RunStep → PassedRunLine → Type 0
-IsRunStepRead (steps.Derive target source result) read =
-    HasNumbers 64 0 0 0 0 result read.line × HasPlaces (passed_register target) (passed_register source) no_cap read
-IsRunStepRead (steps.Exchange target source special result special_result) read =
-    HasNumbers 65 target source 0 special result read.line × HasPlaces passed_nowhere passed_nowhere special_result read
-IsRunStepRead (steps.Invoke code datum code_word datum_word) read =
-    HasNumbers 66 0 code datum 0 (tagged_word code_word) read.line
-    × HasPlaces passed_nowhere passed_nowhere (tagged_word datum_word) read
+IsRunStepRead (steps.Derive step) read =
+    HasNumbers 64 0 0 0 0 step.result read.line × HasPlaces (passed_register step.target) (passed_register step.source) no_cap read
+IsRunStepRead (steps.Exchange step) read =
+    HasNumbers 65 step.target step.source 0 step.special step.result read.line
+    × HasPlaces passed_nowhere passed_nowhere step.special_result read
+IsRunStepRead (steps.Invoke step) read =
+    HasNumbers 66 0 step.code step.datum 0 (tagged_word step.code_word) read.line
+    × HasPlaces passed_nowhere passed_nowhere (tagged_word step.datum_word) read
 IsRunStepRead (steps.Drop place) read =
     HasNumbers 67 0 0 0 0 no_cap read.line × HasPlaces (passed_place place) passed_nowhere no_cap read
 IsRunStepRead (steps.Fill granule word) read =

@@ -79,37 +79,26 @@ fn run_step_read(step: RunStep, count: usize) -> PassedRunLine
     ensures tags { (result.line.cap.tag ≤ 1) × (result.second.tag ≤ 1) }
 {
     match step {
-        RunStep::Derive(target, source, recorded) => PassedRunLine {
-            target: register_to_passed(target),
-            source: register_to_passed(source),
-            ..alone(capability_line(DERIVE, 0, recorded, count))
+        RunStep::Derive(step) => PassedRunLine {
+            target: register_to_passed(step.target.register()),
+            source: register_to_passed(step.source.register()),
+            ..alone(capability_line(DERIVE, 0, step.result, count))
         },
-        RunStep::Exchange {
-            target,
-            source,
-            special,
-            result: recorded,
-            special_result,
-        } => {
+        RunStep::Exchange(step) => {
             let line = PassedLine {
-                source,
-                number: u64::from(special),
-                ..capability_line(EXCHANGE, target, recorded, count)
+                source: step.source.number(),
+                number: u64::from(step.special.number()),
+                ..capability_line(EXCHANGE, step.target.number(), step.result, count)
             };
-            with_second(line, special_result)
+            with_second(line, step.special_result)
         }
-        RunStep::Invoke {
-            code,
-            datum,
-            code_word,
-            datum_word,
-        } => {
+        RunStep::Invoke(step) => {
             let line = PassedLine {
-                source: code,
-                authority: datum,
-                ..capability_line(INVOKE, 0, tagged(code_word), count)
+                source: step.code.number(),
+                authority: step.datum.number(),
+                ..capability_line(INVOKE, 0, tagged(step.code_word), count)
             };
-            with_second(line, tagged(datum_word))
+            with_second(line, tagged(step.datum_word))
         }
         RunStep::Drop(place) => PassedRunLine {
             target: to_passed(place),

@@ -19,7 +19,7 @@ use cap_halves::run_steps::{
 };
 use cap_halves::values::{Capability, Halves, PassedPlace};
 use cap_log::{Register, Target};
-use cap_run_log::{RunLine, RunPlace, RunStep, write_exchange, write_run_line};
+use cap_run_log::{Exchange, RunLine, RunPlace, RunStep, Special, write_exchange, write_run_line};
 
 /// Writes the version line of a run log into the buffer.
 #[unsafe(no_mangle)]
@@ -78,17 +78,17 @@ pub extern "C" fn capcheck_line_exchange(
     let Some(source) = Register::new(source) else {
         return 0;
     };
-    if special > 31 {
+    let Some(special) = Special::new(special) else {
         return 0;
-    }
-    write_exchange(
-        target.number(),
-        source.number(),
-        special as u8,
-        from_c(recorded),
-        from_c(special_recorded),
-        buffer,
-    )
+    };
+    let exchange = Exchange {
+        target,
+        source,
+        special,
+        result: from_c(recorded),
+        special_result: from_c(special_recorded),
+    };
+    write_exchange(exchange, buffer)
 }
 
 /// Writes the line of a step `invoke` into the buffer: the registers of the code and of the datum, 0 to 31, and the words

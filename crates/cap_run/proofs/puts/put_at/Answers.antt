@@ -1,8 +1,8 @@
 use Rattle.std.proofs.{Common.{◌==◌, ◌<◌, ◌∙◌, ℕ, Option, ap, sym, subst, arith}, Math.Path.fun_ext}
 use Rattle.cap_machine.specs.{Accounts.Account, Helds.{account_of, state_of}, Places.place_at, States.put}
-use Rattle.cap_run.specs.{Owned.object_by, Run.{IsTargetOf, first_special, register_key, with_specials}}
+use Rattle.cap_run.specs.{Owned.object_by, Run.{first_special, register_key, with_specials}}
 use Rattle.cap_run.specs.Specials.{cap_in, label_in}
-use Rattle.cap_run_log.specs.declared.lines.RunRegister.{RunRegister}
+use Rattle.cap_run_log.specs.{declared.lines.RunRegister.RunRegister, RunLines.IsRunRegister}
 use Rattle.cap_run.proofs.PlaceLemmas.{choice_under, with-main, with-special}
 use Rattle.cap_run.proofs.puts.put_at.Goals as goal
 
@@ -11,7 +11,7 @@ returns-in-General-clause-state g c =
     let n = c.in-General.number in
     let main = state_of c.args.machine.now in
     let special = cap_in c.args.specials.now in
-    let low : n < first_special = let f = subst IsTargetOf c.in-General.is c.requires.target in omega (arith, f.1) in
+    let low : n < first_special = let f = subst (IsRunRegister 1) c.in-General.is c.requires.target in omega (arith, f.1) in
     ap (λ (a : Account). with_specials a.state special) c.put_labelled.ensures.account
     ∙ fun_ext (with-main main special n c.args.cap low)
     ∙ ap (λ (r : RunRegister). put (with_specials main special) (register_key r) c.args.cap) (sym c.in-General.is)
@@ -23,7 +23,7 @@ returns-in-General-clause-owners g c other =
     let origin = λ (a : Account) (key : ℕ). object_by (a.origin key) in
     let main = origin (account_of c.args.machine.now) in
     let special : ℕ → Option ℕ = λ number. object_by (place_at (label_in c.args.specials.now number)) in
-    let low : n < first_special = let f = subst IsTargetOf c.in-General.is c.requires.target in omega (arith, f.1) in
+    let low : n < first_special = let f = subst (IsRunRegister 1) c.in-General.is c.requires.target in omega (arith, f.1) in
     ap (λ (a : Account). with_specials (origin a) special other) c.put_labelled.ensures.account
     ∙ ap (λ (m : ℕ → Option ℕ). with_specials m special other) (fun_ext (λ k. choice_under object_by (n == k) (place_at c.args.label) ((account_of c.args.machine.now).origin k)))
     ∙ with-main main special n owner low other

@@ -1,6 +1,6 @@
 use Rattle.std.proofs.Common.{◌≡◌, ℕ, List, [], inl, inr, refl, subst, sym}
 use Rattle.cap_streams.specs.Written.{Writes, Writes-nothing}
-use Rattle.cap_run.specs.{declared.ends.RunRefusal.RunRefusal, Run.{IsSource, Run}}
+use Rattle.cap_run.specs.{declared.ends.RunRefusal.RunRefusal, Run.Run}
 use Rattle.cap_run_log.specs.declared.lines.{RunRegister.{RunRegister, TheVariants.{General, Special}}, RunStep.RunStep}
 use Rattle.cap_run_log.specs.RunLines.{IsRunRegister}
 use Rattle.cap_run_report.specs.StepParts.{AreRunStepLines, derived_lines, exchanged_lines, invoked_lines}
@@ -15,35 +15,17 @@ by_variant : (run : Run) (refusal : RunRefusal) (at : ℕ) (old new : List ℕ) 
     → Tells run refusal at old new end it → Tells run refusal at old new end step
 by_variant run refusal at old new end step it is = subst (Tells run refusal at old new end) (sym is)
 
--- a register of a line can be read
-target_read : (register : RunRegister) → IsRunRegister 1 register → IsSource register
+-- a register that can be written can be read
+target_read : (register : RunRegister) → IsRunRegister 1 register → IsRunRegister 0 register
 target_read (General number) is = is.1
 target_read (Special number) is = is
 
-source_read : (register : RunRegister) → IsRunRegister 0 register → IsSource register
-source_read (General number) is = is
-source_read (Special number) is = is
-
 pub put_derived-requires-clause-target : goal.put_derived-requires-clause-target
-put_derived-requires-clause-target g c = target_read c.in-Derive.target (rw c.in-Derive.is at c.requires.step).0
-
-pub put_derived-requires-clause-source : goal.put_derived-requires-clause-source
-put_derived-requires-clause-source g c = source_read c.in-Derive.source (rw c.in-Derive.is at c.requires.step).1
+put_derived-requires-clause-target g c =
+    target_read _ (subst (IsRunRegister 1) (sym c.register-target.ensures.register) c.register-target.ensures.range)
 
 pub put_exchanged-requires-clause-target : goal.put_exchanged-requires-clause-target
-put_exchanged-requires-clause-target g c = (rw c.in-Exchange.is at c.requires.step).0.1
-
-pub put_exchanged-requires-clause-source : goal.put_exchanged-requires-clause-source
-put_exchanged-requires-clause-source g c = (rw c.in-Exchange.is at c.requires.step).1
-
-pub put_exchanged-requires-clause-special : goal.put_exchanged-requires-clause-special
-put_exchanged-requires-clause-special g c = (rw c.in-Exchange.is at c.requires.step).2
-
-pub put_invoked-requires-clause-code : goal.put_invoked-requires-clause-code
-put_invoked-requires-clause-code g c = (rw c.in-Invoke.is at c.requires.step).0
-
-pub put_invoked-requires-clause-datum : goal.put_invoked-requires-clause-datum
-put_invoked-requires-clause-datum g c = (rw c.in-Invoke.is at c.requires.step).1
+put_exchanged-requires-clause-target g c = rw c.number.ensures.number c.number.ensures.range.1
 
 pub put_object_step-requires-clause-register : goal.put_object_step-requires-clause-register
 put_object_step-requires-clause-register g c = rw c.in-Object.is at c.requires.step
@@ -65,23 +47,28 @@ returns-in-Drop-clause-written g c =
 pub returns-in-Derive-clause-written : goal.returns-in-Derive-clause-written
 returns-in-Derive-clause-written g c =
     let run = run_in c.args.machine.now in
+    let step = c.in-Derive.step in
     by_variant run c.args.refusal c.args.at c.args.buffer.now c.put_derived.new.buffer c.put_derived.result _ _ c.in-Derive.is
-    (derived_lines run c.in-Derive.target c.in-Derive.source c.in-Derive.recorded, refl, c.put_derived.ensures.written)
+    (derived_lines run step.target step.source step.result, refl,
+    rw (c.register-target.ensures.register, c.register-source.ensures.register) at c.put_derived.ensures.written)
 
 pub returns-in-Exchange-clause-written : goal.returns-in-Exchange-clause-written
 returns-in-Exchange-clause-written g c =
     let run = run_in c.args.machine.now in
+    let step = c.in-Exchange.step in
     by_variant run c.args.refusal c.args.at c.args.buffer.now c.put_exchanged.new.buffer c.put_exchanged.result _ _ c.in-Exchange.is (
-      exchanged_lines run (General c.in-Exchange.target) (General c.in-Exchange.source) (Special c.in-Exchange.special) c.in-Exchange.recorded c.in-Exchange.special_result,
+      exchanged_lines run (General step.target) (General step.source) (Special step.special) step.result step.special_result,
       refl,
-      c.put_exchanged.ensures.written,
+      rw (c.number.ensures.number, c.number-in-Exchange.ensures.number, c.number-in-Exchange-2.ensures.number) at c.put_exchanged.ensures.written,
     )
 
 pub returns-in-Invoke-clause-written : goal.returns-in-Invoke-clause-written
 returns-in-Invoke-clause-written g c =
     let run = run_in c.args.machine.now in
+    let step = c.in-Invoke.step in
     by_variant run c.args.refusal c.args.at c.args.buffer.now c.put_invoked.new.buffer c.put_invoked.result _ _ c.in-Invoke.is
-    (invoked_lines run c.in-Invoke.code c.in-Invoke.datum c.in-Invoke.code_word c.in-Invoke.datum_word c.args.refusal, refl, c.put_invoked.ensures.written)
+    (invoked_lines run step.code step.datum step.code_word step.datum_word c.args.refusal, refl,
+    rw (c.number-code.ensures.number, c.number-datum.ensures.number) at c.put_invoked.ensures.written)
 
 pub returns-in-Object-clause-written : goal.returns-in-Object-clause-written
 returns-in-Object-clause-written g c =

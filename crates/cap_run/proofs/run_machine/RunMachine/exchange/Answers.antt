@@ -10,24 +10,29 @@ pub returns-then-gets-2-clause-outcome : goal.returns-then-gets-2-clause-outcome
 returns-then-gets-2-clause-outcome g c =
     let s = c.args.self.now in
     let n = c.write_both_alone.new.self in
+    let step = c.args.exchange in
     let limit = step_limit (numbered_run s.machine s.specials s.objects) in
     let state = run_state s.machine s.specials in
     let owners = run_owners s.machine s.specials in
-    let key = register_key (Special c.args.number) in
-    let second = derived_refusal (Special c.args.number) (state c.args.source) c.args.special_recorded in (
-      neither (derived_refusal (General c.args.target) (state key) c.args.recorded) (or_later second limit)
-          (c.gets.ensures.value c.if-gets.true) (neither second limit (c.gets-then-gets.ensures.value c.if-gets-2.true) (sym c.step_limit.ensures.value ∙ none_of c.step_limit.result c.if-is_none.ensures)),
+    let key = register_key (Special step.special) in
+    let second = derived_refusal (Special step.special) (state step.source) step.special_result in
+    let gets = rw (c.number.ensures.number, c.number-2.ensures.number) at c.gets.ensures.value in
+    let gets_special = rw (c.number-2.ensures.number, c.number-3.ensures.number) at c.gets-then-gets.ensures.value in
+    let writes = rw (c.number.ensures.number, c.number-2.ensures.number, c.number-3.ensures.number) at c.write_both_alone.ensures.writes in (
+      neither (derived_refusal (General step.target) (state key) step.result) (or_later second limit)
+          (gets c.if-gets.true) (neither second limit (gets_special c.if-gets-2.true) (sym c.step_limit.ensures.value ∙ none_of c.step_limit.result c.if-is_none.ensures)),
       both-numbered s.machine n.machine s.specials n.specials s.objects n.objects n.specials.sized.1 n.counted s.objects.kept.numbered n.objects.kept.numbered
-          c.args.target key (owners key) (owners c.args.source) c.args.recorded c.args.special_recorded c.write_both_alone.ensures.writes,
+          step.target key (owners key) (owners step.source) step.result step.special_result writes,
     )
 
 pub returns-clause-outcome : goal.returns-clause-outcome
 returns-clause-outcome g c =
     let s = c.args.self.now in
     let n = c.exchange_apart.new.self in
+    let step = c.args.exchange in
     let old = numbered_run s.machine s.specials s.objects in
-    let answers : Cap → Cap → Type 0 = λ one two. Answers (exchange_end old c.args.target c.args.source c.args.number one two)
-    (run_after old (Exchange c.args.target c.args.source c.args.number one two)) false old
+    let answers : Cap → Cap → Type 0 = λ one two. Answers (exchange_end old (record step { result = one; special_result = two }))
+    (run_after old (Exchange (record step { result = one; special_result = two }))) false old
     c.exchange_apart.result (numbered_run n.machine n.specials n.objects) in
-    subst (λ (k : Cap). answers k c.args.special_recorded) c.anew.ensures
+    subst (λ (k : Cap). answers k step.special_result) c.anew.ensures
     (subst (answers c.anew.result) c.anew-2.ensures c.exchange_apart.ensures.outcome)

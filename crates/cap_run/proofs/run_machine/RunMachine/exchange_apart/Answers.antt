@@ -13,22 +13,30 @@ returns-clause-outcome g c =
     let state = run_state s.machine s.specials in
     let owners = run_owners s.machine s.specials in
     let key = register_key (Special c.args.number) in
-    let second = derived_refusal (Special c.args.number) (state c.args.source) c.args.special_recorded in (
+    let second = derived_refusal (Special c.args.number) (state c.args.source) c.args.special_recorded in
+    let value = rw (c.number.ensures.number, c.number-2.ensures.number) at c.refusal_of_derived.ensures.value in
+    let second_value = rw (c.number-2.ensures.number, c.number-3.ensures.number) at c.refusal_of_derived-2.ensures.value in
+    let writes = rw (c.number.ensures.number, c.number-2.ensures.number, c.number-3.ensures.number) at c.write_both.ensures.writes in (
       neither (derived_refusal (General c.args.target) (state key) c.args.recorded) (or_later second limit)
-          (sym c.refusal_of_derived.ensures.value ∙ c.in_default.is) (neither second limit (cc) (sym c.step_limit.ensures.value ∙ c.in_default-step_limit.is)),
+          (sym value ∙ c.in_default.is)
+          (neither second limit (sym second_value ∙ c.in_default-refusal_of_derived.is) (sym c.step_limit.ensures.value ∙ c.in_default-step_limit.is)),
       both-numbered s.machine n.machine s.specials n.specials s.objects n.objects n.specials.sized.1 n.counted s.objects.kept.numbered n.objects.kept.numbered
-          c.args.target key (owners key) (owners c.args.source) c.args.recorded c.args.special_recorded c.write_both.ensures.writes,
+          c.args.target key (owners key) (owners c.args.source) c.args.recorded c.args.special_recorded writes,
     )
 
 pub returns-in-Some-clause-outcome : goal.returns-in-Some-clause-outcome
-returns-in-Some-clause-outcome g c = (first _ _ c.in-Some.refusal (sym c.refusal_of_derived.ensures.value ∙ c.in-Some.is), refl)
+returns-in-Some-clause-outcome g c =
+    let value = rw (c.number.ensures.number, c.number-2.ensures.number) at c.refusal_of_derived.ensures.value in
+    (first _ _ c.in-Some.refusal (sym value ∙ c.in-Some.is), refl)
 
 pub returns-in-Some-step_limit-clause-outcome : goal.returns-in-Some-step_limit-clause-outcome
 returns-in-Some-step_limit-clause-outcome g c =
+    let value = rw (c.number.ensures.number, c.number-2.ensures.number) at c.refusal_of_derived.ensures.value in
+    let second_value = rw (c.number-2.ensures.number, c.number-3.ensures.number) at c.refusal_of_derived-2.ensures.value in
     let limit = sym c.step_limit.ensures.value ∙ c.in-Some-step_limit.is in
     let end = Refused c.in-Some-step_limit.refusal in
-    let second = later _ _ end (sym c.refusal_of_derived-2.ensures.value ∙ c.in_default-refusal_of_derived.is) limit in
-    (later _ _ end (sym c.refusal_of_derived.ensures.value ∙ c.in_default.is) second, refl)
+    let second = later _ _ end (sym second_value ∙ c.in_default-refusal_of_derived.is) limit in
+    (later _ _ end (sym value ∙ c.in_default.is) second, refl)
 
 pub write_both-requires-clause-sound : goal.write_both-requires-clause-sound
 write_both-requires-clause-sound g c =

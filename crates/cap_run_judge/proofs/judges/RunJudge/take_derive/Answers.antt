@@ -1,5 +1,5 @@
 use Rattle.std.proofs.Common.{Ok, refl}
-use Rattle.cap_run_log.specs.RunLines.{derive_line}
+use Rattle.cap_run_log.specs.declared.lines.{RunLine.RunLine, RunStep.RunStep}
 use Rattle.cap_run_judge.specs.Readings.{due_of}
 use Rattle.cap_run_judge.proofs.{FollowLemmas.stage_stays, TurnLemmas.body_answers}
 use Rattle.cap_run_judge.proofs.judges.RunJudge.take_derive.Goals as goal
@@ -8,15 +8,15 @@ use Rattle.cap_run.specs.Machines.{run_in}
 pub returns-in-Ok-clause-some : goal.returns-in-Ok-clause-some
 returns-in-Ok-clause-some g c =
     let s = c.args.self.now in
-    let line = derive_line c.in-Some.derive in (
+    let line = RunLine.Run (RunStep.Derive c.in-Some.derive) in (
       line,
       c.in-Some.ensures.some,
-      rw (c.requires, c.make_derive.ensures.asks)
-          (body_answers s.machine.asks (run_in s.machine) (run_in c.make_derive.new.self) line (Ok tt) refl c.in-Ok.ensures.outcome),
+      rw (c.requires, c.derive.ensures.asks)
+          (body_answers s.machine.asks (run_in s.machine) (run_in c.derive.new.self) line (Ok tt) refl c.in-Ok.ensures.outcome),
     )
 
 pub returns-in-Err-clause-none : goal.returns-in-Err-clause-none
 returns-in-Err-clause-none g c =
     let s = c.args.self.now in
-    stage_stays s.machine.asks c.make_derive.new.self.asks (run_in s.machine) (run_in c.make_derive.new.self) (due_of s.due) (derive_line c.in-Some.derive)
-    c.in-Err.field-0 c.make_derive.ensures.asks c.in-Err.ensures.outcome
+    stage_stays s.machine.asks c.derive.new.self.asks (run_in s.machine) (run_in c.derive.new.self) (due_of s.due) (RunLine.Run (RunStep.Derive c.in-Some.derive))
+    c.in-Err.field-0 c.derive.ensures.asks c.in-Err.ensures.outcome

@@ -1,6 +1,6 @@
 use Rattle.std.proofs.Common.{◌≡◌, ℕ, ◌+◌, ◌-◌, ◌*◌, ◌/◌, ◌%◌, ◌<◌, List, [], ◌∷◌, ◌++◌, ap, refl, sym, ◌∙◌, arith, rules, codes}
 use Rattle.std.proofs.lemmas.{Fmt.decimal_digit, Nat.le_bytes_4}
-use Rattle.cap_run_log.proofs.parts.digit_of.Goals as goal
+use Rattle.cap_run_log.proofs.operands.digit_of.Goals as goal
 
 -- what is taken from the number of four bytes, if it is a digit
 is_name : (word least : ℕ) → word < 4294967296 → least ≡ 812802931

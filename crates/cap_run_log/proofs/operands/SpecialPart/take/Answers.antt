@@ -1,5 +1,5 @@
 use Rattle.std.proofs.Common.{arith}
-use Rattle.cap_run_log.proofs.parts.SpecialPart.take.Goals as goal
+use Rattle.cap_run_log.proofs.operands.SpecialPart.take.Goals as goal
 
 pub returns-clause-some : goal.returns-clause-some
 returns-clause-some c =

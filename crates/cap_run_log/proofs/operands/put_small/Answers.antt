@@ -1,6 +1,6 @@
 use Rattle.std.proofs.{Common.{ap, arith, length}, lemmas.Fmt.decimal_digit}
 use Rattle.cap_run_log.proofs.SmallLemmas.{two_digits, wrote}
-use Rattle.cap_run_log.proofs.parts.put_small.Goals as goal
+use Rattle.cap_run_log.proofs.operands.put_small.Goals as goal
 
 pub put-requires : goal.put-requires
 put-requires c =

@@ -1,0 +1,6 @@
+use Rattle.cap_run_log.proofs.PartLemmas.{no_register_at}
+use Rattle.cap_run_log.proofs.operands.RunTargetPart.take.Goals as goal
+
+pub returns-in_default-take-clause-none : goal.returns-in_default-take-clause-none
+returns-in_default-take-clause-none c =
+    no_register_at 1 c.args.end c.args.bytes.now c.in_default.ensures.none c.in_default-take.ensures.none

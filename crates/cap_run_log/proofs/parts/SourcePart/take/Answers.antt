@@ -1,6 +1,0 @@
-use Rattle.cap_run_log.proofs.PartLemmas.{no_register_at}
-use Rattle.cap_run_log.proofs.parts.SourcePart.take.Goals as goal
-
-pub returns-in_default-take-clause-none : goal.returns-in_default-take-clause-none
-returns-in_default-take-clause-none c value rest begins =
-    no_register_at 0 c.args.end c.args.bytes.now c.in_default.ensures.none c.in_default-take.ensures.none value.0 rest begins
