@@ -15,7 +15,7 @@ use Rattle.cap_turns.proofs.{TurnLemmas.{goes_more, goes_none}, LineLemmas.later
 pub lines-init : goal.lines-init
 lines-init g c = record { taken = ([], refl, goes_none run_turns (stage_of c.args.self.now)); body = c.requires }
 
--- lines of derivations and exchanges, and steps after them
+-- lines that only run logs have, and steps of version 2 after them
 both_taken : {M : Type 0} {ghosts : Ghosts M} (first old : RunStage) (middle : RunJudge M ghosts) (new : RunMachine M ghosts)
     (bytes front more derived here steps rest : List ℕ) → bytes ≡ front ++ more → Goes run_turns first front old → more ≡ derived ++ here
     → Goes run_turns old derived (stage_of middle) → middle.due ≡ dues.Body → here ≡ steps ++ rest
