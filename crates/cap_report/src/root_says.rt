@@ -25,8 +25,8 @@ fn put_high_top(buffer: &mut [u8], at: usize, word: Word) -> usize
     put(buffer, at, b", lies above 2^64, where addresses end")
 }
 
-// Writes why a word isn't sound.
-fn put_unsound_reason(buffer: &mut [u8], at: usize, word: Word) -> usize
+/// Writes why a word isn't sound, at an index of the buffer, and returns the index after it. Nothing else of the buffer changes.
+pub fn put_unsound_reason(buffer: &mut [u8], at: usize, word: Word) -> usize
     requires { at + 72 ≤ length buffer.old }
     ensures written { Writes at (unsound_reason word.0) buffer.old buffer.new result }
     ensures fits { result ≤ at + 72 }

@@ -471,8 +471,9 @@ fn has_bounds_of(given: Word, recorded: Word) -> bool
     one.base == other.base && one.top == other.top
 }
 
-// Writes in what two words differ.
-fn put_words(buffer: &mut [u8], at: usize, by: &[u8], given: Word, recorded: Word) -> usize
+/// Writes in what two words differ, at an index of the buffer, and returns the index after it. Nothing else of the buffer
+/// changes.
+pub fn put_words(buffer: &mut [u8], at: usize, by: &[u8], given: Word, recorded: Word) -> usize
     requires by { length by.now ≤ 17 }
     requires room { at + 200 ≤ length buffer.old }
     ensures written { Writes at (words_text by.now given.0 recorded.0) buffer.old buffer.new result }

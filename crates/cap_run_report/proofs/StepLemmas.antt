@@ -12,22 +12,26 @@ use Rattle.cap_run_log.specs.declared.lines.{RunPlace.RunPlace, RunRegister.TheV
 use Rattle.cap_run.specs.declared.ends.RunRefusal.{RunRefusal}
 use Rattle.cap_run.specs.declared.ends.RunRefusal.TheVariants.{AlreadyFreed, HasOwner, NoObject, NotOwned, Overlaps, OwnerFreed, StillHeld, Usual}
 use Rattle.cap_run.specs.{Run.Run, RunChanges.account_in}
-use Rattle.cap_run_report.specs.{CapParts.{held_lines, register_lines}, LineReports.{AreLineDetails, AreRunDetails, AreUsualDetails, root_lines}, RunSentences.run_sentence}
+use Rattle.cap_run_report.specs.{CapParts.{held_lines, register_lines}, LineReports.{AreLineDetails, AreRunDetails, AreUsualDetails, root_lines}, RunSentences.IsAccessText}
 use Rattle.cap_run_report.specs.StepParts.{AreAccessLines, AreFreeLines, AreLifeLines, AreReachedLines, AreUsualLines, invoked_lines}
 
 -- a step of version 2 that is refused for its owner
-pub usual_other : (run : Run) (step : Step) (refusal : RunRefusal) (access : List ℕ) → ((usual : Refusal) → refusal ≡ Usual usual → ⊥)
+pub usual_other : (run : Run) (step : Step) (refusal : RunRefusal) (access sentence : List ℕ) → ((usual : Refusal) → refusal ≡ Usual usual → ⊥)
     → (let account = account_in run in let shown = shown_of account.state step in AreAccessLines run shown.access refusal access
-    → AreUsualLines run step refusal (lines_of_parts (asked_parts account shown) ++ (access ++ says_line (run_sentence refusal))))
-usual_other run step (Usual usual) access other are = absurd (other usual refl)
-usual_other run step refusal access other are = (access, are, refl)
+    → IsAccessText run shown.access refusal sentence
+    → AreUsualLines run step refusal (lines_of_parts (asked_parts account shown) ++ (access ++ says_line sentence)))
+usual_other run step (Usual usual) access sentence other are is = absurd (other usual refl)
+usual_other run step refusal access sentence other are is = (access, are, sentence, is, refl)
 
-pub usual_told : (run : Run) (step : Step) (refusal : RunRefusal) (access : List ℕ) (account : Account) → account_in run ≡ account
+pub usual_told : (run : Run) (step : Step) (refusal : RunRefusal) (access sentence : List ℕ) (account : Account) → account_in run ≡ account
     → ((usual : Refusal) → refusal ≡ Usual usual → ⊥) → (let shown = shown_of account.state step in AreAccessLines run shown.access refusal access
-    → AreUsualLines run step refusal (lines_of_parts (asked_parts account shown) ++ (access ++ says_line (run_sentence refusal))))
-usual_told run step refusal access account is other =
+    → IsAccessText run shown.access refusal sentence
+    → AreUsualLines run step refusal (lines_of_parts (asked_parts account shown) ++ (access ++ says_line sentence)))
+usual_told run step refusal access sentence account is other =
     subst (λ (a : Account). let shown = shown_of a.state step in AreAccessLines run shown.access refusal access
-    → AreUsualLines run step refusal (lines_of_parts (asked_parts a shown) ++ (access ++ says_line (run_sentence refusal)))) is (usual_other run step refusal access other)
+    → IsAccessText run shown.access refusal sentence
+    → AreUsualLines run step refusal (lines_of_parts (asked_parts a shown) ++ (access ++ says_line sentence))) is
+    (usual_other run step refusal access sentence other)
 
 -- what a register holds is handed out or freed in vain for another reason
 pub life_other : (run : Run) (register : ℕ) (number : Option ℕ) (refusal : RunRefusal) → (refusal ≡ HasOwner → ⊥) → (refusal ≡ AlreadyFreed → ⊥)

@@ -3,5 +3,8 @@ pub mod BadRunLines
 pub mod CapParts
 pub mod LineReports
 pub mod ObjectParts
+pub mod Extents
 pub mod RunSentences
+pub mod DeriveSentences
 pub mod StepParts
+pub mod StepSentences

@@ -12,7 +12,7 @@ use Rattle.cap_run_log.specs.declared.lines.RunLine.TheVariants as lines
 use Rattle.cap_run_log.specs.RunLines.{SpellsRun, run_place_spelling}
 use Rattle.cap_run.specs.declared.ends.RunRefusal.{RunRefusal, TheVariants.Usual}
 use Rattle.cap_run.specs.{Run.Run, RunChanges.{account_in, place_key}}
-use Rattle.cap_run_report.specs.{BadRunLines.{AreBadRunLines, AreFirstRunLines}, CapParts.held_lines, RunSentences.run_sentence}
+use Rattle.cap_run_report.specs.{BadRunLines.{AreBadRunLines, AreFirstRunLines}, CapParts.held_lines, StepSentences.IsStepText}
 use Rattle.cap_run_report.specs.StepParts.{AreRunStepLines, AreUsualLines}
 
 -- a root: what its place holds already, or what its word stands for, with its length
@@ -28,7 +28,8 @@ abbrev pub AreKnownLines : Run → RunLine → RunRefusal → List ℕ → Type 
 AreKnownLines run (lines.Root place word) refusal told = told ≡ root_lines run place word refusal
 AreKnownLines run (lines.Step step) refusal told = AreUsualLines run step refusal told
 AreKnownLines run (lines.Run step) refusal told =
-    (details : List ℕ) × AreRunStepLines run step refusal details × (told ≡ details ++ says_line (run_sentence refusal))
+    (details : List ℕ) × AreRunStepLines run step refusal details × (sentence : List ℕ) × IsStepText run step refusal sentence
+    × (told ≡ details ++ says_line sentence)
 AreKnownLines run line refusal told = told ≡ []
 
 -- what the checks of a line saw, if it has a form

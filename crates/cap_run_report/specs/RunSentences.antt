@@ -1,25 +1,133 @@
--- Why a step of a run is refused, in a sentence (this profile's own).
-use Rattle.std.specs.Prelude.{ℕ, List, codes}
-use Rattle.cap_ops.specs.{declared.refusal.Refusal.TheVariants.{AuthorityUntagged, SourceUntagged, WrongResult}, Refusals.refusal_name}
-use Rattle.cap_run.specs.declared.ends.RunRefusal.{RunRefusal, TheVariants.{Overlaps, UnsoundResult, BeyondSource, SealChanged, NotInvokable, NoCapability, Usual}}
-use Rattle.cap_run.specs.declared.ends.RunRefusal.TheVariants.{HasOwner, StillHeld, NoOwner, AlreadyFreed, OwnerFreed, NoObject, NotOwned}
+-- Why a step on objects is refused, or an access for its owner, in a sentence (this profile's own).
+use Rattle.std.specs.Prelude.{◌≡◌, ◌⊎◌, ℕ, ◌+◌, ◌-◌, nat_lt, Bool, true, false, if◌then◌else◌, List, [], ◌++◌, Option, Some, None, codes, decimal}
+use Rattle.cap_word.specs.{declared.word.Cap.Cap, Fields.otype_of}
+use Rattle.cap_bounds.specs.Bounds.{base_of, top_of}
+use Rattle.cap_machine.specs.declared.shown.Reached.{Reached}
+use Rattle.cap_objects.specs.declared.objects.Object.{Object}
+use Rattle.cap_run_log.specs.declared.lines.RunPlace.{RunPlace, TheVariants.General}
+use Rattle.cap_run_log.specs.RunLines.{run_place_spelling}
+use Rattle.cap_run.specs.Run.{Run}
+use Rattle.cap_run.specs.declared.ends.RunRefusal.{RunRefusal, TheVariants.{HasOwner, NoCapability, NotOwned, Overlaps, OwnerFreed, StillHeld}}
+use Rattle.cap_run.specs.declared.ends.RunRefusal.TheVariants.{AlreadyFreed, NoObject, NoOwner}
+use Rattle.cap_report.specs.Sentences.{number_text}
+use Rattle.cap_run_report.specs.ObjectParts.{HasNoHolder, IsFirstHolder, IsLeastMet, MeetsNone}
+use Rattle.cap_run_report.specs.Extents.{asked_extent, meant}
 
--- a reason that only runs have, or one for which a step that only runs have is refused
-abbrev pub run_sentence : RunRefusal → List ℕ
-run_sentence Overlaps = codes "its extent shares an address with that of a live object"
-run_sentence UnsoundResult = codes "the recorded word isn't sound"
-run_sentence BeyondSource = codes "the recorded bounds or permissions go beyond the source's"
-run_sentence SealChanged = codes "the recorded word doesn't keep the source's seal"
-run_sentence NotInvokable = codes "the two aren't a sealed pair for CInvoke"
-run_sentence NoCapability = codes "the register holds no unsealed capability"
-run_sentence HasOwner = codes "an object owns what the register holds"
-run_sentence StillHeld = codes "its extent shares an address with that of a freed object that a place holds"
-run_sentence NoOwner = codes "no object owns what the register holds"
-run_sentence AlreadyFreed = codes "the object was freed before"
-run_sentence OwnerFreed = codes "the object that owns the authority was freed"
-run_sentence NoObject = codes "no object with this number was handed out"
-run_sentence NotOwned = codes "the authority has no owner, and the access touches a live object"
-run_sentence (Usual SourceUntagged) = codes "the source has no tag"
-run_sentence (Usual AuthorityUntagged) = codes "the code or the data has no tag"
-run_sentence (Usual WrongResult) = codes "a recorded word isn't that of the code or the data without its seal"
-run_sentence (Usual refusal) = refusal_name refusal
+-- the line that freed an object, if one did, in a log with so many roots
+abbrev pub freed_by : ℕ → Object → List ℕ
+freed_by roots object = codes " and freed by line " ++ decimal (2 + roots + object.freed_at)
+
+abbrev pub freed_text : ℕ → Object → List ℕ
+freed_text roots object = if object.freed then freed_by roots object else []
+
+-- an object, the line that allocated it, and the line that freed it
+unfoldable pub object_text : ℕ → Object → List ℕ
+object_text roots object =
+    codes "object " ++ decimal object.number ++ codes ", allocated by line " ++ decimal (2 + roots + object.handed_at) ++ freed_text roots object
+
+-- an object that isn't present
+unfoldable pub gone_text : ℕ → List ℕ
+gone_text number = codes "object " ++ decimal number ++ codes ", freed and held by no place"
+
+-- the object with a number, present or not
+abbrev pub found_text : ℕ → ℕ → Option Object → List ℕ
+found_text roots number (Some object) = object_text roots object
+found_text roots number None = gone_text number
+
+-- the object of this number, if one is meant
+abbrev pub owner_text : Run → Option ℕ → List ℕ
+owner_text run (Some number) = found_text run.roots number (run.objects number)
+owner_text run None = []
+
+-- an object owns a place; or it isn't live
+abbrev pub owns_text : Run → Option ℕ → RunPlace → List ℕ
+owns_text run owner place = owner_text run owner ++ codes ", owns " ++ run_place_spelling place
+
+abbrev pub dead_text : Run → Option ℕ → List ℕ
+dead_text run owner = owner_text run owner ++ codes ", isn't live"
+
+-- a place holds no unsealed capability
+abbrev pub capability_text : RunPlace → Cap → List ℕ
+capability_text place cap =
+    run_place_spelling place
+    ++ (if cap.tag then codes " is sealed with type " ++ number_text (otype_of cap.word.0) else codes " has no tag")
+
+-- no object owns a place
+abbrev pub empty_text : ℕ → List ℕ
+empty_text w = if nat_lt (base_of w) (top_of w) then [] else codes ": its bounds are empty; free the object by its number"
+
+abbrev pub unowned_text : RunPlace → Cap → List ℕ
+unowned_text place cap = codes "no object owns " ++ run_place_spelling place ++ empty_text cap.word.0
+
+-- no line allocated the object with a number
+abbrev pub unallocated_text : Run → Option ℕ → List ℕ
+unallocated_text run (Some number) =
+    codes "no line allocated object " ++ decimal number ++ codes "; the count of objects is " ++ decimal run.count
+unallocated_text run None = []
+
+-- what asks for an extent: a place's bounds, or an object that is widened to these
+abbrev pub asking_text : RunPlace → Option ℕ → List ℕ
+asking_text place None = run_place_spelling place ++ codes "'s bounds overlap "
+asking_text place (Some number) =
+    codes "object " ++ decimal number ++ codes ", widened to " ++ run_place_spelling place ++ codes "'s bounds, overlaps "
+
+-- how many places hold an object beside the first
+abbrev pub others_text : ℕ → List ℕ
+others_text held = if nat_lt 1 held then codes ", as " ++ decimal (held - 1) ++ codes " more do" else []
+
+-- the first place that holds a freed object
+abbrev pub IsHolderText : Run → Object → List ℕ → Type 0
+IsHolderText run object text =
+    ((place : RunPlace) × IsFirstHolder run object.number place
+    × (text ≡ codes "; " ++ run_place_spelling place ++ codes " still holds it" ++ others_text object.held))
+    ⊎ (HasNoHolder run object.number × (text ≡ []))
+
+-- the object whose extent an interval shares an address with, of several that of the least base; with its holder, if it is
+-- freed
+abbrev pub HasHolderText : Run → Bool → Object → List ℕ → Type 0
+HasHolderText run true object text = IsHolderText run object text
+HasHolderText run false object text = text ≡ []
+
+abbrev pub IsMetText : Run → Option ℕ → Bool → ℕ → ℕ → List ℕ → Type 0
+IsMetText run left_out freed base top text =
+    ((object : Object) × IsLeastMet run left_out freed base top (run.count + 1) object
+    × (holder : List ℕ) × HasHolderText run freed object holder × (text ≡ object_text run.roots object ++ holder))
+    ⊎ (MeetsNone run left_out freed base top (run.count + 1) × (text ≡ []))
+
+-- an interval that can't be an extent, and the object that it meets
+abbrev pub IsExtentText : Run → Option ℕ → Bool → Option (ℕ × ℕ) → List ℕ → Type 0
+IsExtentText run left_out freed None text = text ≡ []
+IsExtentText run left_out freed (Some extent) text = IsMetText run left_out freed extent.0 extent.1 text
+
+abbrev pub IsAskedText : Run → ℕ → Option ℕ → Bool → List ℕ → Type 0
+IsAskedText run register number freed text =
+    (met : List ℕ) × IsExtentText run number freed (asked_extent run register number) met × (text ≡ asking_text (General register) number ++ met)
+
+-- why what a register holds is handed out or freed in vain, with the number of an object or without
+abbrev pub IsLifeText : Run → ℕ → Option ℕ → RunRefusal → List ℕ → Type 0
+IsLifeText run register number NoCapability text = text ≡ capability_text (General register) (run.state register)
+IsLifeText run register number HasOwner text = text ≡ owns_text run (run.owners register) (General register)
+IsLifeText run register number NoOwner text = text ≡ unowned_text (General register) (run.state register)
+IsLifeText run register number AlreadyFreed text = text ≡ dead_text run (meant run register number)
+IsLifeText run register number NoObject text = text ≡ unallocated_text run number
+IsLifeText run register number Overlaps text = IsAskedText run register number false text
+IsLifeText run register number StillHeld text = IsAskedText run register number true text
+IsLifeText run register number refusal text = text ≡ []
+
+-- why the object of a number is freed in vain
+abbrev pub free_text : Run → ℕ → RunRefusal → List ℕ
+free_text run number AlreadyFreed = dead_text run (Some number)
+free_text run number NoObject = unallocated_text run (Some number)
+free_text run number refusal = []
+
+-- why an access is refused for its owner
+abbrev pub IsReachedText : Run → Reached → RunRefusal → List ℕ → Type 0
+IsReachedText run access OwnerFreed text = text ≡ owns_text run (run.owners access.authority) (General access.authority)
+IsReachedText run access NotOwned text =
+    (met : List ℕ) × IsMetText run None false access.address (access.address + access.size) met
+    × (text ≡ codes "no object owns " ++ run_place_spelling (General access.authority) ++ codes ", and the access touches " ++ met)
+IsReachedText run access refusal text = text ≡ []
+
+abbrev pub IsAccessText : Run → Option Reached → RunRefusal → List ℕ → Type 0
+IsAccessText run None refusal text = text ≡ []
+IsAccessText run (Some access) refusal text = IsReachedText run access refusal text

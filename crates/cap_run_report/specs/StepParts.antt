@@ -1,12 +1,10 @@
 -- What is told of a step of a run that is refused (this profile's own).
-use Rattle.std.specs.Prelude.{◌≡◌, ℕ, ◌+◌, min, max, Bool, true, false, ◌&&◌, if◌then◌else◌, List, [], ◌++◌, Option, Some, None, is_some, option_map, codes, decimal}
+use Rattle.std.specs.Prelude.{◌≡◌, ℕ, ◌+◌, Bool, true, false, ◌&&◌, if◌then◌else◌, List, [], ◌++◌, Option, Some, None, is_some, codes, decimal}
 use Rattle.cap_word.specs.declared.word.{Cap.Cap, Word.Word}
-use Rattle.cap_bounds.specs.Bounds.{base_of, top_of}
 use Rattle.cap_ops.specs.declared.refusal.Refusal.{TheVariants.WrongResult}
 use Rattle.cap_ops.specs.{Checks.first_of, DerivedWords.{derive_checks, is_opened}, Permissions.{unsealed_type, with_type}}
 use Rattle.cap_log.specs.declared.kinds.Step.{Step}
 use Rattle.cap_machine.specs.{declared.shown.Reached.Reached, Shown.shown_of, States.tagged}
-use Rattle.cap_objects.specs.Objects.{top_of_extent}
 use Rattle.cap_run_log.specs.declared.lines.RunPlace.{RunPlace}
 use Rattle.cap_run_log.specs.declared.lines.RunPlace.TheVariants as places
 use Rattle.cap_run_log.specs.declared.lines.RunRegister.{RunRegister, TheVariants.{General, Special}}
@@ -18,7 +16,7 @@ use Rattle.cap_run.specs.declared.ends.RunRefusal.TheVariants.{AlreadyFreed, Has
 use Rattle.cap_run.specs.{Run.{Run, register_key}, RunChanges.account_in}
 use Rattle.cap_report.specs.{Parts.lines_of_parts, StepLines.{asked_parts, step_lines}}
 use Rattle.cap_run_report.specs.{CapParts.{held_lines, owned_lines, place_of, register_lines}, ObjectParts.{AreExtentLines, AreMetLines, AreNumberLines, AreOwnerLines}}
-use Rattle.cap_run_report.specs.RunSentences.{run_sentence}
+use Rattle.cap_run_report.specs.{Extents.{asked_extent, meant}, RunSentences.IsAccessText}
 
 -- what is told of the access of a step that is refused for its owner: the freed object that owns the authority, or the live
 -- one that it touches
@@ -37,8 +35,8 @@ AreUsualLines run step (Usual refusal) told = told ≡ step_lines (account_in ru
 AreUsualLines run step refusal told =
     let account = account_in run in
     let shown = shown_of account.state step in
-    (access : List ℕ) × AreAccessLines run shown.access refusal access
-    × (told ≡ lines_of_parts (asked_parts account shown) ++ (access ++ says_line (run_sentence refusal)))
+    (access : List ℕ) × AreAccessLines run shown.access refusal access × (sentence : List ℕ) × IsAccessText run shown.access refusal sentence
+    × (told ≡ lines_of_parts (asked_parts account shown) ++ (access ++ says_line sentence))
 
 -- a source, and what the line records for the register that gets it
 abbrev pub derived_lines : Run → RunRegister → RunRegister → Cap → List ℕ
@@ -71,20 +69,7 @@ invoked_lines run code datum code_word datum_word (Usual WrongResult) =
 invoked_lines run code datum code_word datum_word refusal =
     register_lines (codes "code") run (General code) ++ (register_lines (codes "data") run (General datum) ++ [])
 
--- the object that a line means: that of its number, or the owner of its register
-abbrev pub meant : Run → ℕ → Option ℕ → Option ℕ
-meant run register None = run.owners register
-meant run register (Some number) = Some number
-
--- the interval that a line asks for as an extent: the bounds of what its register holds, and with a number the least that
--- holds these and the extent of that object
-abbrev pub asked_extent : Run → ℕ → Option ℕ → Option (ℕ × ℕ)
-asked_extent run register None = let w = (run.state register).word.0 in Some (base_of w, top_of w)
-asked_extent run register (Some number) =
-    let w = (run.state register).word.0 in
-    option_map (λ object. (min object.base (base_of w), max (top_of_extent object) (top_of w))) (run.objects number)
-
--- what is told of that interval
+-- what is told of the interval that a line asks for as an extent
 abbrev pub AreAskedLines : Run → Option ℕ → Bool → Option (ℕ × ℕ) → List ℕ → Type 0
 AreAskedLines run left_out freed None told = told ≡ []
 AreAskedLines run left_out freed (Some extent) told = AreExtentLines run left_out freed extent.0 extent.1 told

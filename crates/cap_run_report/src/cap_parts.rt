@@ -47,9 +47,9 @@ pub fn put_held(buffer: &mut [u8], at: usize, name: &[u8], place: RunPlace, cap:
     put_meaning_lines(buffer, at, name, cap.word)
 }
 
-// Writes a place as a run log spells it.
+/// Writes a place as a run log spells it.
 #[tactic(auto, using(cap_log::proofs::ElementLemmas::few_digits))]
-fn put_run_place(buffer: &mut [u8], at: usize, place: RunPlace) -> usize
+pub fn put_run_place(buffer: &mut [u8], at: usize, place: RunPlace) -> usize
     requires place { IsReadable place }
     requires room { at + 17 ≤ length buffer.old }
     ensures text { Writes at (run_place_spelling place) buffer.old buffer.new result }

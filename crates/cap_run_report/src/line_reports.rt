@@ -10,8 +10,8 @@ ghost use Rattle.cap_run.specs.Machines.{run_in};
 
 use crate::bad_run_lines::{put_bad_run_header, put_bad_run_line};
 use crate::cap_parts::{put_held, put_taken_says};
-use crate::run_sentences::run_sentence;
 use crate::step_parts::{put_run_step, put_usual};
+use crate::step_sentences::put_run_says;
 use cap_bounds::length_of;
 use cap_machine::Refusal;
 use cap_report::fault_reports::put_counted_lines;
@@ -20,7 +20,7 @@ use cap_run::{RunMachine, RunRefusal};
 use cap_run_log::{RunLine, RunPlace, read_run_line};
 use cap_streams::judging::FaultLine;
 use cap_texts::shown_bytes::put_shown_line;
-use cap_texts::text_lines::{put_hex_line, put_line, put_says};
+use cap_texts::text_lines::{put_hex_line, put_line};
 use cap_texts::wrong_lines::{SHORT_LINE, cut_hint, place_hint, put_header_lines, put_hint_line};
 use cap_word::{Cap, Word};
 use tagmem::TaggedStore;
@@ -145,7 +145,7 @@ fn put_known<M: TaggedStore>(
         RunLine::Step(step) => put_usual(machine, buffer, at, &step, refusal),
         RunLine::Run(step) => {
             let at = put_run_step(machine, buffer, at, &step, refusal);
-            put_says(buffer, at, run_sentence(refusal))
+            put_run_says(machine, buffer, at, &step, refusal)
         }
         RunLine::Version | RunLine::Plain(_) | RunLine::Mode(_) | RunLine::End(_) => at,
     }

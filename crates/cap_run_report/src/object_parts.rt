@@ -191,8 +191,8 @@ fn is_met(left_out: Option<u32>, freed: bool, base: u64, top: u128, object: Obje
         && u128::from(base.max(object.base)) < top.min(object.top())
 }
 
-// The object of least base among those that an interval meets.
-fn least_met<M: TaggedStore>(
+/// The object of least base among those that an interval meets.
+pub fn least_met<M: TaggedStore>(
     machine: &RunMachine<M>,
     left_out: Option<u32>,
     freed: bool,

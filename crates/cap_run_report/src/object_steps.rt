@@ -3,7 +3,7 @@
 ghost use Rattle.std.specs.Prelude.{◌≡◌, ◌+◌, ◌≤◌, ℕ, List, length};
 ghost use Rattle.cap_streams.specs.Written.{Writes};
 ghost use Rattle.cap_log.specs.Lines.{IsTarget};
-ghost use Rattle.cap_run_report.specs.StepParts.{AreAskedLines, AreFreeLines, AreLifeLines, AreObjectStepLines, asked_extent, meant};
+ghost use Rattle.cap_run_report.specs.{Extents.{asked_extent, meant}, StepParts.{AreAskedLines, AreFreeLines, AreLifeLines, AreObjectStepLines}};
 ghost use Rattle.cap_run.specs.Machines.{run_in};
 
 use crate::cap_parts::{put_owned, put_register};
@@ -14,8 +14,8 @@ use cap_run_log::RunRegister;
 use cap_texts::text_lines::put_decimal_line;
 use tagmem::TaggedStore;
 
-// The interval that a line asks for as an extent.
-fn asked_extent<M: TaggedStore>(
+/// The interval that a line asks for as an extent.
+pub fn asked_extent<M: TaggedStore>(
     machine: &RunMachine<M>,
     register: u8,
     number: Option<u32>,
@@ -54,8 +54,12 @@ fn put_asked<M: TaggedStore>(
     }
 }
 
-// The object that a line means: that of its number, or the owner of its register.
-fn meant<M: TaggedStore>(machine: &RunMachine<M>, register: u8, number: Option<u32>) -> Option<u32>
+/// The object that a line means: that of its number, or the owner of its register.
+pub fn meant<M: TaggedStore>(
+    machine: &RunMachine<M>,
+    register: u8,
+    number: Option<u32>,
+) -> Option<u32>
     requires { IsTarget register }
     ensures { result ≡ meant (run_in machine.now) register number }
 {

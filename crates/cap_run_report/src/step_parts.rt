@@ -15,14 +15,13 @@ ghost use Rattle.cap_run.specs.Machines.{run_in};
 use crate::cap_parts::{place_of, put_held, put_register};
 use crate::object_parts::{put_met, put_owner};
 use crate::object_steps::{put_free_step, put_object_step};
-use crate::run_sentences::run_sentence;
+use crate::run_sentences::put_access_says;
 use cap_log::Step;
 use cap_machine::{Reached, Refusal};
 use cap_ops::{UNSEALED_TYPE, derive_fault};
 use cap_report::step_lines::{put_asked, put_step_lines};
 use cap_run::{RunMachine, RunRefusal};
 use cap_run_log::{RunPlace, RunRegister, RunStep};
-use cap_texts::text_lines::put_says;
 use cap_word::{Cap, Word};
 use tagmem::TaggedStore;
 
@@ -74,7 +73,7 @@ pub fn put_usual<M: TaggedStore>(
             let shown = main.shown(step);
             let at = put_asked(main, false, &shown, buffer, at);
             let at = put_access(machine, buffer, at, shown.access, refusal);
-            put_says(buffer, at, run_sentence(refusal))
+            put_access_says(machine, buffer, at, shown.access, refusal)
         }
     }
 }
@@ -98,8 +97,8 @@ fn put_derived<M: TaggedStore>(
     put_held(buffer, at, b"recorded", place_of(target), recorded)
 }
 
-// Whether a register can't get what is derived from a source.
-fn is_refused(source: Cap, recorded: Cap) -> bool
+/// Whether a register can't get what is derived from a source.
+pub fn is_refused(source: Cap, recorded: Cap) -> bool
     ensures { result ≡ is_refused source recorded }
 {
     recorded.tag && derive_fault(source, recorded.word, false).is_some()
@@ -130,8 +129,8 @@ fn put_exchanged<M: TaggedStore>(
     }
 }
 
-// A word without its seal.
-fn opened(word: Word) -> Word
+/// A word without its seal.
+pub fn opened(word: Word) -> Word
     ensures { result.0 ≡ with_type word.0 unsealed_type }
 {
     let high = (word.0 >> 109) << 109;
@@ -139,8 +138,8 @@ fn opened(word: Word) -> Word
     Word(high + (u128::from(UNSEALED_TYPE) << 91) + low)
 }
 
-// Whether a word is another without its seal, at its address or that with bit 0 cleared.
-fn is_opened(source: Word, word: Word) -> bool
+/// Whether a word is another without its seal, at its address or that with bit 0 cleared.
+pub fn is_opened(source: Word, word: Word) -> bool
     ensures { result ≡ is_opened source.0 word.0 }
 {
     let open_word = opened(source).0;

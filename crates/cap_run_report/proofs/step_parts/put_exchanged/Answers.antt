@@ -1,4 +1,4 @@
-use Rattle.std.proofs.{Common.{◌≡◌, ◌∙◌, ℕ, List, ap, subst, sym, true, false}, lemmas.Bool.{cond-true, cond-false}}
+use Rattle.std.proofs.{Common.{◌∙◌, ℕ, List, ap, subst, sym}, lemmas.Bool.{cond-true, cond-false}}
 use Rattle.cap_streams.specs.Written.{Writes}
 use Rattle.cap_word.specs.declared.word.Cap.{Cap}
 use Rattle.cap_run.specs.Run.{register_key}

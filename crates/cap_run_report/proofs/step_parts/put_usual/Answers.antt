@@ -5,7 +5,7 @@ use Rattle.cap_machine.specs.declared.shown.Shown.{Shown}
 use Rattle.cap_report.specs.{Parts.lines_of_parts, StepLines.{asked_parts, step_lines}}
 use Rattle.cap_texts.specs.TextLines.{says_line}
 use Rattle.cap_run.specs.{declared.ends.RunRefusal.RunRefusal, RunChanges.without_origins}
-use Rattle.cap_run_report.specs.{RunSentences.run_sentence, StepParts.{AreAccessLines, AreUsualLines}}
+use Rattle.cap_run_report.specs.{RunSentences.IsAccessText, StepParts.{AreAccessLines, AreUsualLines}}
 use Rattle.cap_run_report.proofs.StepLemmas.{usual_told}
 use Rattle.cap_run_report.proofs.step_parts.put_usual.Goals as goal
 use Rattle.cap_run.specs.Machines.{run_in}
@@ -34,12 +34,13 @@ returns-in_default g c =
     let are = subst (λ (s : Shown). AreAccessLines run s.access c.args.refusal access.0) c.shown-shown.ensures.shown access.1 in
     let first = c.put_asked-at.ensures.fits in
     let second = c.put_access-at.ensures.fits in
-    let says = rw c.run_sentence.ensures.sentence at c.put_says.ensures.written in
+    let says = c.put_access_says.ensures.written in
+    let is = subst (λ (s : Shown). IsAccessText run s.access c.args.refusal says.0) c.shown-shown.ensures.shown says.1 in
     record {
       written = (
-        lines_of_parts (asked_parts account (shown_of account.state step)) ++ (access.0 ++ says_line (run_sentence c.args.refusal)),
-        usual_told run step c.args.refusal access.0 account c.machine-main.ensures.account c.in_default.not-Usual are,
-        asked ⨾ (access.2 ⨾ says),
+        lines_of_parts (asked_parts account (shown_of account.state step)) ++ (access.0 ++ says_line says.0),
+        usual_told run step c.args.refusal access.0 says.0 account c.machine-main.ensures.account c.in_default.not-Usual are is,
+        asked ⨾ (access.2 ⨾ says.2),
       );
-      fits = omega (arith, first, second, c.put_says.ensures.fits, c.run_sentence.ensures.short);
+      fits = omega (arith, first, second, c.put_access_says.ensures.fits);
     }
