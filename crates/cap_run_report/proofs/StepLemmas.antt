@@ -8,7 +8,8 @@ use Rattle.cap_log.specs.declared.kinds.Step.{Step}
 use Rattle.cap_machine.specs.{Accounts.Account, declared.shown.Reached.Reached, Shown.shown_of, States.tagged}
 use Rattle.cap_report.specs.{Parts.lines_of_parts, Says.unsound_text, StepLines.asked_parts}
 use Rattle.cap_texts.specs.TextLines.{says_line, text_line}
-use Rattle.cap_run_log.specs.declared.lines.{RunPlace.RunPlace, RunRegister.TheVariants.General}
+use Rattle.cap_run_log.specs.declared.lines.{RunPlace.RunPlace, RunRegister.{RunRegister, TheVariants.{General, Special}}}
+use Rattle.cap_run_log.specs.RunLines.{IsRunRegister}
 use Rattle.cap_run.specs.declared.ends.RunRefusal.{RunRefusal}
 use Rattle.cap_run.specs.declared.ends.RunRefusal.TheVariants.{AlreadyFreed, HasOwner, NoObject, NotOwned, Overlaps, OwnerFreed, StillHeld, Usual}
 use Rattle.cap_run.specs.{Run.Run, RunChanges.account_in}
@@ -95,3 +96,8 @@ pub invoked_usual : (run : Run) (code : ℕ) (datum : ℕ) (code_word : Word) (d
     ≡ register_lines (codes "code") run (General code) ++ (register_lines (codes "data") run (General datum) ++ [])
 invoked_usual run code datum code_word datum_word WrongResult other = absurd (other refl)
 invoked_usual run code datum code_word datum_word refusal other = refl
+
+-- a register that can be written can be read
+pub target_read : (register : RunRegister) → IsRunRegister 1 register → IsRunRegister 0 register
+target_read (General number) is = is.1
+target_read (Special number) is = is

@@ -56,10 +56,11 @@ invoked_text run code datum code_word datum_word refusal = []
 
 -- a step that only runs have
 abbrev pub IsStepText : Run → RunStep → RunRefusal → List ℕ → Type 0
-IsStepText run (steps.Derive target source result) refusal text = text ≡ derived_text run target source result refusal
-IsStepText run (steps.Exchange target source special result special_result) refusal text =
-    text ≡ exchanged_text run (General target) (General source) (Special special) result special_result refusal
-IsStepText run (steps.Invoke code datum code_word datum_word) refusal text = text ≡ invoked_text run code datum code_word datum_word refusal
+IsStepText run (steps.Derive step) refusal text = text ≡ derived_text run step.target step.source step.result refusal
+IsStepText run (steps.Exchange step) refusal text =
+    text ≡ exchanged_text run (General step.target) (General step.source) (Special step.special) step.result step.special_result refusal
+IsStepText run (steps.Invoke step) refusal text =
+    text ≡ invoked_text run step.code step.datum step.code_word step.datum_word refusal
 IsStepText run (steps.Object register) refusal text = IsLifeText run register None refusal text
 IsStepText run (steps.Widen register number) refusal text = IsLifeText run register (Some number) refusal text
 IsStepText run (steps.FreeOwner register) refusal text = IsLifeText run register None refusal text

@@ -207,34 +207,28 @@ fn put_step_text<M: TaggedStore>(
     ensures fits { result ≤ at + 288 }
 {
     match *step {
-        RunStep::Derive(target, source, recorded) => {
-            put_derived_text(machine, buffer, at, target, source, recorded, refusal)
+        RunStep::Derive(step) => {
+            let (target, source) = (step.target.register(), step.source.register());
+            put_derived_text(machine, buffer, at, target, source, step.result, refusal)
         }
-        RunStep::Exchange {
-            target,
-            source,
-            special,
-            result: recorded,
-            special_result,
-        } => put_exchanged_text(
+        RunStep::Exchange(step) => put_exchanged_text(
             machine,
             buffer,
             at,
-            RunRegister::General(target),
-            RunRegister::General(source),
-            RunRegister::Special(special),
-            recorded,
-            special_result,
+            RunRegister::General(step.target.number()),
+            RunRegister::General(step.source.number()),
+            RunRegister::Special(step.special.number()),
+            step.result,
+            step.special_result,
             refusal,
         ),
-        RunStep::Invoke {
-            code,
-            datum,
-            code_word,
-            datum_word,
-        } => put_invoked_text(
-            machine, buffer, at, code, datum, code_word, datum_word, refusal,
-        ),
+        RunStep::Invoke(step) => {
+            let (code, datum) = (step.code.number(), step.datum.number());
+            let (code_word, datum_word) = (step.code_word, step.datum_word);
+            put_invoked_text(
+                machine, buffer, at, code, datum, code_word, datum_word, refusal,
+            )
+        }
         RunStep::Object(register) => { put_life_text(machine, buffer, at, register, None, refusal) }
         RunStep::Widen(register, number) => {
             put_life_text(machine, buffer, at, register, Some(number), refusal)

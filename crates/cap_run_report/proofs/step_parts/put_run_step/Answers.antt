@@ -4,6 +4,7 @@ use Rattle.cap_run.specs.{declared.ends.RunRefusal.RunRefusal, Run.Run}
 use Rattle.cap_run_log.specs.declared.lines.{RunRegister.{RunRegister, TheVariants.{General, Special}}, RunStep.RunStep}
 use Rattle.cap_run_log.specs.RunLines.{IsRunRegister}
 use Rattle.cap_run_report.specs.StepParts.{AreRunStepLines, derived_lines, exchanged_lines, invoked_lines}
+use Rattle.cap_run_report.proofs.StepLemmas.{target_read}
 use Rattle.cap_run_report.proofs.step_parts.put_run_step.Goals as goal
 use Rattle.cap_run.specs.Machines.{run_in}
 
@@ -14,11 +15,6 @@ Tells run refusal at old new end step = (told : List ℕ) × AreRunStepLines run
 by_variant : (run : Run) (refusal : RunRefusal) (at : ℕ) (old new : List ℕ) (end : ℕ) (step it : RunStep) → step ≡ it
     → Tells run refusal at old new end it → Tells run refusal at old new end step
 by_variant run refusal at old new end step it is = subst (Tells run refusal at old new end) (sym is)
-
--- a register that can be written can be read
-target_read : (register : RunRegister) → IsRunRegister 1 register → IsRunRegister 0 register
-target_read (General number) is = is.1
-target_read (Special number) is = is
 
 pub put_derived-requires-clause-target : goal.put_derived-requires-clause-target
 put_derived-requires-clause-target g c =
