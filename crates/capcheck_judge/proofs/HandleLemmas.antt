@@ -4,9 +4,8 @@ use Rattle.std.proofs.{Common.{None, Option, is_some, Some}, lemmas.Bool.{false�
 use Rattle.cap_word.specs.declared.word.Cap.{Cap}
 use Rattle.cap_log.specs.{declared.{kinds.Step.Step, lines.{Line.Line, Place.Place}}, Lines.{IsInRange, IsStepInRange, spelling}}
 use Rattle.cap_halves.specs.PassedRuns.{IsStepFrom}
-use Rattle.cap_judge.specs.{declared.verdict.Verdict.Verdict, Readings.BeginsWhole}
-use Rattle.cap_judge.specs.Readings.{HasRead, Known, Stands, at, stage_of, verdict_so_far}
-use Rattle.cap_judge.specs.Turns.{unread}
+use Rattle.cap_judge.specs.declared.verdict.Verdict.{Verdict}
+use Rattle.cap_judge.specs.{Readings.{BeginsWhole, HasRead, Known, Stands, at, stage_of, verdict_so_far}, Turns.{unread, log_turns}}
 use Rattle.cap_judge.proofs.TurnLaws.{lacks_memory, none_so_far, reached, stands_so_far}
 use Rattle.cap_report.specs.declared.answers.Answer.{Answer}
 use Rattle.capcheck_judge.specs.Handles.{AnswersSoFar, IsPassed, Standing, HandsOver, HandsOverStep, HandsOverText, HeldJudge, JudgeIn, Holds, known_in, origin_behind}
@@ -15,7 +14,6 @@ use Rattle.capcheck_judge.specs.{Handles.state_behind, Holding.IsNoStep, Takings
 use Rattle.capcheck_judge.proofs.HoldingLemmas.{any_state, few, no_line, none_taken, not_five, there, unheld}
 use Rattle.cap_turns.specs.Readings.{Follows}
 use Rattle.cap_turns.proofs.FollowLemmas.{follows_on}
-use Rattle.cap_judge.specs.Turns.{log_turns}
 
 -- a handle holds one judge
 one_held : (held : HeldJudge) (bytes : List ℕ) (holds : Holds held bytes) (judge : JudgeIn) → held ≡ Some judge → judge ≡ holds.judge
@@ -29,15 +27,15 @@ held_taken held bytes holds judge is = subst (λ j. HasRead j bytes) (sym
 
 -- what its machine holds is what the handle's does
 pub held_state : (held : HeldJudge) (bytes : List ℕ) (holds : Holds held bytes) (judge : JudgeIn) → held ≡ Some judge → (cap : Cap) (key : ℕ)
-    → cap ≡ (stage_of judge).account.state key → cap ≡ state_behind holds key
+    → cap ≡ (stage_of judge).state.state key → cap ≡ state_behind holds key
 held_state held bytes holds judge is cap key told =
-    told ∙ ap (λ (j : JudgeIn). (stage_of j).account.state key) (one_held held bytes holds judge is)
+    told ∙ ap (λ (j : JudgeIn). (stage_of j).state.state key) (one_held held bytes holds judge is)
 
 -- the origin of what a place of its machine holds is that in the handle's
 pub held_origin : (held : HeldJudge) (bytes : List ℕ) (holds : Holds held bytes) (judge : JudgeIn) → held ≡ Some judge → (root : Option Place)
-    (key : ℕ) → root ≡ (stage_of judge).account.origin key → root ≡ origin_behind holds key
+    (key : ℕ) → root ≡ (stage_of judge).state.origin key → root ≡ origin_behind holds key
 held_origin held bytes holds judge is root key told =
-    told ∙ ap (λ (j : JudgeIn). (stage_of j).account.origin key) (one_held held bytes holds judge is)
+    told ∙ ap (λ (j : JudgeIn). (stage_of j).state.origin key) (one_held held bytes holds judge is)
 
 -- there is a place exactly if its kind isn't 0
 pub passed_some : (root : Option Place) (passed : PassedPlace) → IsPassed root passed → (passed.kind ≢ 0) ↔ IsTrue (is_some root)
@@ -51,8 +49,8 @@ held_stands : (judge : JudgeIn) (bytes : List ℕ) (so_far : Option Verdict) →
 held_stands judge bytes so_far read is =
     let stage = stage_of judge in
     let reached = reached bytes stage read in (
-      subst (Stands bytes) (sym is) (stands_so_far bytes stage.account stage.due reached),
-      λ whole. is ∙ none_so_far bytes stage.account stage.due reached whole,
+      subst (Stands bytes) (sym is) (stands_so_far bytes stage.state stage.due reached),
+      λ whole. is ∙ none_so_far bytes stage.state stage.due reached whole,
     )
 
 pub answered_so_far : (held : HeldJudge) (judge : JudgeIn) (bytes : List ℕ) (so_far : Option Verdict) (answer : Answer) → held ≡ Some judge

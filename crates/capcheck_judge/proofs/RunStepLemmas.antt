@@ -3,8 +3,7 @@ use Rattle.std.proofs.Common.{◌≡◌, ◌<◌, ◌⊎◌, ◌∙◌, inl, inr
 use Rattle.cap_run.specs.{Run.Run, declared.asks.Asks.Asks}
 use Rattle.cap_run_log.specs.declared.lines.{RunLine.RunLine, RunPlace.RunPlace}
 use Rattle.cap_run_log.specs.RunLines.{IsRunLineInRange, IsRunPlace, run_spelling}
-use Rattle.cap_run_judge.specs.declared.verdict.RunVerdict.TheVariants.{No}
-use Rattle.cap_run_judge.specs.{Readings.stage_of, Turns.unread}
+use Rattle.cap_run_judge.specs.{declared.verdict.RunVerdict.TheVariants.No, Readings.stage_of, Turns.{unread, run_turns}}
 use Rattle.cap_run_judge.proofs.EndLemmas.{no_stands}
 use Rattle.cap_halves.specs.{PassedRuns.IsStepFrom, declared.values.PassedPlace.PassedPlace}
 use Rattle.cap_run_report.specs.ObjectParts.{HasNoHolder, IsFirstHolder}
@@ -15,7 +14,6 @@ use Rattle.capcheck_judge.proofs.HoldingLemmas.{any_state, few, no_line, none_ta
 use Rattle.capcheck_judge.proofs.RunTakingLemmas.{held_taken, lacking}
 use Rattle.cap_turns.specs.Readings.{Follows}
 use Rattle.cap_turns.proofs.FollowLemmas.{clear_goes, follows_on, refused_in}
-use Rattle.cap_run_judge.specs.Turns.{run_turns}
 
 -- the handle's judge was handed a text as one line
 pub text_handed : (text : List ℕ) (held after : HeldRunJudge) (old new : RunJudgeIn) (state : ℕ) → held ≡ Some old → after ≡ Some new

@@ -2,29 +2,22 @@
 use Rattle.std.proofs.Common.{inl, inr, ◌≡◌, ◌≢◌, ◌≤◌, ◌∙◌, ℕ, List, [], ◌++◌, ap, append_assoc, arith, drop}
 use Rattle.std.proofs.Common.{length, refl, subst, sym, take, take-append-drop, Option, Some}
 use Rattle.cap_run_log.specs.RunLines.{run_spelling}
-use Rattle.cap_turns.specs.declared.stops.{Stop.{Stop, TheVariants.{Cut, Fault, NoMemory}}, Taken.Taken}
+use Rattle.cap_turns.specs.{declared.stops.Stop.{Stop, TheVariants.{Cut, Fault, NoMemory}}, declared.stops.Taken.Taken}
+use Rattle.cap_turns.specs.{Turns.{Due, Goes, IsAtFault, Refused}, Readings.{Follows, StopsAt}, Verdicts.{Lacks, MayLackMemory}}
 use Rattle.cap_run.specs.declared.asks.Asks.{Asks}
 use Rattle.cap_run_judge.specs.{Questions.verdict_so_far, declared.verdict.RunVerdict.{RunVerdict, TheVariants.No}}
-use Rattle.cap_run_judge.specs.Turns.{RunStage, unread}
-use Rattle.cap_run_judge.specs.Readings.{VerdictAtEnd, stage_of}
-use Rattle.cap_run_judge.proofs.EndLemmas.{all_ends, no_stands}
+use Rattle.cap_run_judge.specs.{Turns.{RunStage, unread, run_turns}, Readings.{VerdictAtEnd, stage_of}}
+use Rattle.cap_run_judge.proofs.{EndLemmas.{all_ends, no_stands}, TurnLemmas.run_spelled, CountLemmas.run_lawful}
 use Rattle.capcheck_judge.specs.declared.run_answers.RunAnswer.{RunAnswer}
 use Rattle.capcheck_judge.specs.RunAnswers.{run_numbers_of}
 use Rattle.capcheck_judge.specs.RunHandles.{AnswersRunEnd, AnswersRunSoFar, StandingRun, StandsRun}
 use Rattle.capcheck_judge.specs.RunHandles.{BeginsRun, HandsOverRunLines, HeldRunJudge, HoldsRun, IsRunRefusedAfter, RunJudgeIn}
 use Rattle.capcheck_judge.specs.Takings.{lines_taken, state_at}
 use Rattle.capcheck_judge.proofs.{HoldingLemmas.there, TakingLemmas.{few_states, no_bytes, stop_of}}
-use Rattle.cap_turns.specs.Turns.{Due, Goes, IsAtFault, Refused}
-use Rattle.cap_turns.specs.Readings.{Follows, StopsAt}
-use Rattle.cap_turns.specs.Verdicts.{Lacks, MayLackMemory}
-use Rattle.cap_turns.proofs.FollowLemmas.{clear_goes, fault_allows, fault_stays, faults_at, follows_on, goes_clear, refused_in, stop_follows}
-use Rattle.cap_turns.proofs.EndLemmas.{lacks_memory}
-use Rattle.cap_turns.proofs.TurnLemmas.{goes_on, line_is}
-use Rattle.cap_run_judge.specs.Turns.{run_turns}
-use Rattle.cap_run_judge.proofs.TurnLemmas.{run_spelled}
-use Rattle.cap_run_judge.proofs.CountLemmas.{run_lawful}
+use Rattle.cap_turns.proofs.FollowLemmas.{clear_goes, fault_allows, fault_stays, faults_at, follows_on, goes_clear, refused_in}
+use Rattle.cap_turns.proofs.FollowLemmas.{stop_follows}
+use Rattle.cap_turns.proofs.{EndLemmas.lacks_memory, TurnLemmas.{goes_on, line_is}, OneEnd.never_faulty}
 use Rattle.cap_run.specs.declared.ends.RunRefusal.{RunRefusal}
-use Rattle.cap_turns.proofs.OneEnd.{never_faulty}
 
 -- What a handle holds
 

@@ -2,20 +2,16 @@
 use Rattle.std.proofs.Common.{inl, ◌≡◌, ◌≢◌, ◌<◌, ◌≤◌, ◌∙◌, ℕ, List, ◌++◌, ap, append_assoc, arith, drop, refl, subst}
 use Rattle.std.proofs.Common.{[], ◌∷◌, length, suc, take, take-append-drop, zero, Some}
 use Rattle.cap_log.specs.Lines.{spelling}
-use Rattle.cap_turns.specs.declared.stops.{Stop.{Stop, TheVariants.{Cut, Fault, NoMemory}}, Taken.Taken}
+use Rattle.cap_turns.specs.{declared.stops.Stop.{Stop, TheVariants.{Cut, Fault, NoMemory}}, declared.stops.Taken.Taken}
+use Rattle.cap_turns.specs.{Readings.{Follows, StopsAt}, Turns.{Due, Goes, IsAtFault}}
 use Rattle.cap_ops.specs.declared.refusal.Refusal.{Refusal}
-use Rattle.cap_judge.specs.Judgings.{IsBehind}
-use Rattle.cap_judge.specs.{Logs.{MayLackMemory, Refuses}, Readings.{BeginsWhole, HasRead, IsRest}}
-use Rattle.cap_judge.specs.{Readings.stage_of, Turns.{LogStage, unread}}
-use Rattle.cap_judge.proofs.TurnLaws.{begins, fault_reached, lacks_memory, never_faulty, reached}
+use Rattle.cap_judge.specs.{Judgings.IsBehind, Logs.{MayLackMemory, Refuses}, Readings.{BeginsWhole, HasRead, IsRest, stage_of}}
+use Rattle.cap_judge.specs.Turns.{LogStage, unread, log_turns}
+use Rattle.cap_judge.proofs.{TurnLaws.{begins, fault_reached, lacks_memory, never_faulty, reached}, TurnLemmas.log_spelled}
 use Rattle.capcheck_judge.specs.{Handles.{HandsOverLines, HeldJudge, Holds, IsRefusedAfter, JudgeIn}, Takings.{lines_taken, state_at}}
 use Rattle.capcheck_judge.proofs.{HandleLemmas.held_taken, HoldingLemmas.there}
-use Rattle.cap_turns.specs.Readings.{Follows, StopsAt}
-use Rattle.cap_turns.specs.Turns.{Due, Goes, IsAtFault}
 use Rattle.cap_turns.proofs.FollowLemmas.{clear_goes, fault_stays, faults_at, follows_on, refused_in, stop_follows}
 use Rattle.cap_turns.proofs.TurnLemmas.{goes_on, line_is}
-use Rattle.cap_judge.specs.Turns.{log_turns}
-use Rattle.cap_judge.proofs.TurnLemmas.{log_spelled}
 
 -- the faulty line begins the rest that a judge stopped at, where none was faulty before
 refused_after : (old new : LogStage) (front rest before : List ℕ) → StopsAt log_turns old front rest Fault new → Follows log_turns unread before old

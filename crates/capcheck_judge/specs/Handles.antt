@@ -10,10 +10,10 @@ use Rattle.cap_log.specs.Lines.{IsInRange, spelling}
 use Rattle.cap_streams.specs.Front.{IsCut, IsLine}
 use Rattle.tagmem.specs.contracts.page_store.{PageStore.the_row as store_row, PageStoreTaggedStore.TheImpl.ghosts}
 use Rattle.cap_machine.specs.States.{State}
-use Rattle.cap_judge.specs.declared.verdict.{Expected.{Expected, TheVariants.{Capability, Number}}, Verdict.Verdict}
+use Rattle.cap_judge.specs.{declared.verdict.Expected.{Expected, TheVariants.{Capability, Number}}, declared.verdict.Verdict.Verdict}
 use Rattle.cap_judge.specs.{Expectations.Expects, Judgings.IsBehind, Logs.{Beginning, MayLackMemory, Refuses}}
-use Rattle.cap_judge.specs.Readings.{BeginsWhole, HasRead, Known, Stands, known_of, stage_of}
-use Rattle.cap_judge.specs.{Verdicts.{IsVerdict, IsGuarded}, contracts.judges.Judge.the_row as judge_row}
+use Rattle.cap_judge.specs.{Readings.{BeginsWhole, HasRead, Known, Stands, known_of, stage_of}, Verdicts.{IsVerdict, IsGuarded}}
+use Rattle.cap_judge.specs.contracts.judges.Judge.{the_row as judge_row}
 use Rattle.cap_report.specs.{declared.answers.Answer.Answer, Answers.{numbers_of, without_verdict}, Texts.IsTold}
 use Rattle.cap_report.specs.Whys.{ExplainsEnd, ExplainsSoFar}
 use Rattle.cap_halves.specs.{Passed.{cap_of, no_cap}, declared.values.PassedPlace.PassedPlace}
@@ -49,7 +49,7 @@ pub record Holds (held : HeldJudge) (bytes : List ℕ) : Type 0 where
 
 -- what the machine holds behind these bytes, or before their line at fault
 abbrev pub state_behind : {held : HeldJudge} {bytes : List ℕ} → Holds held bytes → State
-state_behind holds = (stage_of holds.judge).account.state
+state_behind holds = (stage_of holds.judge).state.state
 
 -- whether a place of it holds a tagged capability
 abbrev pub tag_behind : {held : HeldJudge} {bytes : List ℕ} → Holds held bytes → ℕ → Bool
@@ -111,7 +111,7 @@ pub record HandsOverLines (given : List ℕ) (old new : HeldJudge) (answer : Lin
 
 -- the place of the root that a place's capability descends from, behind these bytes, or before their faulty line
 abbrev pub origin_behind : {held : HeldJudge} {bytes : List ℕ} → Holds held bytes → ℕ → Option Place
-origin_behind holds = (stage_of holds.judge).account.origin
+origin_behind holds = (stage_of holds.judge).state.origin
 
 -- a place in numbers: the kind 1 is a register, 2 the granule with this address, and 0 none
 abbrev pub IsPassed : Option Place → PassedPlace → Type 0

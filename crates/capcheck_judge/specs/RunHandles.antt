@@ -7,20 +7,15 @@ use Rattle.cap_run_log.specs.declared.lines.RunLine.{RunLine}
 use Rattle.cap_run_log.specs.RunLines.{IsRunLineInRange, run_spelling}
 use Rattle.cap_run.specs.declared.{asks.Asks.Asks, ends.RunRefusal.RunRefusal}
 use Rattle.cap_run.specs.Run.{Run}
-use Rattle.cap_run_judge.specs.contracts.judges.RunJudge.{the_row as run_judge_row}
-use Rattle.cap_run_judge.specs.declared.verdict.RunVerdict.{RunVerdict}
-use Rattle.cap_run_judge.specs.Readings.{stage_of}
+use Rattle.cap_run_judge.specs.{contracts.judges.RunJudge.the_row as run_judge_row, declared.verdict.RunVerdict.RunVerdict}
+use Rattle.cap_run_judge.specs.{Readings.stage_of, Questions.ExpectsAt, Turns.{RunStage, unread, run_turns}, Verdicts.IsRunVerdict}
 use Rattle.cap_judge.specs.declared.verdict.Expected.{Expected}
-use Rattle.cap_run_judge.specs.{Questions.ExpectsAt, Turns.{RunStage, unread}, Verdicts.IsRunVerdict}
 use Rattle.cap_report.specs.Texts.{IsTold}
 use Rattle.cap_run_report.specs.Answers.{ExplainsRunEnd, ExplainsRunSoFar}
 use Rattle.capcheck_judge.specs.Handles.{IsGiven}
 use Rattle.capcheck_judge.specs.declared.{answers.{LinesTaken.LinesTaken, PassedExpected.PassedExpected}, run_handle.RunHandle.RunHandle, run_answers.RunAnswer.RunAnswer}
 use Rattle.capcheck_judge.specs.{Holding.IsNoStep, RunAnswers.{run_numbers_of, run_without_verdict}}
-use Rattle.cap_turns.specs.Readings.{Follows, RefusesNext}
-use Rattle.cap_turns.specs.Turns.{Goes}
-use Rattle.cap_turns.specs.Verdicts.{MayLackMemory}
-use Rattle.cap_run_judge.specs.Turns.{run_turns}
+use Rattle.cap_turns.specs.{Readings.{Follows, RefusesNext}, Turns.Goes, Verdicts.MayLackMemory}
 
 -- a judge of run logs, over pages
 abbrev pub RunJudgeRow : RattleType
@@ -50,7 +45,7 @@ stage_in (Some judge) = Some (stage_of judge)
 
 -- the run behind these bytes, or before their faulty line
 abbrev pub run_behind : {held : HeldRunJudge} {asks : Asks} {bytes : List ℕ} → HoldsRun held asks bytes → Run
-run_behind holds = (stage_of holds.judge).run
+run_behind holds = (stage_of holds.judge).state.run
 
 -- the bytes are whole lines that begin a run log, none of them faulty
 abbrev pub BeginsRun : Asks → List ℕ → Type 0

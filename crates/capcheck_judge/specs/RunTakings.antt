@@ -1,11 +1,8 @@
 -- What a judge of run logs takes that is handed lines (this profile's own).
 use Rattle.std.specs.Prelude.{◌≡◌, ◌<◌, ℕ, List, []}
-use Rattle.cap_run_judge.specs.Readings.{stage_of}
+use Rattle.cap_run_judge.specs.{Readings.stage_of, Turns.run_turns}
 use Rattle.capcheck_judge.specs.RunHandles.{RunJudgeIn}
-use Rattle.cap_turns.specs.Readings.{Follows}
-use Rattle.cap_turns.specs.Turns.{IsAtFault}
-use Rattle.cap_turns.specs.Verdicts.{Lacks}
-use Rattle.cap_run_judge.specs.Turns.{run_turns}
+use Rattle.cap_turns.specs.{Readings.Follows, Turns.IsAtFault, Verdicts.Lacks}
 
 -- a judge was handed a line: it took the line, and none so far is faulty, or one is; or nothing has changed
 pub record TakesRunLine (old : RunJudgeIn) (line : List ℕ) (state : ℕ) (new : RunJudgeIn) : Type 0 where

@@ -1,11 +1,9 @@
 -- What a judge takes that is handed lines (this profile's own).
 use Rattle.std.specs.Prelude.{◌≡◌, ◌≢◌, ◌<◌, ℕ, List, [], None}
-use Rattle.cap_turns.specs.declared.stops.{Stop.{Stop, TheVariants.{Cut, Fault, NoMemory}}, Taken.Taken}
-use Rattle.cap_judge.specs.Readings.{known_of, stage_of, verdict_so_far}
-use Rattle.capcheck_judge.specs.{Handles.JudgeIn, declared.answers.LinesTaken.LinesTaken}
-use Rattle.cap_turns.specs.Readings.{Follows}
+use Rattle.cap_turns.specs.{declared.stops.Stop.{Stop, TheVariants.{Cut, Fault, NoMemory}}, declared.stops.Taken.Taken, Readings.Follows}
 use Rattle.cap_turns.specs.Verdicts.{Lacks}
-use Rattle.cap_judge.specs.Turns.{log_turns}
+use Rattle.cap_judge.specs.{Readings.{known_of, stage_of, verdict_so_far}, Turns.log_turns}
+use Rattle.capcheck_judge.specs.{Handles.JudgeIn, declared.answers.LinesTaken.LinesTaken}
 
 -- the state of a stop
 abbrev pub state_at : Stop → ℕ

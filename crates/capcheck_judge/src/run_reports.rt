@@ -2,10 +2,9 @@
 
 ghost use Rattle.std.specs.Prelude.{◌≡◌, ℕ, List, None};
 ghost use Rattle.cap_run.specs.declared.asks.Asks.{Asks as AsksIn};
-ghost use Rattle.cap_run_judge.specs.{Readings.stage_of, Turns.unread};
+ghost use Rattle.cap_run_judge.specs.{Readings.stage_of, Turns.{unread, run_turns}};
 ghost use Rattle.capcheck_judge.specs.RunHandles.{AnswersRunEndReport, AnswersRunReport, HoldsRun, run_held_in};
 ghost use Rattle.cap_turns.specs.Readings.{Follows};
-ghost use Rattle.cap_run_judge.specs.Turns.{run_turns};
 
 use crate::run_handle::RunHandle;
 use cap_log::PushFault;

@@ -1,8 +1,7 @@
 use Rattle.std.proofs.Common.{◌≡◌, ℕ, arith, inl, rules}
-use Rattle.cap_judge.specs.Turns.{unread}
+use Rattle.cap_judge.specs.Turns.{unread, log_turns}
 use Rattle.capcheck_judge.proofs.lines.capcheck_judge_open.Goals as goal
 use Rattle.cap_turns.proofs.TurnLemmas.{goes_none}
-use Rattle.cap_judge.specs.Turns.{log_turns}
 
 pub returns-in-Ok-clause-opened : goal.returns-in-Ok-clause-opened
 returns-in-Ok-clause-opened c = λ _.

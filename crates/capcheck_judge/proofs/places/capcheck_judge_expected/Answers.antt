@@ -12,6 +12,6 @@ returns-in-Some-clause-expected c = λ bytes holds.
     record {
       expected = c.expected-expected.result;
       numbers = c.given_of.ensures.given;
-      expects = expects bytes stage.account stage.due c.expected-expected.result (reached bytes stage taken)
+      expects = expects bytes stage.state stage.due c.expected-expected.result (reached bytes stage taken)
           c.expected-expected.ensures.expects;
     }

@@ -1,11 +1,10 @@
 use Rattle.std.specs.FinMap.{len, len-empty}
 use Rattle.std.proofs.Common.{◌≡◌, ◌∙◌, ap, inl, nat_cmp, rules}
 use Rattle.tagmem.specs.Granules.{Entry}
-use Rattle.cap_run_judge.specs.Turns.{unread}
+use Rattle.cap_run_judge.specs.Turns.{unread, run_turns}
 use Rattle.capcheck_judge.specs.RunAnswers.{asks_passed}
 use Rattle.capcheck_judge.proofs.run_lines.capcheck_run_judge_open.Goals as goal
 use Rattle.cap_turns.proofs.TurnLemmas.{goes_none}
-use Rattle.cap_run_judge.specs.Turns.{run_turns}
 
 pub new-unread-requires : goal.new-unread-requires
 new-unread-requires c = ap len c.new.ensures.empty ∙ len-empty nat_cmp Entry

@@ -12,7 +12,7 @@ returns-in-Some-clause-holder c = λ asks bytes holds.
     let judge = c.deref.result.now in
     let is : held ≡ Some judge = c.in-Some.ensures.taken ∙ ap Some (sym c.deref.ensures) in
     let same : run_in c.machine.result.now ≡ run_behind holds =
-    ap (λ m. run_in m) c.machine.ensures.held ∙ ap (λ (j : RunJudgeIn). (stage_of j).run) (one_held held asks bytes holds judge is) in
+    ap (λ m. run_in m) c.machine.ensures.held ∙ ap (λ (j : RunJudgeIn). (stage_of j).state.run) (one_held held asks bytes holds judge is) in
     subst (λ (r : Run). IsHolderTold r c.args.number c.told_holder.result) same
     (holder_told (run_in c.machine.result.now) c.args.number c.holder-place.result c.told_holder.result c.holder-place.ensures.some
     c.holder-place.ensures.place c.holder-place.ensures.none c.told_holder.ensures)

@@ -12,6 +12,6 @@ returns-in-Some-next-clause-next c = λ asks bytes holds.
     let judge = c.deref.result.now in
     let is : held ≡ Some judge = c.in-Some.ensures.taken ∙ ap Some (sym c.deref.ensures) in
     let same : run_in c.machine.result.now ≡ run_behind holds =
-    ap (λ m. run_in m) c.machine.ensures.held ∙ ap (λ (j : RunJudgeIn). (stage_of j).run) (one_held held asks bytes holds judge is) in
+    ap (λ m. run_in m) c.machine.ensures.held ∙ ap (λ (j : RunJudgeIn). (stage_of j).state.run) (one_held held asks bytes holds judge is) in
     let some = c.in-Some-next.ensures.some in
     subst (λ (r : Run). IsNextTold r c.args.from c.in-Some-next.object.number) same (inl (c.in-Some-next.object, some.0, some.1, some.2))
