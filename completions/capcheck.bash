@@ -5,7 +5,7 @@ _capcheck_options() {
     case $1 in
         'capcheck explain') echo '--memory --tag' ;;
         'capcheck judge') echo '--origins' ;;
-        'capdiag why') echo '--origins --context --json' ;;
+        'capdiag why') echo '--origins --freed --owned --owners --context --json' ;;
         'capdiag heap') echo '--report --why --context --json' ;;
         'capdiag run') echo '--freed --owned --owners --why --context --json' ;;
     esac
@@ -21,7 +21,7 @@ _capcheck() {
         mapfile -t COMPREPLY < <(compgen -W "$offered" -- "$word")
         return
     fi
-    if [ "$program $command ${COMP_WORDS[COMP_CWORD-1]}" = 'capdiag run --freed' ]; then
+    if [ "$program ${COMP_WORDS[COMP_CWORD-1]}" = 'capdiag --freed' ] && [ "$command" != heap ]; then
         mapfile -t COMPREPLY < <(compgen -W 'held used both' -- "$word")
         return
     fi

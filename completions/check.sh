@@ -21,18 +21,19 @@ offers() {
 }
 offers 'capdiag ' why heap run --help --version
 offers 'capdiag w' why
-offers 'capdiag why ' --origins --context --json --help
-offers 'capdiag why --o' --origins
-offers 'capdiag why --origins -' --context --json
+offers 'capdiag why ' --origins --freed --owned --owners --context --json --help
+offers 'capdiag why --or' --origins
+offers 'capdiag why --freed ' held used both
+offers 'capdiag why --origins -' --freed --owned --owners --context --json
 offers 'capdiag why --context '
-offers 'capdiag why --context 3 -' --origins --json
-offers 'capdiag why --json --origins -' --context
+offers 'capdiag why --context 3 -' --origins --freed --owned --owners --json
+offers 'capdiag why --json --origins -' --freed --owned --owners --context
 offers 'capdiag heap ' --report --why --context --json --help
 offers 'capdiag heap --report -' --why --context --json
 offers 'capdiag heap --why -' --report --context --json
 offers 'capdiag heap --why log --json --' --report --context
 offers 'capdiag heap --why --report -' --context --json
-offers 'capdiag why log --o' --origins
+offers 'capdiag why log --or' --origins
 offers 'capdiag run ' --freed --owned --owners --why --context --json --help
 offers 'capdiag run --freed ' held used both
 offers 'capdiag run --freed u' used

@@ -26,7 +26,7 @@ with open(os.path.join(HERE, "..", "docs", "report.schema.json"), encoding="asci
 MEMBERS, CAPABILITY = SCHEMA["properties"], SCHEMA["$defs"]["capability"]["properties"]
 # The counts of a yes, and the options, by the subcommand.
 COUNTS = {"why": ("steps", "roots"), "heap": ("events", "live"), "run": ("steps", "roots", "objects")}
-OPTIONS = {"why": ([], ["--origins"]), "heap": (["--why"], ["--report", "--why"]), "run": (["--why"], ["--owners", "--why"], ["--owned", "--freed", "both", "--why"])}
+OPTIONS = {"why": ([], ["--origins"], ["--freed", "used", "--owners"]), "heap": (["--why"], ["--report", "--why"]), "run": (["--why"], ["--owners", "--why"], ["--owned", "--freed", "both", "--why"])}
 
 
 def value_of(schema, words):
@@ -108,6 +108,14 @@ def context_of(count, log, report):
     return text
 
 
+def asked_of(command, options, report):
+    """The line that says what was asked of an accepted run log, if the report lacks it."""
+    if command != "run" or report.startswith("no ") or "\nasked " in report:
+        return ""
+    freed = options[options.index("--freed") + 1] if "--freed" in options else "held"
+    return f"asked freed {freed}{' owned' if '--owned' in options else ''}\n"
+
+
 class Valid:
     """Whether an object is valid: by the package jsonschema, or else by the keywords that the schema uses."""
 
@@ -122,8 +130,9 @@ class Valid:
     def __call__(self, it):
         if self.known:
             return self.known.is_valid(it)
-        wanted = SCHEMA["required"] + (SCHEMA["then"]["required"] if it.get("verdict") == "no" else [])
-        return all(name in it for name in wanted) and self.holds(SCHEMA, it)
+        wanted = SCHEMA["then"]["required"] if it.get("verdict") == "no" else []
+        known = any(all(name in it for name in one["required"]) for one in SCHEMA["oneOf"])
+        return known and all(name in it for name in wanted) and self.holds(SCHEMA, it)
 
     def holds(self, schema, it):
         schema = SCHEMA["$defs"]["capability"] if "$ref" in schema else schema
@@ -185,13 +194,15 @@ def main():
                     wrong += 1
                     print(f"log {number}, {command} {' '.join(options + context)}: {shown.stdout!r}, and not {report!r}")
             command = "run" if command == "why" and log.startswith(b"run 1\n") else command
-            wanted = object_of(report, command)
+            report += asked_of(command, options, report)
+            verdict, lines = report.split("\n", 1)
+            for it, named in ((read, f"file {path}\n"), (piped, "")):
+                wanted = object_of(f"{verdict}\n{named}{lines}", command)
+                printed = (json.dumps(wanted, separators=(",", ":")) + "\n").encode()
+                if (it.stdout, it.stderr, it.returncode) != (printed, plain.stderr, plain.returncode) or not valid(wanted):
+                    wrong += 1
+                    print(f"log {number}, {command} {' '.join(options + context)}: {it.stdout!r}, and not {printed!r}")
             names[command + " " + wanted.get("name", "yes")] += 1
-            printed = (json.dumps(wanted, separators=(",", ":")) + "\n").encode()
-            same = all((it.stdout, it.stderr, it.returncode) == (printed, plain.stderr, plain.returncode) for it in (read, piped))
-            if not (same and valid(wanted)):
-                wrong += 1
-                print(f"log {number}, {command} {' '.join(options + context)}: {read.stdout!r}, and not {printed!r}")
     print(f"{count} logs with --json, half with --context, by the schema and by the reports: {wrong} otherwise")
     print(", ".join(f"{name} {many}" for name, many in sorted(names.items())))
     return 1 if wrong else 0

@@ -258,6 +258,25 @@ def several(room):
     room.wants("why of 10,000 files", (many[0], many[1].count(b"\nfile "), many[2]), (1, 10000, room.fault("5000 accepted, 5000 rejected: 5000 WrongCount")))
 
 
+def contexts(room):
+    """capdiag keeps of a log of any length what its context needs: in memory that doesn't grow, the last lines, and the last that
+    wrote each register, which came long before."""
+    if room.program != "capdiag":
+        return
+    root, word = "root c1 ffff1ffffc0180040000000000000000", "= 1 ffff1ffffc0180040000000000000000"
+    faulty = "seal c9 c31 c1 = 1 ffff1ffffc0180040000000000000000"
+    for many in (0, 1, 100, 681, 682, 683, 1365, 3000, 300000):
+        lines = ["capcheck 1", root, f"move c31 c1 {word}", *(f"move c{2 + number % 29} c1 {word}" for number in range(many))]
+        log, at = "\n".join([*lines, faulty, "end 0", ""]).encode(), len(lines) + 1
+        for count in (0, 3, 99):
+            shown = [f"before {number} {lines[number - 1]}" for number in range(max(1, at - count), at)]
+            shown += [f"wrote c31 3 move c31 c1 {word}", f"wrote c1 2 {root}"]
+            ran = room.run(["why", "--context", str(count)], log)
+            told = ran[1].decode().split("\n")
+            own = [line for line in told if line.startswith(("before ", "wrote "))]
+            room.wants(f"--context {count} after {many} steps", (ran[0], told[0].split()[:3], own), (1, ["no", str(at), told[0].split()[2]], shown))
+
+
 def outputs(room):
     """Standard output that is full, that fills up, that is busy, that nobody reads any more, and that is closed."""
     fault = (3, None, room.fault("write fault"))
@@ -340,7 +359,7 @@ def main(programs):
     for program in programs or PROGRAMS:
         with tempfile.TemporaryDirectory() as folder:
             room = Room(folder, program)
-            for part in (printed, inputs, unopened, verdicts, several, outputs, errors, terminals):
+            for part in (printed, inputs, unopened, verdicts, several, contexts, outputs, errors, terminals):
                 part(room)
         print("\n".join([*room.wrong, f"{room.count} runs of {program}, {len(room.wrong)} otherwise than is wanted"]))
         wrong += room.wrong

@@ -324,7 +324,7 @@ class RunJudge(_Steps):
         return found
 
     def diagnosis(self) -> str:
-        """What `capdiag run --why` prints of the whole lines so far."""
+        """What `capdiag run --why` prints of the whole lines so far; after a `yes` without what was asked."""
         text = ctypes.create_string_buffer(_REPORT_SIZE)
         length = _c.capcheck_run_judge_end_report(self._open, text, _REPORT_SIZE)
         return text.raw[:length].decode()
@@ -398,9 +398,12 @@ def judge(log: Any, freed: str = "held", owned: bool = False, *, progress: Calla
 
 
 def why(log: Any, freed: str = "held", owned: bool = False) -> str:
-    """What `capdiag run --why` prints of a run log of whole lines: the verdict, and after a `no` the diagnosis. The log is
-    bytes, another buffer, or a binary file."""
+    """What `capdiag run --why` prints of a run log of whole lines: the verdict, after a `yes` what was asked, and after a `no` the
+    diagnosis. The log is bytes, another buffer, or a binary file."""
     with RunJudge(freed, owned) as judging:
         judging.feed(_bytes(log))
         judging.end()
-        return judging.diagnosis()
+        text = judging.diagnosis()
+    if text.startswith("yes "):
+        text += f"asked freed {freed}{' owned' if owned else ''}\n"
+    return text

@@ -1,1 +1,3 @@
 mod ContextLemmas
+mod KeptLemmas
+mod WriterLemmas

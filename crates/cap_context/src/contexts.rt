@@ -1,13 +1,16 @@
 //! The context of a line, as lines of a report.
 
-ghost use Rattle.std.specs.Prelude.{◌≡◌, ◌++◌, [], codes, decimal, if◌then◌else◌, nat_lt, ◌&&◌, None, OnOk, Some, option_map};
+ghost use Rattle.std.specs.Prelude.{◌≡◌, ◌⊎◌, ◌++◌, ◌+◌, ◌<◌, ◌^◌, [], List, ℕ, codes, decimal, if◌then◌else◌, length, nat_lt, ◌&&◌};
+ghost use Rattle.std.specs.Prelude.{IsTrue, OnOk, Some, option_map, true};
 ghost use Rattle.cap_json.specs.Words.{lines_of};
 ghost use Rattle.cap_context.specs.Contexts.{before_lines, before_text, context_of, last_writer, number_of, numbered};
 ghost use Rattle.cap_context.specs.Contexts.{refused_line, text_at};
-ghost use Rattle.cap_context.specs.{Readings.entry_of, Registers.writes};
-ghost use Rattle.cap_context.specs.Contexts.{with_digit, wrote_lines, wrote_text};
+ghost use Rattle.cap_context.specs.{Keepings.IsKept, Readings.entry_of, Registers.writes, Writers.slots_of};
+ghost use Rattle.cap_context.specs.{Contexts.{with_digit, wrote_line}, KeptContexts.{kept_wrote, kept_wrote_lines}};
 
+use crate::keepings::Kept;
 use crate::registers::{first_read, is_register, word_at, writes};
+use crate::writers::found;
 use cap_json::{begins, cut};
 use std::alloc::AllocError;
 
@@ -63,11 +66,18 @@ fn push_before_line(
     }
 }
 
-// Appends at most this many lines before a line.
-fn push_before(report: &mut Vec<u8>, count: u8, line: u64, bytes: &[u8]) -> Result<(), AllocError>
-    ensures ok { OnOk result (report.new.items ≡ report.old.items ++ before_lines count line (numbered 1 (lines_of bytes.now))) }
+// Appends at most this many lines before a line, of those from a number on.
+fn push_before(
+    report: &mut Vec<u8>,
+    count: u8,
+    line: u64,
+    from: u64,
+    bytes: &[u8],
+) -> Result<(), AllocError>
+    requires { from + length bytes.now < 2 ^ 64 }
+    ensures ok { OnOk result (report.new.items ≡ report.old.items ++ before_lines count line (numbered from (lines_of bytes.now))) }
 {
-    let mut at = 1u64;
+    let mut at = from;
     let mut rest = bytes;
     while !rest.is_empty() {
         let (text, more) = cut(b'\n', rest);
@@ -85,12 +95,13 @@ fn text_if<'a>(is_one: bool, text: &'a [u8], other: &'a [u8]) -> &'a [u8]
     if is_one { text } else { other }
 }
 
-// The text of a line.
-fn text_at(line: u64, bytes: &[u8]) -> &[u8]
-    ensures value { result.now ≡ text_at line [] (numbered 1 (lines_of bytes.now)) }
+// The text of a line, of those from a number on.
+fn text_at(line: u64, from: u64, bytes: &[u8]) -> &[u8]
+    requires { from + length bytes.now < 2 ^ 64 }
+    ensures value { result.now ≡ text_at line [] (numbered from (lines_of bytes.now)) }
 {
     let mut found: &[u8] = &[];
-    let mut at = 1u64;
+    let mut at = from;
     let mut rest = bytes;
     while !rest.is_empty() {
         let (text, more) = cut(b'\n', rest);
@@ -119,12 +130,19 @@ fn last_if<'a>(
     if is_one { Some(entry) } else { last }
 }
 
-// The last line before a line that writes a register.
-fn last_writer<'a>(register: &[u8], line: u64, bytes: &'a [u8]) -> Option<(u64, &'a [u8])>
-    ensures value { option_map entry_of result ≡ last_writer register.now line None (numbered 1 (lines_of bytes.now)) }
+// The last line before a line that writes a register, after one that has been found, of those from a number on.
+fn last_writer<'a>(
+    register: &[u8],
+    line: u64,
+    found: Option<(u64, &'a [u8])>,
+    from: u64,
+    bytes: &'a [u8],
+) -> Option<(u64, &'a [u8])>
+    requires { from + length bytes.now < 2 ^ 64 }
+    ensures value { option_map entry_of result ≡ last_writer register.now line (option_map entry_of found.entry) (numbered from (lines_of bytes.now)) }
 {
-    let mut last: Option<(u64, &'a [u8])> = None;
-    let mut at = 1u64;
+    let mut last = found;
+    let mut at = from;
     let mut rest = bytes;
     while !rest.is_empty() {
         let (text, more) = cut(b'\n', rest);
@@ -136,43 +154,62 @@ fn last_writer<'a>(register: &[u8], line: u64, bytes: &'a [u8]) -> Option<(u64, 
     last
 }
 
+// Appends the line that last wrote a register.
+fn push_wrote_line(
+    report: &mut Vec<u8>,
+    register: &[u8],
+    last: Option<(u64, &[u8])>,
+) -> Result<(), AllocError>
+    ensures ok { OnOk result (report.new.items ≡ report.old.items ++ wrote_line register.now (option_map entry_of last.entry)) }
+{
+    let Some((number, text)) = last else {
+        return Ok(());
+    };
+    report.extend_from_slice(b"wrote ")?;
+    report.extend_from_slice(register)?;
+    push_entry(report, b" ", number, text)
+}
+
 // Appends the line that last wrote an operand that isn't shown yet, if it is a register.
 fn push_wrote(
     report: &mut Vec<u8>,
     is_shown: bool,
     word: &[u8],
     line: u64,
-    bytes: &[u8],
+    from: u64,
+    kept: &Kept,
 ) -> Result<(), AllocError>
-    ensures ok { OnOk result (report.new.items ≡ report.old.items ++ (if is_shown then [] else wrote_text word.now line (numbered 1 (lines_of bytes.now)))) }
+    requires { from + length kept.now.bytes.items < 2 ^ 64 }
+    ensures ok { OnOk result (report.new.items ≡ report.old.items
+        ++ (if is_shown then [] else kept_wrote word.now line (slots_of kept.now.writers.items) (numbered from (lines_of kept.now.bytes.items)))) }
 {
     if is_shown || !is_register(word) {
         return Ok(());
     }
-    let Some((number, text)) = last_writer(word, line, bytes) else {
-        return Ok(());
-    };
-    report.extend_from_slice(b"wrote ")?;
-    report.extend_from_slice(word)?;
-    push_entry(report, b" ", number, text)
+    let dropped = found(word, kept.writers.as_slice());
+    let last = last_writer(word, line, dropped, from, kept.bytes.as_slice());
+    push_wrote_line(report, word, last)
 }
 
 // Appends the lines that last wrote the registers that a line reads.
-fn push_writers(report: &mut Vec<u8>, line: u64, bytes: &[u8]) -> Result<(), AllocError>
-    ensures ok { OnOk result (report.new.items ≡ report.old.items ++ wrote_lines line (numbered 1 (lines_of bytes.now))) }
+fn push_writers(report: &mut Vec<u8>, line: u64, from: u64, kept: &Kept) -> Result<(), AllocError>
+    requires { from + length kept.now.bytes.items < 2 ^ 64 }
+    ensures ok { OnOk result (report.new.items ≡ report.old.items
+        ++ kept_wrote_lines line (slots_of kept.now.writers.items) (numbered from (lines_of kept.now.bytes.items))) }
 {
-    let text = text_at(line, bytes);
+    let text = text_at(line, from, kept.bytes.as_slice());
     let first = first_read(text);
     let second = word_at(2, text);
     let third = word_at(3, text);
-    push_wrote(report, false, first, line, bytes)?;
-    push_wrote(report, second == first, second, line, bytes)?;
+    push_wrote(report, false, first, line, from, kept)?;
+    push_wrote(report, second == first, second, line, from, kept)?;
     push_wrote(
         report,
         third == first || third == second,
         third,
         line,
-        bytes,
+        from,
+        kept,
     )
 }
 
@@ -187,15 +224,29 @@ fn refused_line(report: &[u8]) -> Option<u64>
     Some(number_of(digits))
 }
 
-/// Appends the context of the line that a report refuses, in the bytes of its log: at most this many lines before it, and then
-/// the lines before it that last wrote the registers that it reads, in the order of its operands.
-#[tactic(auto, unfolding(crate::specs::Contexts::context_of))]
-pub fn push_context(report: &mut Vec<u8>, count: u8, bytes: &[u8]) -> Result<(), AllocError>
-    ensures ok { OnOk result (report.new.items ≡ report.old.items ++ context_of count bytes.now report.old.items) }
+// Whether what is kept has the context of a line.
+fn has_context(kept: &Kept, count: u8, line: u64) -> bool
+    ensures yes { IsTrue result → (kept.now.is_whole ≡ true) × ((kept.now.skipped ≡ 0) ⊎ (kept.now.skipped + count < line))
+        × (kept.now.skipped + 1 + length kept.now.bytes.items < 2 ^ 64) }
+{
+    kept.is_whole
+        && kept.skipped < 1 << 62
+        && (kept.skipped == 0 || kept.skipped + u64::from(count) < line)
+}
+
+/// Appends the context of the line that a report refuses, in the bytes of its log that are kept: at most this many lines before
+/// it, and then the lines before it that last wrote the registers that it reads, in the order of its operands.
+pub fn push_context(report: &mut Vec<u8>, count: u8, kept: &Kept) -> Result<(), AllocError>
+    ensures ok { OnOk result ((given : List ℕ) → IsKept kept.now given
+        → report.new.items ≡ report.old.items ++ context_of count given report.old.items) }
 {
     let Some(line) = refused_line(report.as_slice()) else {
         return Ok(());
     };
-    push_before(report, count, line, bytes)?;
-    push_writers(report, line, bytes)
+    if !has_context(kept, count, line) {
+        return Err(AllocError);
+    }
+    let from = kept.skipped + 1;
+    push_before(report, count, line, from, kept.bytes.as_slice())?;
+    push_writers(report, line, from, kept)
 }

@@ -12,8 +12,8 @@ pub(crate) fn is_register(word: &[u8]) -> bool
     (begins(b"c", word) && word.len() <= 3) || (begins(b"scr", word) && word.len() <= 5)
 }
 
-// Whether a word is this one.
-fn is_word(word: &[u8], name: &[u8]) -> bool
+/// Whether a word is this one.
+pub(crate) fn is_word(word: &[u8], name: &[u8]) -> bool
     ensures value { result ≡ bytes_eq word.now name.now }
 {
     word == name
@@ -38,8 +38,8 @@ fn is_result(mark: &[u8], tag: &[u8]) -> bool
     is_word(mark, b"=") && tag.len() == 1
 }
 
-// Whether a line writes its first operand.
-fn writes_first(line: &[u8]) -> bool
+/// Whether a line writes its first operand.
+pub(crate) fn writes_first(line: &[u8]) -> bool
     ensures value { result ≡ writes_first line.now }
 {
     let kind = word_at(0, line);

@@ -11,16 +11,21 @@ Row = List ℕ × Place × List ℕ
 abbrev pub no_row : Row
 no_row = (codes "no ", Alone, codes "'verdict':'no','line':$,'number':$,'name':'$'")
 
+-- the line in place of a verdict if the log can't be opened
+abbrev pub unopened_row : Row
+unopened_row = (codes "unopened ", Alone, codes "'unopened':'*'")
+
 -- the lines of verdicts
 unfoldable pub verdict_rows : LogKind → List Row
-verdict_rows Machine = (codes "yes ", Alone, codes "'verdict':'yes','steps':$,'roots':$") ∷ no_row ∷ []
-verdict_rows Heap = (codes "yes ", Alone, codes "'verdict':'yes','events':$,'live':$") ∷ no_row ∷ []
-verdict_rows Run = (codes "yes ", Alone, codes "'verdict':'yes','steps':$,'roots':$,'objects':$") ∷ no_row ∷ []
+verdict_rows Machine = (codes "yes ", Alone, codes "'verdict':'yes','steps':$,'roots':$") ∷ no_row ∷ unopened_row ∷ []
+verdict_rows Heap = (codes "yes ", Alone, codes "'verdict':'yes','events':$,'live':$") ∷ no_row ∷ unopened_row ∷ []
+verdict_rows Run = (codes "yes ", Alone, codes "'verdict':'yes','steps':$,'roots':$,'objects':$") ∷ no_row ∷ unopened_row ∷ []
 
 -- the lines that describe no capability
 unfoldable pub lone_rows : List Row
 lone_rows =
     (codes "file ", Alone, codes "'file':'*'") ∷
+    (codes "asked ", Alone, codes "'asked':'*'") ∷
     (codes "line ", Alone, codes "'text':'*'") ∷
     (codes "found ", Alone, codes "'found':'*'") ∷
     (codes "expected ", Alone, codes "'expected':'*'") ∷

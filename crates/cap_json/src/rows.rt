@@ -52,6 +52,9 @@ const NO: Row = Row(
     "'verdict':'no','line':$,'number':$,'name':'$'",
 );
 
+// The line in place of a verdict if the log can't be opened.
+const UNOPENED: Row = Row("unopened ", Alone, "'unopened':'*'");
+
 // The lines of verdicts.
 #[tactic(auto, unfolding(crate::specs::Rows::verdict_rows))]
 fn verdict_rows(kind: LogKind) -> &'static [Row]
@@ -61,10 +64,12 @@ fn verdict_rows(kind: LogKind) -> &'static [Row]
         LogKind::Machine => &[
             Row("yes ", Alone, "'verdict':'yes','steps':$,'roots':$"),
             NO,
+            UNOPENED,
         ],
         LogKind::Heap => &[
             Row("yes ", Alone, "'verdict':'yes','events':$,'live':$"),
             NO,
+            UNOPENED,
         ],
         LogKind::Run => &[
             Row(
@@ -73,6 +78,7 @@ fn verdict_rows(kind: LogKind) -> &'static [Row]
                 "'verdict':'yes','steps':$,'roots':$,'objects':$",
             ),
             NO,
+            UNOPENED,
         ],
     }
 }
@@ -84,6 +90,7 @@ fn lone_rows() -> &'static [Row]
 {
     &[
         Row("file ", Alone, "'file':'*'"),
+        Row("asked ", Alone, "'asked':'*'"),
         Row("line ", Alone, "'text':'*'"),
         Row("found ", Alone, "'found':'*'"),
         Row("expected ", Alone, "'expected':'*'"),

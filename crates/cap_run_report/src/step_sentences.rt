@@ -2,8 +2,7 @@
 
 ghost use Rattle.std.specs.Prelude.{◌≡◌, ◌+◌, ◌≤◌, ℕ, List, length};
 ghost use Rattle.cap_streams.specs.Written.{Writes};
-ghost use Rattle.cap_run.specs.Run.{IsSource};
-ghost use Rattle.cap_run_log.specs.RunLines.{IsRunStepInRange};
+ghost use Rattle.cap_run_log.specs.RunLines.{IsRunRegister, IsRunStepInRange};
 ghost use Rattle.cap_texts.specs.TextLines.{says_line};
 ghost use Rattle.cap_run_report.specs.CapParts.{IsReadable};
 ghost use Rattle.cap_run_report.specs.StepSentences.{IsStepText, derived_text, exchanged_text, invoked_text, opened_text, unopened_text};
@@ -32,8 +31,8 @@ fn put_derived_text<M: TaggedStore>(
     recorded: Cap,
     refusal: RunRefusal,
 ) -> usize
-    requires target { IsSource target }
-    requires source { IsSource source }
+    requires target { IsRunRegister 0 target }
+    requires source { IsRunRegister 0 source }
     requires room { at + 160 ≤ length buffer.old }
     ensures written { Writes at (derived_text (run_in machine.now) target source recorded refusal) buffer.old buffer.new result }
     ensures fits { result ≤ at + 160 }
@@ -55,9 +54,9 @@ fn put_exchanged_text<M: TaggedStore>(
     special_recorded: Cap,
     refusal: RunRefusal,
 ) -> usize
-    requires target { IsSource target }
-    requires source { IsSource source }
-    requires special { IsSource special }
+    requires target { IsRunRegister 0 target }
+    requires source { IsRunRegister 0 source }
+    requires special { IsRunRegister 0 special }
     requires room { at + 160 ≤ length buffer.old }
     ensures written { Writes at (exchanged_text (run_in machine.now) target source special recorded special_recorded refusal) buffer.old buffer.new result }
     ensures fits { result ≤ at + 160 }

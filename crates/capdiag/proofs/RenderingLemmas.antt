@@ -1,5 +1,5 @@
 -- Laws of what is shown of a report.
-use Rattle.std.proofs.Common.{◌≡◌, ◌≤◌, ◌↔◌, inl, inr, ℕ, Bool, true, false, not, ◌||◌, is_some, List, Option, Some, None, IfSome, Result, Ok, Err}
+use Rattle.std.proofs.Common.{◌≡◌, ◌≤◌, ◌↔◌, inl, inr, ℕ, Bool, true, false, not, ◌||◌, is_some, List, Option, Some, None, IfOk, IfErr, OnOk, Result, Ok, Err}
 use Rattle.std.proofs.Common.{[], ◌∷◌, ◌++◌, ◌+◌, ◌<◌, length, take, get_or, append_assoc, ◌∙◌, refl, sym, ap, subst}
 use Rattle.std.proofs.lemmas.{Grind.flat_map-append, List.take_more}
 use Rattle.cap_streams.specs.declared.judging.judge_faults.JudgeFault.{JudgeFault}
@@ -7,24 +7,28 @@ use Rattle.cap_json.specs.declared.rows.LogKind.{LogKind}
 use Rattle.cap_program.specs.declared.faults.Fault.{Fault, TheVariants.{BadWords, BadWord, BadRequest, Read, Write, NoMemory}}
 use Rattle.cap_program.specs.{Doings.{IsCounted, IsDone}, Faults.status_of, Judging.StopsJudging}
 use Rattle.cap_program.proofs.Judgements.{stopped_unfaulty}
-use Rattle.cap_texts.specs.ShownBytes.{shown, shown_byte}
 use Rattle.capdiag.specs.declared.forms.{Form.Form, Look.{Look, TheVariants.{Plain, Colored, Json}}}
-use Rattle.capdiag.specs.{Forms.is_plain, Renderings.{IsPut, Lacks, Renders, in_context, looking, rendered, with_name}}
+use Rattle.capdiag.specs.{Forms.{is_json, is_plain}, Renderings.{IsPut, Lacks, Renders, in_context, looking, name_byte, name_text, rendered, with_name}}
 
--- bytes are shown one by one
-pub shown_more : (bytes start items new : List ℕ) (i : ℕ) → i < length bytes → items ≡ start ++ shown (take i bytes)
-    → new ≡ items ++ shown (get_or bytes i 0 ∷ []) → new ≡ start ++ shown (take (i + 1) bytes)
-shown_more bytes start items new i within so_far more =
+-- the bytes of a name are shown one by one
+pub name_more : (is_raw : Bool) (bytes start items new : List ℕ) (i : ℕ) → i < length bytes → items ≡ start ++ name_text is_raw (take i bytes)
+    → new ≡ items ++ name_text is_raw (get_or bytes i 0 ∷ []) → new ≡ start ++ name_text is_raw (take (i + 1) bytes)
+name_more is_raw bytes start items new i within so_far more =
     let byte = get_or bytes i 0 in
-    let text : shown (take i bytes) ++ shown (byte ∷ []) ≡ shown (take (i + 1) bytes) =
-    sym (ap shown (take_more bytes i 0 within) ∙ flat_map-append shown_byte (take i bytes) (byte ∷ [])) in
-    more ∙ ap (λ (t : List ℕ). t ++ shown (byte ∷ [])) so_far ∙ append_assoc start (shown (take i bytes)) (shown (byte ∷ []))
+    let text : name_text is_raw (take i bytes) ++ name_text is_raw (byte ∷ []) ≡ name_text is_raw (take (i + 1) bytes) =
+    sym (ap (name_text is_raw) (take_more bytes i 0 within) ∙ flat_map-append (name_byte is_raw) (take i bytes) (byte ∷ [])) in
+    more ∙ ap (λ (t : List ℕ). t ++ name_text is_raw (byte ∷ [])) so_far
+    ∙ append_assoc start (name_text is_raw (take i bytes)) (name_text is_raw (byte ∷ []))
     ∙ ap (λ (t : List ℕ). start ++ t) text
 
--- what holds of a value, if there is one
-pub if_some : {A : Type 0} {P Q : A → Type 0} (found : Option A) → IfSome found P → ((a : A) → P a → Q a) → IfSome found Q
-if_some None holds more = tt
-if_some (Some a) holds more = more a holds
+-- a text that only shows something was pushed, or a beginning where the output failed
+pub text_shown : (fails : Fault → Type 0) (text : List ℕ) (took : List ℕ → Type 0) (result : Result ℕ Fault) → IfOk result (λ status. status ≡ 0)
+    → OnOk result (took text) → IfErr result (λ fault. (fault ≡ Write) × (n : ℕ) × took (take n text))
+    → IsDone (λ shown status. (shown ≡ text) × (status ≡ 0)) fails took result
+text_shown fails text took (Ok status) ok pushed err = (text, (refl, ok), pushed)
+text_shown fails text took (Err fault) ok pushed err =
+    subst (λ (f : Fault). IsDone (λ shown status. (shown ≡ text) × (status ≡ 0)) fails took (Err f)) (sym err.0)
+    (text, 0, (refl, refl), err.1, err.2)
 
 -- what was done for an order whose report was kept: what is shown of it was pushed
 module _ (form : Form) (name : Option (List ℕ)) (kind : LogKind) (bytes : List ℕ) (shows : Bool → List ℕ → ℕ → Type 0) (stops : Fault → Type 0) (ended : Bool)
@@ -70,7 +74,7 @@ module _ (kind : LogKind) (bytes : List ℕ) (shows : Bool → List ℕ → ℕ 
   -- what is shown by its parts
   abbrev Shown : Look → Option ℕ → Option (List ℕ) → List ℕ → ℕ → Type 0
   Shown look context name text status =
-      (report : List ℕ) × shows ended report status × (text ≡ looking look kind (with_name name (in_context context bytes report)))
+      (report : List ℕ) × shows ended report status × (text ≡ looking look kind (with_name (is_json look) name (in_context context bytes report)))
 
   pub plain_done : (look : Look) (context : Option ℕ) (name : Option (List ℕ)) (answer : Result ℕ Fault)
       → (not (is_plain look) || (is_some context || is_some name)) ≡ false → IsDone (shows ended) stops took answer

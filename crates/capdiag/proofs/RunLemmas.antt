@@ -62,31 +62,31 @@ why_known origins known given rest ended text status are end shows =
 -- what a judge shows of the bytes given it prints for all bytes
 judged_known : (judging : Judging) (known given rest : List ℕ) (ended : Bool) (text : List ℕ) (status : ℕ) → known ≡ given ++ rest
     → (ended ≡ true → rest ≡ []) → ShowsJudged judging given ended text status → PrintsJudged judging known text status
-judged_known (Why origins) = why_known origins
+judged_known (Why origins run) = why_known origins
 judged_known (Heap report why) = heap_known report why
-judged_known (Run freed owned owners why) = run_known (asks_of freed owned) owners why
+judged_known (Run run why told) = run_known run why told
 
 -- the statuses of what is shown
 judged_few : (judging : Judging) (given : List ℕ) (ended : Bool) (text : List ℕ) (status : ℕ) → ShowsJudged judging given ended text status → status ≤ 1
-judged_few (Why origins) given ended text status shows = let is = shows.3 in let at = verdict_few shows.0 in omega arith
+judged_few (Why origins run) given ended text status shows = let is = shows.3 in let at = verdict_few shows.0 in omega arith
 judged_few (Heap report why) given ended text status shows = let is = shows.3 in let at = heap_few shows.0 in omega arith
-judged_few (Run freed owned owners why) given ended text status shows = let is = shows.3 in let at = run_few shows.0 in omega arith
+judged_few (Run run why told) given ended text status shows = let is = shows.3 in let at = run_few shows.0 in omega arith
 
 -- an order that judges is not at fault where there is no text
 judged_unfaulty : (judging : Judging) (kept : Bool) (given : List ℕ) (fault : Fault)
     → Lacks kept (ShowsJudged judging given) (StopsJudged judging given) fault → (status_of fault ≡ 2) ↔ ⊥
-judged_unfaulty (Why origins) kept given = lacking_unfaulty kept (ShowsWhy origins given) (IsAnswerOf given true)
+judged_unfaulty (Why origins run) kept given = lacking_unfaulty kept (ShowsWhy origins given) (IsAnswerOf given true)
 judged_unfaulty (Heap report why) kept given = lacking_unfaulty kept (ShowsHeap report why given) (IsHeapAnswerOf given true)
-judged_unfaulty (Run freed owned owners why) kept given =
-    lacking_unfaulty kept (ShowsRun (asks_of freed owned) owners why given) (IsRunAnswerOf (asks_of freed owned) given true)
+judged_unfaulty (Run run why told) kept given =
+    lacking_unfaulty kept (ShowsRun run why told given) (IsRunAnswerOf (asks_of run) given true)
 
 -- there is no text where the input fails
 pub unread_lacks : (judging : Judging) (kept : Bool) → Lacks kept (ShowsJudged judging []) (StopsJudged judging []) Read
-unread_lacks (Why origins) kept = lacks_read kept (ShowsWhy origins []) (IsAnswerOf [] true) nothing_given
+unread_lacks (Why origins run) kept = lacks_read kept (ShowsWhy origins []) (IsAnswerOf [] true) nothing_given
 unread_lacks (Heap report why) kept =
     lacks_read kept (ShowsHeap report why []) (IsHeapAnswerOf [] true) (record { verdict = tt; optimal = tt; fault = nothing_begins })
-unread_lacks (Run freed owned owners why) kept =
-    let asks = asks_of freed owned in lacks_read kept (ShowsRun asks owners why []) (IsRunAnswerOf asks [] true) (nothing_answered asks)
+unread_lacks (Run run why told) kept =
+    let asks = asks_of run in lacks_read kept (ShowsRun run why told []) (IsRunAnswerOf asks [] true) (nothing_answered asks)
 
 -- the text that belongs to the bytes given is printed for an input that gave them
 shows_known : (order : Option Order) (left rest : Option (List ℕ)) (given : List ℕ) (ended : Bool) (text : List ℕ) (status : ℕ)
@@ -117,7 +117,7 @@ few None given ended text status shows = absurd shows
 few (Some Help) given ended text status shows = let is = shows.1 in omega arith
 few (Some Version) given ended text status shows = let is = shows.1 in omega arith
 few (Some (Judge judging form file files)) given ended text status shows =
-    renders_few form (name_of files (option_map (λ it. it.now) file)) (kind_of judging) given (ShowsJudged judging given ended) text status
+    renders_few form (name_of form.look files (option_map (λ it. it.now) file)) (kind_of judging) given (ShowsJudged judging given ended) text status
     (λ report is. judged_few judging given ended report status is) shows
 
 -- an order with a text can be followed
@@ -133,7 +133,7 @@ asked_fault None given BadWords fails = (λ two. tt, λ faulty. refl)
 asked_fault None given fault fails = absurd fails
 asked_fault (Some Help) given fault fails = absurd fails
 asked_fault (Some Version) given fault fails = absurd fails
-asked_fault (Some (Judge judging form file files)) given fault fails = judged_unfaulty judging (is_kept form (name_of files (option_map (λ it. it.now) file))) given fault fails
+asked_fault (Some (Judge judging form file files)) given fault fails = judged_unfaulty judging (is_kept form (name_of form.look files (option_map (λ it. it.now) file))) given fault fails
 
 -- the meaning of an order, its faults and its status agree
 pub orders_meant : IsMeant order_meaning

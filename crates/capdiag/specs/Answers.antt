@@ -13,7 +13,7 @@ Prints (Some Help) input text status = (text ≡ help_text) × (status ≡ 0)
 Prints (Some Version) input text status = (text ≡ version_line) × (status ≡ 0)
 Prints (Some (Judge judging form file files)) input text status =
     (bytes : List ℕ) × IfSome input (λ known. known ≡ bytes)
-    × RendersAll form (name_of files (option_map (λ it. it.now) file)) (kind_of judging) bytes (ShowsJudged judging) (PrintsJudged judging bytes) text status
+    × RendersAll form (name_of form.look files (option_map (λ it. it.now) file)) (kind_of judging) bytes (ShowsJudged judging) (PrintsJudged judging bytes) text status
 
 -- an order that cannot be followed: there is none
 abbrev pub IsFaulty : Option Order → Type 0
@@ -31,12 +31,12 @@ Shows None given ended text status = ⊥
 Shows (Some Help) given ended text status = (text ≡ help_text) × (status ≡ 0)
 Shows (Some Version) given ended text status = (text ≡ version_line) × (status ≡ 0)
 Shows (Some (Judge judging form file files)) given ended text status =
-    Renders form (name_of files (option_map (λ it. it.now) file)) (kind_of judging) given (ShowsJudged judging given ended) text status
+    Renders form (name_of form.look files (option_map (λ it. it.now) file)) (kind_of judging) given (ShowsJudged judging given ended) text status
 
 -- the fault that belongs to an order and the bytes given for it, but for one of the output
 abbrev pub Fails : Option Order → List ℕ → Fault → Type 0
 Fails None given BadWords = Unit {0}
-Fails (Some (Judge judging form file files)) given fault = Lacks (is_kept form (name_of files (option_map (λ it. it.now) file))) (ShowsJudged judging given) (StopsJudged judging given) fault
+Fails (Some (Judge judging form file files)) given fault = Lacks (is_kept form (name_of form.look files (option_map (λ it. it.now) file))) (ShowsJudged judging given) (StopsJudged judging given) fault
 Fails order given fault = ⊥
 
 -- what the orders of the program mean

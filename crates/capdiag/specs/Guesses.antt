@@ -23,7 +23,8 @@ first_near known word = find (λ it. is_near it word) known
 -- the options that stand after a command, or in its place
 abbrev pub options_of : List ℕ → List (List ℕ)
 options_of command =
-    if bytes_eq command (codes "why") then codes "--origins" ∷ codes "--context" ∷ codes "--json" ∷ codes "--help" ∷ []
+    if bytes_eq command (codes "why")
+    then codes "--origins" ∷ codes "--freed" ∷ codes "--owners" ∷ codes "--owned" ∷ codes "--context" ∷ codes "--json" ∷ codes "--help" ∷ []
     else if bytes_eq command (codes "heap") then codes "--report" ∷ codes "--why" ∷ codes "--context" ∷ codes "--json" ∷ codes "--help" ∷ []
     else if bytes_eq command (codes "run")
     then codes "--freed" ∷ codes "--owners" ∷ codes "--owned" ∷ codes "--why" ∷ codes "--context" ∷ codes "--json" ∷ codes "--help" ∷ []

@@ -1,18 +1,23 @@
 -- What an order means of an input by its first bytes, and which other command they ask for. All of it is this profile's own.
-use Rattle.std.specs.Prelude.{ℕ, true, false, List, codes, bytes_eq, if◌then◌else◌, Option, Some, None}
+use Rattle.std.specs.Prelude.{ℕ, Bool, true, false, ◌||◌, List, codes, bytes_eq, if◌then◌else◌, Option, Some, None}
 use Rattle.cap_json.specs.declared.rows.LogKind.{LogKind, TheVariants.{Machine as OfMachine, Heap as OfHeap, Run as OfRun}}
-use Rattle.capdiag.specs.declared.orders.{Order.{Order, TheVariants.Judge}, Judging.TheVariants.{Why, Heap, Run}}
+use Rattle.capdiag.specs.declared.orders.{Order.{Order, TheVariants.Judge}, Judging.TheVariants.{Why, Heap, Run}, RunAsked.RunAsked}
+
+-- what is asked of a run log, also the owners if the origins are asked for
+abbrev pub with_origins : Bool → RunAsked → RunAsked
+with_origins origins run = record run { owners = origins || run.owners }
 
 -- an order on an input that begins with these bytes: `why` judges a run log as `run --why` does, with the owners if the
 -- origins are asked for
 abbrev pub order_on : Order → List ℕ → Order
-order_on (Judge (Why origins) form file files) front =
-    if bytes_eq front (codes "run 1\n") then Judge (Run None false origins true) form file files else Judge (Why origins) form file files
+order_on (Judge (Why origins run) form file files) front =
+    if bytes_eq front (codes "run 1\n") then Judge (Run (with_origins origins run) true true) form file files
+    else Judge (Why origins run) form file files
 order_on order front = order
 
 -- the kind of a log that another command judges, by the first bytes of the input; none if the report of a no says it
 abbrev pub other_kind : Order → List ℕ → Option LogKind
-other_kind (Judge (Run freed owned owners false) form file files) front =
+other_kind (Judge (Run run false told) form file files) front =
     if bytes_eq front (codes "capche") then Some OfMachine else if bytes_eq front (codes "heap 1") then Some OfHeap else None
 other_kind (Judge (Heap report false) form file files) front =
     if bytes_eq front (codes "capche") then Some OfMachine else if bytes_eq front (codes "run 1\n") then Some OfRun else None

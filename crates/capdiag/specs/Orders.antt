@@ -6,7 +6,7 @@ use Rattle.capdiag.specs.declared.complaints.Complaint.{Complaint}
 use Rattle.capdiag.specs.declared.complaints.Complaint.TheVariants.{NoCommand, UnknownCommand, UnknownOption, NoValue, UnknownValue}
 use Rattle.capdiag.specs.declared.complaints.Complaint.TheVariants.{NoCount, UnknownCount, Twice, Alone}
 use Rattle.capdiag.specs.declared.forms.Form.{Form}
-use Rattle.capdiag.specs.declared.orders.{Judging.{Judging, TheVariants.{Why, Heap, Run}}, Freed.TheVariants.{Held, Used, Both}}
+use Rattle.capdiag.specs.declared.orders.{Judging.{Judging, TheVariants.{Why, Heap, Run}}, Freed.{Freed, TheVariants.{Held, Used, Both}}, RunAsked.RunAsked}
 use Rattle.capdiag.specs.declared.words.{Asked.Asked, Due.{Due, TheVariants.{Any, FreedValue, ContextValue, File}}}
 use Rattle.capdiag.specs.Forms.{count_of, is_json, plain, with_json, with_lines}
 
@@ -26,19 +26,37 @@ abbrev pub once : Bool → Asked → Result Asked Complaint
 once false asked = Ok asked
 once true asked = Err Twice
 
--- a judge with one option more, and whether it had that before; --freed leaves the judge as it is, since its value follows
+-- nothing is asked of a run log beyond its default
+abbrev pub nothing : RunAsked
+nothing = record { freed = None; owned = false; owners = false }
+
+-- what is asked of a run log with one option more, and whether that was given before; --freed asks nothing by itself, since its
+-- value follows
+abbrev pub with_run_flag : RunAsked → List ℕ → Option (Bool × RunAsked)
+with_run_flag run word =
+    if bytes_eq word (codes "--freed") then Some (is_some run.freed, run)
+    else if bytes_eq word (codes "--owned") then Some (run.owned, record run { owned = true })
+    else if bytes_eq word (codes "--owners") then Some (run.owners, record run { owners = true })
+    else None
+
+-- the judges of why and of run with one option more of a run log
+abbrev pub with_why_flag : Bool → RunAsked → List ℕ → Option (Bool × Judging)
+with_why_flag origins run word = option_map (λ more. (more.0, Why origins more.1)) (with_run_flag run word)
+
+abbrev pub with_asked_flag : RunAsked → Bool → Bool → List ℕ → Option (Bool × Judging)
+with_asked_flag run why told word = option_map (λ more. (more.0, Run more.1 why told)) (with_run_flag run word)
+
+-- a judge with one option more, and whether it had that before
 abbrev pub with_flag : Judging → List ℕ → Option (Bool × Judging)
-with_flag (Why origins) word = if bytes_eq word (codes "--origins") then Some (origins, Why true) else None
+with_flag (Why origins run) word =
+    if bytes_eq word (codes "--origins") then Some (origins, Why true run)
+    else with_why_flag origins run word
 with_flag (Heap report why) word =
     if bytes_eq word (codes "--report") then Some (report, Heap true why)
     else if bytes_eq word (codes "--why") then Some (why, Heap report true)
     else None
-with_flag (Run freed owned owners why) word =
-    if bytes_eq word (codes "--freed") then Some (is_some freed, Run freed owned owners why)
-    else if bytes_eq word (codes "--owned") then Some (owned, Run freed true owners why)
-    else if bytes_eq word (codes "--owners") then Some (owners, Run freed owned true why)
-    else if bytes_eq word (codes "--why") then Some (why, Run freed owned owners true)
-    else None
+with_flag (Run run why told) word =
+    if bytes_eq word (codes "--why") then Some (why, Run run true told) else with_asked_flag run why told word
 
 -- what is asked for after a judge's own option
 abbrev pub flagged : Asked → Due → Option (Bool × Judging) → Result Asked Complaint
@@ -57,14 +75,19 @@ after_option asked word =
     else if bytes_eq word (codes "--context") then once (is_some asked.form.context) (record asked { due = ContextValue })
     else after_flag asked word
 
+-- what a value of --freed asks of freed objects
+abbrev pub freed_of : List ℕ → Option Freed
+freed_of word =
+    if bytes_eq word (codes "held") then Some Held
+    else if bytes_eq word (codes "used") then Some Used
+    else if bytes_eq word (codes "both") then Some Both
+    else None
+
 -- a judge with the value of --freed
 abbrev pub with_freed : Judging → List ℕ → Option Judging
-with_freed (Run freed owned owners why) word =
-    if bytes_eq word (codes "held") then Some (Run (Some Held) owned owners why)
-    else if bytes_eq word (codes "used") then Some (Run (Some Used) owned owners why)
-    else if bytes_eq word (codes "both") then Some (Run (Some Both) owned owners why)
-    else None
-with_freed judging word = None
+with_freed (Why origins run) word = option_map (λ freed_is. Why origins (record run { freed = Some freed_is })) (freed_of word)
+with_freed (Heap report why) word = None
+with_freed (Run run why told) word = option_map (λ freed_is. Run (record run { freed = Some freed_is }) why told) (freed_of word)
 
 -- whether a word is an operand before the options have ended: it is a minus sign alone, or doesn't begin with one
 abbrev pub is_taken : List ℕ → Bool
@@ -144,7 +167,7 @@ without_command word words =
 abbrev pub read_words : List (List ℕ) → Read
 read_words [] = Err (NoCommand, [])
 read_words (command ∷ words) =
-    if bytes_eq command (codes "why") then after_command (Why false) words
+    if bytes_eq command (codes "why") then after_command (Why false nothing) words
     else if bytes_eq command (codes "heap") then after_command (Heap false false) words
-    else if bytes_eq command (codes "run") then after_command (Run None false false false) words
+    else if bytes_eq command (codes "run") then after_command (Run nothing false false) words
     else without_command command words

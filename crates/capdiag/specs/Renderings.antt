@@ -1,15 +1,24 @@
 -- What is shown of a report. All of it is this profile's own.
-use Rattle.std.specs.Prelude.{◌≡◌, ◌⊎◌, ℕ, Bool, true, nat_lt, if◌then◌else◌, List, [], ◌∷◌, ◌++◌, codes, take}
+use Rattle.std.specs.Prelude.{◌≡◌, ◌⊎◌, ◌&&◌, ◌||◌, ℕ, Bool, true, nat_le, nat_lt, if◌then◌else◌, List, [], ◌∷◌, ◌++◌, codes, flat_map, take}
 use Rattle.std.specs.Prelude.{Option, Some, None, unwrap_or, Result, Ok, Err}
 use Rattle.cap_context.specs.Contexts.{context_of}
-use Rattle.cap_json.specs.{declared.rows.LogKind.LogKind, Objects.json_of, Words.{begins, past, upto}}
+use Rattle.cap_json.specs.{declared.rows.LogKind.{LogKind, TheVariants.Machine}, Objects.json_of, Words.{begins, past, upto}}
 use Rattle.cap_program.specs.declared.faults.Fault.{Fault, TheVariants.{NoMemory, Write}}
-use Rattle.cap_texts.specs.ShownBytes.{shown}
-use Rattle.capdiag.specs.declared.forms.{Form.Form, Look.{Look, TheVariants.{Plain, Colored, Json}}}
+use Rattle.cap_texts.specs.ShownBytes.{shown_byte}
+use Rattle.capdiag.specs.declared.{complaints.Unopened.Unopened, forms.{Form.Form, Look.{Look, TheVariants.{Plain, Colored, Json}}}}
+use Rattle.capdiag.specs.{Complaints.reason_text, Forms.is_json}
 
--- the name that is shown of a file, if there are more: that of standard input is a minus sign
-abbrev pub name_of : ℕ → Option (List ℕ) → Option (List ℕ)
-name_of files file = if nat_lt 1 files then Some (unwrap_or file (codes "-")) else None
+-- the name that is shown of a file, if there are more, and in an object of JSON if there is one: that of standard input is a
+-- minus sign
+abbrev pub name_of : Look → ℕ → Option (List ℕ) → Option (List ℕ)
+name_of look files file = if nat_lt 1 files || (is_json look && nat_lt 0 files) then Some (unwrap_or file (codes "-")) else None
+
+-- a file's name as it is shown: in an object of JSON, bytes that aren't ASCII are as they are
+abbrev pub name_byte : Bool → ℕ → List ℕ
+name_byte is_raw byte = if is_raw && nat_le 128 byte then byte ∷ [] else shown_byte byte
+
+abbrev pub name_text : Bool → List ℕ → List ℕ
+name_text is_raw name = flat_map (name_byte is_raw) name
 
 -- a report, followed by the context of the line that it refuses in the bytes of its log, where that is asked for
 abbrev pub in_context : Option ℕ → List ℕ → List ℕ → List ℕ
@@ -17,9 +26,14 @@ in_context None bytes report = report
 in_context (Some count) bytes report = report ++ context_of count bytes report
 
 -- a report, with the name of its file after the line of the verdict, where that is shown
-abbrev pub with_name : Option (List ℕ) → List ℕ → List ℕ
-with_name None report = report
-with_name (Some name) report = upto 10 report ++ codes "\nfile " ++ shown name ++ codes "\n" ++ past 10 report
+abbrev pub with_name : Bool → Option (List ℕ) → List ℕ → List ℕ
+with_name is_raw None report = report
+with_name is_raw (Some name) report = upto 10 report ++ codes "\nfile " ++ name_text is_raw name ++ codes "\n" ++ past 10 report
+
+-- what is shown of a file that cannot be opened, as an object of JSON
+unfoldable pub unopened_object : List ℕ → Unopened → List ℕ
+unopened_object name reason =
+    json_of Machine (codes "unopened " ++ reason_text reason ++ codes "\nfile " ++ name_text true name ++ codes "\n")
 
 -- what switches a terminal to green for a yes, and to red for a no
 abbrev pub color_of : List ℕ → List ℕ
@@ -37,7 +51,7 @@ looking Json kind text = json_of kind text
 
 -- what is shown of a report on these bytes
 abbrev pub rendered : Form → Option (List ℕ) → LogKind → List ℕ → List ℕ → List ℕ
-rendered form name kind bytes report = looking form.look kind (with_name name (in_context form.context bytes report))
+rendered form name kind bytes report = looking form.look kind (with_name (is_json form.look) name (in_context form.context bytes report))
 
 -- a text that is shown of a report on bytes that were read
 abbrev pub Renders : Form → Option (List ℕ) → LogKind → List ℕ → (List ℕ → ℕ → Type 0) → List ℕ → ℕ → Type 0

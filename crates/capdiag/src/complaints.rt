@@ -233,8 +233,8 @@ fn front_text(complaint: Complaint) -> &'static [u8]
     }
 }
 
-// A reason in words.
-fn reason_text(reason: Unopened) -> &'static [u8]
+/// A reason in words.
+pub(crate) fn reason_text(reason: Unopened) -> &'static [u8]
     ensures text { result.now ≡ reason_text reason }
     ensures short { length result.now ≤ 32 }
 {

@@ -1,13 +1,14 @@
 //! How a report is shown: as it is, with colors, with its file or the context of the line that it refuses, or as an object of
 //! JSON.
 
-ghost use Rattle.std.specs.Prelude.{◌≡◌, ◌&&◌, ◌++◌, ℕ, List, true, IfOk, IfSome, OnOk, option_map, [], ◌∷◌};
+ghost use Rattle.std.specs.Prelude.{◌≡◌, ◌&&◌, ◌++◌, ℕ, List, true, IfOk, OnErr, OnOk, option_map, take, [], ◌∷◌};
+ghost use Rattle.cap_context.specs.Keepings.{IsKept};
 ghost use Rattle.cap_program.specs.Doings.{IsCounted};
-ghost use Rattle.cap_texts.specs.ShownBytes.{shown};
 ghost use Rattle.capdiag.specs.Forms.{count_of, is_digit, is_json, is_kept, is_plain};
-ghost use Rattle.capdiag.specs.Renderings.{IsPut, color_of, colored, in_context, looking, rendered, with_name};
+ghost use Rattle.capdiag.specs.Renderings.{IsPut, color_of, colored, in_context, looking, name_text, rendered, unopened_object, with_name};
 
-use cap_context::push_context;
+use crate::complaints::{Unopened, reason_text};
+use cap_context::{Kept, push_context};
 use cap_json::{LogKind, begins, cut, json_of};
 use cap_log::{PushFault, Sink, push_all};
 use cap_program::Fault;
@@ -52,7 +53,7 @@ pub fn is_plain(look: Look) -> bool
 }
 
 /// Whether a text is an object of JSON.
-pub(crate) fn is_json(look: Look) -> bool
+pub fn is_json(look: Look) -> bool
     ensures value { result ≡ is_json look }
 {
     match look {
@@ -88,54 +89,47 @@ pub(crate) fn is_kept(form: Form, name: Option<&str>) -> bool
     !is_plain(form.look) || form.context.is_some() || name.is_some()
 }
 
-/// The bytes that were kept, if each was.
-pub(crate) fn recorded(is_whole: bool, kept: &[u8]) -> Option<&[u8]>
-    ensures some { IfSome result (λ bytes. (is_whole ≡ true) × (bytes.now ≡ kept.now)) }
-{
-    if is_whole { Some(kept) } else { None }
-}
-
-// A report, followed by the context of the line that it refuses, in the bytes that were recorded, where that is asked for.
-fn in_context(
-    context: Option<u8>,
-    mut report: Vec<u8>,
-    recorded: Option<&[u8]>,
-) -> Result<Vec<u8>, AllocError>
-    ensures text { IfOk result (λ text. (bytes : List ℕ) → IfSome recorded.entry (λ kept. kept.now ≡ bytes)
-        → text.items ≡ in_context context bytes report.items) }
+// A report, followed by the context of the line that it refuses, in what is kept of its log, where that is asked for.
+fn in_context(context: Option<u8>, mut report: Vec<u8>, kept: &Kept) -> Result<Vec<u8>, AllocError>
+    ensures text { IfOk result (λ text. (bytes : List ℕ) → IsKept kept.now bytes → text.items ≡ in_context context bytes report.items) }
 {
     let Some(count) = context else {
         return Ok(report);
     };
-    let Some(bytes) = recorded else {
-        return Err(AllocError);
-    };
-    push_context(&mut report, count, bytes)?;
+    push_context(&mut report, count, kept)?;
     Ok(report)
 }
 
-// Appends a byte as it is shown.
-fn push_shown_byte(text: &mut Vec<u8>, byte: u8) -> Result<(), AllocError>
-    ensures ok { OnOk result (text.new.items ≡ text.old.items ++ shown (byte ∷ [])) }
+// Appends a byte of a file's name as it is shown.
+fn push_name_byte(text: &mut Vec<u8>, is_raw: bool, byte: u8) -> Result<(), AllocError>
+    ensures ok { OnOk result (text.new.items ≡ text.old.items ++ name_text is_raw (byte ∷ [])) }
 {
+    if is_raw && byte >= 128 {
+        return text.extend_from_slice(&[byte]);
+    }
     let mut buffer = [0u8; 4];
     let length = put_shown(&mut buffer, 0, &[byte]);
     text.extend_from_slice(&buffer[..length])
 }
 
-// Appends bytes as they are shown.
-fn push_shown(text: &mut Vec<u8>, bytes: &[u8]) -> Result<(), AllocError>
-    ensures ok { OnOk result (text.new.items ≡ text.old.items ++ shown bytes.now) }
+// Appends a file's name as it is shown.
+fn push_name(text: &mut Vec<u8>, is_raw: bool, name: &[u8]) -> Result<(), AllocError>
+    ensures ok { OnOk result (text.new.items ≡ text.old.items ++ name_text is_raw name.now) }
 {
-    for byte in bytes {
-        push_shown_byte(text, *byte)?;
+    for byte in name {
+        push_name_byte(text, is_raw, *byte)?;
     }
     Ok(())
 }
 
 // A report, with the name of its file after the line of the verdict, if that is shown.
-fn with_name(alloc: Global, name: Option<&str>, report: Vec<u8>) -> Result<Vec<u8>, AllocError>
-    ensures text { IfOk result (λ text. text.items ≡ with_name (option_map (λ it. it.now) name.entry) report.items) }
+fn with_name(
+    alloc: Global,
+    is_raw: bool,
+    name: Option<&str>,
+    report: Vec<u8>,
+) -> Result<Vec<u8>, AllocError>
+    ensures text { IfOk result (λ text. text.items ≡ with_name is_raw (option_map (λ it. it.now) name.entry) report.items) }
 {
     let Some(name) = name else {
         return Ok(report);
@@ -144,7 +138,7 @@ fn with_name(alloc: Global, name: Option<&str>, report: Vec<u8>) -> Result<Vec<u
     let mut text = Vec::new(alloc);
     text.extend_from_slice(verdict)?;
     text.extend_from_slice(b"\nfile ")?;
-    push_shown(&mut text, name.as_bytes())?;
+    push_name(&mut text, is_raw, name.as_bytes())?;
     text.push(b'\n')?;
     text.extend_from_slice(lines)?;
     Ok(text)
@@ -192,17 +186,17 @@ fn rendered(
     name: Option<&str>,
     kind: LogKind,
     report: Vec<u8>,
-    recorded: Option<&[u8]>,
+    kept: &Kept,
 ) -> Result<Vec<u8>, AllocError>
-    ensures text { IfOk result (λ text. (bytes : List ℕ) → IfSome recorded.entry (λ kept. kept.now ≡ bytes)
+    ensures text { IfOk result (λ text. (bytes : List ℕ) → IsKept kept.now bytes
         → text.items ≡ rendered form (option_map (λ it. it.now) name.entry) kind bytes report.items) }
 {
-    let text = in_context(form.context, report, recorded)?;
-    let text = with_name(alloc, name, text)?;
+    let text = in_context(form.context, report, kept)?;
+    let text = with_name(alloc, is_json(form.look), name, text)?;
     looking(alloc, form.look, kind, text)
 }
 
-/// Pushes what is shown of a report that was kept, by what was done for it and by the bytes of its log that were recorded.
+/// Pushes what is shown of a report that was kept, by what was done for it and by what is kept of its log.
 pub(crate) fn push_report<K: Sink>(
     alloc: Global,
     form: Form,
@@ -210,15 +204,15 @@ pub(crate) fn push_report<K: Sink>(
     kind: LogKind,
     done: Result<u8, Fault>,
     report: Vec<u8>,
-    recorded: Option<&[u8]>,
+    kept: &Kept,
     sink: &mut K,
 ) -> Result<u8, Fault>
-    ensures put { (bytes : List ℕ) → IfSome recorded.entry (λ kept. kept.now ≡ bytes)
+    ensures put { (bytes : List ℕ) → IsKept kept.now bytes
         → IsPut (rendered form (option_map (λ it. it.now) name.entry) kind bytes report.items) (K.took sink.old sink.new) done result }
     ensures written { IsCounted Fault.Write result (K.faults sink.old) (K.faults sink.new) }
 {
     match done {
-        Ok(status) => match rendered(alloc, form, name, kind, report, recorded) {
+        Ok(status) => match rendered(alloc, form, name, kind, report, kept) {
             Ok(text) => match push_all(sink, text.as_slice()) {
                 Ok(()) => Ok(status),
                 Err(PushFault) => Err(Fault::Write),
@@ -227,5 +221,38 @@ pub(crate) fn push_report<K: Sink>(
         },
         Err(Fault::Write) => Err(Fault::NoMemory),
         Err(fault) => Err(fault),
+    }
+}
+
+// What is shown of a file that cannot be opened, as an object of JSON.
+#[tactic(auto, unfolding(crate::specs::Renderings::unopened_object))]
+fn unopened_object(alloc: Global, path: &str, reason: Unopened) -> Result<Vec<u8>, AllocError>
+    ensures object { IfOk result (λ object. object.items ≡ unopened_object path.now reason) }
+{
+    let mut report = Vec::new(alloc);
+    report.extend_from_slice(b"unopened ")?;
+    report.extend_from_slice(reason_text(reason))?;
+    report.extend_from_slice(b"\nfile ")?;
+    push_name(&mut report, true, path.as_bytes())?;
+    report.push(b'\n')?;
+    json_of(alloc, LogKind::Machine, report.as_slice())
+}
+
+/// Pushes an object of JSON for a file that cannot be opened. Where the sink fails it took a beginning of the object.
+pub fn show_unopened<K: Sink>(
+    alloc: Global,
+    path: &str,
+    reason: Unopened,
+    out: &mut K,
+) -> Result<(), Fault>
+    ensures ok { OnOk result (K.took out.old out.new (unopened_object path.now reason)) }
+    ensures err { OnErr result ((n : ℕ) × K.took out.old out.new (take n (unopened_object path.now reason))) }
+{
+    match unopened_object(alloc, path, reason) {
+        Ok(object) => match push_all(out, object.as_slice()) {
+            Ok(()) => Ok(()),
+            Err(PushFault) => Err(Fault::Write),
+        },
+        Err(AllocError) => Err(Fault::NoMemory),
     }
 }

@@ -2,14 +2,22 @@
 
 ghost use Rattle.std.specs.Prelude.{◌≡◌, ◌≤◌, ◌<◌, IfOk, length, take};
 ghost use Rattle.std.specs.Io.KnownBytes.{Consumes, IsAtEnd};
-ghost use Rattle.capdiag.specs.Hints.{order_on, other_kind};
+ghost use Rattle.capdiag.specs.Hints.{order_on, other_kind, with_origins};
 
-use crate::orders::{Judging, Order};
+use crate::orders::{Judging, Order, RunAsked};
 use cap_json::LogKind;
 use std::io::{self, ErrorKind, Read};
 
 // The first line of a run log, with its line feed.
 const RUN_HEADER: &[u8; 6] = b"run 1\n";
+
+// What is asked of a run log, also the owners if the origins are asked for.
+fn with_origins(origins: bool, run: RunAsked) -> RunAsked
+    ensures value { result ≡ with_origins origins run }
+{
+    let owners = origins || run.owners;
+    RunAsked { owners, ..run }
+}
 
 /// What an order means of an input that begins with these bytes: `why` judges a run log as `run --why` does, with the
 /// owners where the origins are asked for.
@@ -17,13 +25,12 @@ pub fn order_on<'a>(order: Order<'a>, front: &[u8]) -> Order<'a>
     ensures value { result ≡ order_on order.entry front.now }
 {
     match order {
-        Order::Judge(Judging::Why { origins }, form, file, files)
+        Order::Judge(Judging::Why { origins, run }, form, file, files)
             if front == RUN_HEADER.as_slice() => {
             let judging = Judging::Run {
-                freed: None,
-                owned: false,
-                owners: origins,
+                run: with_origins(origins, run),
                 why: true,
+                told: true,
             };
             Order::Judge(judging, form, file, files)
         }

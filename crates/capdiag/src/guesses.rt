@@ -47,7 +47,15 @@ fn options_of(command: &str) -> &'static [&'static str]
     ensures value { map (λ it. it.now) result.now ≡ options_of command.now }
 {
     match command {
-        "why" => &["--origins", "--context", "--json", "--help"],
+        "why" => &[
+            "--origins",
+            "--freed",
+            "--owners",
+            "--owned",
+            "--context",
+            "--json",
+            "--help",
+        ],
         "heap" => &["--report", "--why", "--context", "--json", "--help"],
         "run" => &[
             "--freed",

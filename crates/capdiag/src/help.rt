@@ -15,7 +15,7 @@ pub fn show_help<K: Sink>(out: &mut K) -> Result<u8, Fault>
     ensures written { IsCounted Fault.Write result (K.faults out.old) (K.faults out.new) }
 {
     show(
-        b"usage: capdiag why [--origins] [--context N] [--json] [FILE..]\n       capdiag heap [--report] [--why] [--context N] [--json] [FILE..]\n       capdiag run [--freed held|used|both] [--owned] [--owners] [--why] [--context N] [--json] [FILE..]\n       capdiag --help | --version\n\nJudge logs, from FILEs or standard input. See capdiag(1), docs/FORMAT.md.\n\n  why   the log of a machine: the verdict and a diagnosis\n  heap  the log of an allocator: the verdict\n  run   the run log of a program: the verdict\n\nExit status: 0 yes, 1 no, 2 wrong arguments, 3 failed input, output or memory.\n",
+        b"usage: capdiag why [--origins] [--freed held|used|both] [--owned] [--owners] [--context N] [--json] [FILE..]\n       capdiag heap [--report] [--why] [--context N] [--json] [FILE..]\n       capdiag run [--freed held|used|both] [--owned] [--owners] [--why] [--context N] [--json] [FILE..]\n       capdiag --help | --version\n\nJudge logs, from FILEs or standard input. See capdiag(1), docs/FORMAT.md.\n\n  why   the log of a machine: the verdict and a diagnosis\n  heap  the log of an allocator: the verdict\n  run   the run log of a program: the verdict\n\nExit status: 0 yes, 1 no, 2 wrong arguments, 3 failed input, output or memory.\n",
         out,
     )
 }

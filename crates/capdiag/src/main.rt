@@ -19,10 +19,10 @@ mod words;
 pub use crate::complaints::{
     Complaint, Unopened, Wrong, tell_hint, tell_unopened, tell_waiting, tell_words,
 };
-pub use crate::forms::{Form, Look, is_plain};
+pub use crate::forms::{Form, Look, is_json, is_plain, show_unopened};
 pub use crate::fronts::{order_on, other_kind, read_front};
 pub use crate::noting::{Noting, name_in};
-pub use crate::orders::{Judging, Order, Request, order_of};
+pub use crate::orders::{Judging, Order, Request, RunAsked, order_of};
 pub use crate::renderings::name_of;
 pub use crate::runs::run;
 pub use crate::tallies::{Tally, tell_summary};
@@ -153,7 +153,7 @@ fn judge_alone(
             Err(reason) => {
                 tell_unopened(path, reason, &mut WriteSink::new(errors));
                 tally.pass_over();
-                return Ok((Fault::Read.status(), true));
+                return Ok(pass_over(rt, order, path, reason, &mut out, errors));
             }
         },
         None => {
@@ -173,6 +173,33 @@ fn judge_alone(
     Ok((status, true))
 }
 
+// Passes over a file that cannot be opened, of which an object of JSON is shown if that is asked for: the status, and whether
+// the next file can be judged.
+fn pass_over<O: Write, F: Write>(
+    rt: &HostRuntime,
+    order: Order,
+    path: &str,
+    reason: Unopened,
+    out: &mut O,
+    errors: &mut F,
+) -> (u8, bool) {
+    if !shows_json(order) {
+        return (Fault::Read.status(), true);
+    }
+    match show_unopened(rt.alloc(), path, reason, &mut WriteSink::new(out)) {
+        Ok(()) => (Fault::Read.status(), true),
+        Err(fault) => (fail(fault, errors), false),
+    }
+}
+
+// Whether an order shows objects of JSON.
+fn shows_json(order: Order) -> bool {
+    match order {
+        Order::Judge(_, form, ..) => is_json(form.look),
+        Order::Help | Order::Version => false,
+    }
+}
+
 // Judges an input, whose first line says what `why` judges, and whether another command was meant.
 fn judge<R: Read + Drop, O: Write, F: Write>(
     rt: &HostRuntime,
@@ -190,7 +217,7 @@ fn judge<R: Read + Drop, O: Write, F: Write>(
             let status = run(rt.alloc(), Some(order), Some(input), out, errors);
             if status == 1 {
                 if let Some(kind) = other_kind(order, front) {
-                    let name = name_of(files_of(order), file_of(order));
+                    let name = name_of(Look::Plain, files_of(order), file_of(order));
                     tell_hint(name, kind, &mut WriteSink::new(errors));
                 }
             }

@@ -1,9 +1,9 @@
 //! What the program can be asked to do.
 
 ghost use Rattle.std.specs.Prelude.{◌≡◌, length, option_map, slice_get};
-ghost use Rattle.capdiag.specs.{Files.{Judges, file_of}, Readings.names_of};
+ghost use Rattle.capdiag.specs.{Files.{Judges, file_of}, Judgings.telling, Readings.names_of};
 
-use crate::forms::Form;
+use crate::forms::{Form, is_json};
 
 /// What the words ask for.
 #[derive(Drop)]
@@ -32,10 +32,13 @@ pub enum Order<'a> {
 /// A judge, and the reports that it is asked for.
 #[derive(Clone, Copy)]
 pub enum Judging {
-    /// `why [--origins]`: the judge of a machine's log, with the report of a `no`.
+    /// `why [--origins] [--freed held|used|both] [--owned] [--owners]`: the judge of a machine's log, with the report of a
+    /// `no`; of a run log that of `run --why`.
     Why {
         /// Whether after a `yes` the root of each capability in the last state is asked for.
         origins: bool,
+        /// What is asked of a run log.
+        run: RunAsked,
     },
     /// `heap [--report] [--why]`: the judge of an allocator's log.
     Heap {
@@ -46,15 +49,24 @@ pub enum Judging {
     },
     /// `run [--freed held|used|both] [--owned] [--owners] [--why]`: the judge of a run log.
     Run {
-        /// What is asked of freed objects, if `--freed` says it.
-        freed: Option<Freed>,
-        /// Whether an access without owner may touch no live object.
-        owned: bool,
-        /// Whether after a `yes` the objects and the owners are asked for.
-        owners: bool,
+        /// What is asked of the log.
+        run: RunAsked,
         /// Whether after a `no` the report is asked for.
         why: bool,
+        /// Whether after a `yes` a line says what was asked.
+        told: bool,
     },
+}
+
+/// What is asked of a run log.
+#[derive(Clone, Copy)]
+pub struct RunAsked {
+    /// What is asked of freed objects, if `--freed` says it.
+    pub freed: Option<Freed>,
+    /// Whether an access without owner may touch no live object.
+    pub owned: bool,
+    /// Whether after a `yes` the objects and the owners are asked for.
+    pub owners: bool,
 }
 
 /// What is asked of freed objects.
@@ -78,10 +90,24 @@ fn file_of<'a>(word: Option<&'a str>) -> Option<&'a str>
     }
 }
 
+// A judge, which tells what was asked of a run log if its report or an object of JSON is asked for.
+fn telling(judging: Judging, form: Form) -> Judging
+    ensures value { result ≡ telling judging form }
+{
+    match judging {
+        Judging::Run { run, why, .. } => Judging::Run {
+            run,
+            why,
+            told: why || is_json(form.look),
+        },
+        _ => judging,
+    }
+}
+
 /// The order that judges one of some files, by its number from 0, or standard input if there are none.
 pub fn order_of<'a>(judging: Judging, form: Form, files: &[&'a str], number: usize) -> Order<'a>
-    ensures judges { Judges judging form (file_of (slice_get (names_of files.now) number)) (length files.now) result }
+    ensures judges { Judges (telling judging form) form (file_of (slice_get (names_of files.now) number)) (length files.now) result }
 {
     let file = file_of(files.get(number).copied());
-    Order::Judge(judging, form, file, files.len())
+    Order::Judge(telling(judging, form), form, file, files.len())
 }

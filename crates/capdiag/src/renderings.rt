@@ -4,20 +4,21 @@ ghost use Rattle.std.specs.Prelude.{◌≡◌, ℕ, List, option_map, true};
 ghost use Rattle.cap_program.specs.Doings.{IsCounted, IsDone};
 ghost use Rattle.capdiag.specs.{Files.told_name, Forms.is_kept, Judgings.{ShowsJudged, StopsJudged, kind_of}, Renderings.{Lacks, Renders, name_of}};
 
-use crate::forms::{Form, is_kept, push_report, recorded};
-use crate::judges::{asks_of, explain_source, judge_heap_source, judge_run_source};
+use crate::forms::{Form, Look, is_json, is_kept, push_report};
+use crate::judges::{explain_source, judge_heap_source, judge_run_source};
 use crate::orders::Judging;
-use cap_context::Recorder;
+use cap_context::{Kept, Recorder};
 use cap_json::LogKind;
 use cap_log::{Sink, Source, WriteSink};
 use cap_program::Fault;
 use std::alloc::Global;
 
-/// The name that is shown of a file, if there are more: that of standard input is `-`.
-pub fn name_of<'a>(files: usize, file: Option<&'a str>) -> Option<&'a str>
-    ensures value { option_map (λ it. it.now) result ≡ name_of files (option_map (λ it. it.now) file.entry) }
+/// The name that is shown of a file, if there are more, and in an object of JSON if there is one: that of standard input is
+/// `-`.
+pub fn name_of<'a>(look: Look, files: usize, file: Option<&'a str>) -> Option<&'a str>
+    ensures value { option_map (λ it. it.now) result ≡ name_of look files (option_map (λ it. it.now) file.entry) }
 {
-    if files > 1 {
+    if files > 1 || (is_json(look) && files > 0) {
         Some(file.unwrap_or("-"))
     } else {
         None
@@ -59,17 +60,9 @@ fn judge_source<S: Source, K: Sink>(
     ensures written { IsCounted Fault.Write result (K.faults sink.old) (K.faults sink.new) }
 {
     match judging {
-        Judging::Why { origins } => explain_source(alloc, origins, source, sink),
+        Judging::Why { origins, .. } => explain_source(alloc, origins, source, sink),
         Judging::Heap { report, why } => judge_heap_source(alloc, report, why, source, sink),
-        Judging::Run {
-            freed,
-            owned,
-            owners,
-            why,
-        } => {
-            let asks = asks_of(freed, owned);
-            judge_run_source(alloc, asks, owners, why, source, sink)
-        }
+        Judging::Run { run, why, told } => judge_run_source(alloc, run, why, told, source, sink),
     }
 }
 
@@ -89,15 +82,14 @@ fn judge_kept<S: Source, K: Sink>(
     ensures written { IsCounted Fault.Write result (K.faults sink.old) (K.faults sink.new) }
 {
     let mut report = Vec::new(alloc);
-    let mut kept = Vec::new(alloc);
-    let mut recorder = Recorder::new(source, &mut kept, form.context.is_some());
+    let mut kept = Kept::new(alloc, form.context);
+    let mut recorder = Recorder::new(source, &mut kept);
     let done = judge_source(
         alloc,
         judging,
         &mut recorder,
         &mut WriteSink::new(&mut report),
     );
-    let is_whole = recorder.is_whole();
     push_report(
         alloc,
         form,
@@ -105,7 +97,7 @@ fn judge_kept<S: Source, K: Sink>(
         kind_of(judging),
         done,
         report,
-        recorded(is_whole, kept.as_slice()),
+        &kept,
         sink,
     )
 }
@@ -122,12 +114,12 @@ pub fn judge_as<S: Source, K: Sink>(
     sink: &mut K,
 ) -> Result<u8, Fault>
     ensures done { (given : List ℕ) × S.gave source.old source.new given
-        × IsDone (Renders form (name_of files (option_map (λ it. it.now) file.entry)) (kind_of judging) given (ShowsJudged judging given (S.ended source.new)))
-        (Lacks (is_kept form (name_of files (option_map (λ it. it.now) file.entry))) (ShowsJudged judging given) (StopsJudged judging given)) (K.took sink.old sink.new) result }
+        × IsDone (Renders form (name_of form.look files (option_map (λ it. it.now) file.entry)) (kind_of judging) given (ShowsJudged judging given (S.ended source.new)))
+        (Lacks (is_kept form (name_of form.look files (option_map (λ it. it.now) file.entry))) (ShowsJudged judging given) (StopsJudged judging given)) (K.took sink.old sink.new) result }
     ensures read { IsCounted Fault.Read result (S.faults source.old) (S.faults source.new) }
     ensures written { IsCounted Fault.Write result (K.faults sink.old) (K.faults sink.new) }
 {
-    let name = name_of(files, file);
+    let name = name_of(form.look, files, file);
     if is_kept(form, name) {
         judge_kept(alloc, judging, form, name, source, sink)
     } else {

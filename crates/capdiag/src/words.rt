@@ -1,15 +1,22 @@
 //! The words after the program's name.
 
 ghost use Rattle.std.specs.Prelude.{◌≡◌, [], IfOk, Ok, map};
-ghost use Rattle.capdiag.specs.Orders.{after_command, after_flag, after_option, alone, at_end, is_file, is_help, is_taken, once, read_words};
-ghost use Rattle.capdiag.specs.Orders.{with_file, with_flag, with_freed, with_word, with_words, without_command};
+ghost use Rattle.capdiag.specs.Orders.{after_command, after_flag, after_option, alone, at_end, freed_of, is_file, is_help, is_taken, with_asked_flag, with_why_flag};
+ghost use Rattle.capdiag.specs.Orders.{once, read_words, with_file, with_flag, with_freed, with_run_flag, with_word, with_words, without_command};
 ghost use Rattle.capdiag.specs.Readings.{names_of, read_of, request_of};
 
 use crate::complaints::{Complaint, Wrong};
 use crate::forms::{Form, Look, PLAIN, count_of, is_json};
-use crate::orders::{Freed, Judging, Request};
+use crate::orders::{Freed, Judging, Request, RunAsked};
 use cap_program::is_operand;
 use std::alloc::{AllocError, Global};
+
+// What is asked of a run log if no word says it.
+const NOTHING: RunAsked = RunAsked {
+    freed: None,
+    owned: false,
+    owners: false,
+};
 
 // What the next word is.
 #[derive(Clone, Copy)]
@@ -47,56 +54,69 @@ fn once(is_given: bool, asked: Asked) -> Result<Asked, Complaint>
     Ok(asked)
 }
 
-// A judge with one option more, and whether it had that before; none if it has no such option. `--freed` leaves the judge
-// as it is, since the option's value follows.
+// What is asked of a run log with one option more, and whether that was given before; none if it is no option of a run log.
+// `--freed` asks nothing by itself, since its value follows.
+fn with_run_flag(run: RunAsked, word: &str) -> Option<(bool, RunAsked)>
+    ensures value { result ≡ with_run_flag run word.now }
+{
+    match word {
+        "--freed" => Some((run.freed.is_some(), run)),
+        "--owned" => Some((run.owned, RunAsked { owned: true, ..run })),
+        "--owners" => Some((
+            run.owners,
+            RunAsked {
+                owners: true,
+                ..run
+            },
+        )),
+        _ => None,
+    }
+}
+
+// The judge of `why` with one option more of a run log.
+fn with_why_flag(origins: bool, run: RunAsked, word: &str) -> Option<(bool, Judging)>
+    ensures value { result ≡ with_why_flag origins run word.now }
+{
+    match with_run_flag(run, word) {
+        Some((is_given, run)) => Some((is_given, Judging::Why { origins, run })),
+        None => None,
+    }
+}
+
+// The judge of `run` with one option more of a run log.
+fn with_asked_flag(run: RunAsked, why: bool, told: bool, word: &str) -> Option<(bool, Judging)>
+    ensures value { result ≡ with_asked_flag run why told word.now }
+{
+    match with_run_flag(run, word) {
+        Some((is_given, run)) => Some((is_given, Judging::Run { run, why, told })),
+        None => None,
+    }
+}
+
+// A judge with one option more, and whether it had that before; none if it has no such option.
 fn with_flag(judging: Judging, word: &str) -> Option<(bool, Judging)>
     ensures value { result ≡ with_flag judging word.now }
 {
     match judging {
-        Judging::Why { origins } => match word {
-            "--origins" => Some((origins, Judging::Why { origins: true })),
-            _ => None,
+        Judging::Why { origins, run } => match word {
+            "--origins" => Some((origins, Judging::Why { origins: true, run })),
+            _ => with_why_flag(origins, run, word),
         },
         Judging::Heap { report, why } => match word {
             "--report" => Some((report, Judging::Heap { report: true, why })),
             "--why" => Some((why, Judging::Heap { report, why: true })),
             _ => None,
         },
-        Judging::Run {
-            freed,
-            owned,
-            owners,
-            why,
-        } => match word {
-            "--freed" => Some((freed.is_some(), judging)),
-            "--owned" => Some((
-                owned,
-                Judging::Run {
-                    freed,
-                    owned: true,
-                    owners,
-                    why,
-                },
-            )),
-            "--owners" => Some((
-                owners,
-                Judging::Run {
-                    freed,
-                    owned,
-                    owners: true,
-                    why,
-                },
-            )),
+        Judging::Run { run, why, told } => match word {
             "--why" => Some((
                 why,
                 Judging::Run {
-                    freed,
-                    owned,
-                    owners,
+                    run,
                     why: true,
+                    told,
                 },
             )),
-            _ => None,
+            _ => with_asked_flag(run, why, told, word),
         },
     }
 }
@@ -155,31 +175,34 @@ fn after_option(asked: Asked, word: &str) -> Result<Asked, Complaint>
     }
 }
 
+// What a value of `--freed` asks of freed objects; none if the word isn't one.
+fn freed_of(word: &str) -> Option<Freed>
+    ensures value { result ≡ freed_of word.now }
+{
+    match word {
+        "held" => Some(Freed::Held),
+        "used" => Some(Freed::Used),
+        "both" => Some(Freed::Both),
+        _ => None,
+    }
+}
+
 // A judge with the value of `--freed`; none if the word isn't one.
 fn with_freed(judging: Judging, word: &str) -> Option<Judging>
     ensures value { result ≡ with_freed judging word.now }
 {
-    let Judging::Run {
-        owned,
-        owners,
-        why,
-        ..
-    } = judging
-    else {
-        return None;
-    };
-    let freed = match word {
-        "held" => Freed::Held,
-        "used" => Freed::Used,
-        "both" => Freed::Both,
-        _ => return None,
-    };
-    Some(Judging::Run {
-        freed: Some(freed),
-        owned,
-        owners,
-        why,
-    })
+    let freed = Some(freed_of(word)?);
+    match judging {
+        Judging::Why { origins, run } => {
+            let run = RunAsked { freed, ..run };
+            Some(Judging::Why { origins, run })
+        }
+        Judging::Heap { .. } => None,
+        Judging::Run { run, why, told } => {
+            let run = RunAsked { freed, ..run };
+            Some(Judging::Run { run, why, told })
+        }
+    }
 }
 
 // Whether a word is an operand before the options have ended.
@@ -366,7 +389,14 @@ pub fn read_words<'a>(
         }));
     };
     match *command {
-        "why" => after_command(alloc, Judging::Why { origins: false }, words),
+        "why" => after_command(
+            alloc,
+            Judging::Why {
+                origins: false,
+                run: NOTHING,
+            },
+            words,
+        ),
         "heap" => after_command(
             alloc,
             Judging::Heap {
@@ -378,10 +408,9 @@ pub fn read_words<'a>(
         "run" => after_command(
             alloc,
             Judging::Run {
-                freed: None,
-                owned: false,
-                owners: false,
+                run: NOTHING,
                 why: false,
+                told: false,
             },
             words,
         ),

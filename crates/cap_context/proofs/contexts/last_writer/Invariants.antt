@@ -1,4 +1,4 @@
-use Rattle.std.proofs.Common.{◌≡◌, ◌≤◌, ◌+◌, None, length, option_map}
+use Rattle.std.proofs.Common.{◌≡◌, ◌≤◌, ◌+◌, length, option_map}
 use Rattle.cap_json.specs.Words.{lines_of}
 use Rattle.cap_context.specs.{Contexts.{last_writer, numbered}, Readings.entry_of}
 use Rattle.cap_context.proofs.contexts.last_writer.Given as goal
@@ -7,8 +7,8 @@ use Rattle.cap_context.proofs.contexts.last_writer.Given as goal
 abbrev pub invariant-loop-rest : goal.invariant-loop-rest
 invariant-loop-rest l =
     (last_writer l.register l.line (option_map entry_of l.last) (numbered l.at (lines_of l.rest))
-    ≡ last_writer l.register l.line None (numbered 1 (lines_of l.bytes)))
-    × (l.at + length l.rest ≤ 1 + length l.bytes)
+    ≡ last_writer l.register l.line (option_map entry_of l.fn.found) (numbered l.from (lines_of l.bytes)))
+    × (l.at + length l.rest ≤ l.from + length l.bytes)
 
 abbrev pub decreases-loop-rest : goal.decreases-loop-rest
 decreases-loop-rest l = length l.rest

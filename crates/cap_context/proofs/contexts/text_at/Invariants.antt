@@ -6,8 +6,8 @@ use Rattle.cap_context.proofs.contexts.text_at.Given as goal
 -- what is found so far, and then in the rest, is found in all lines
 abbrev pub invariant-loop-rest : goal.invariant-loop-rest
 invariant-loop-rest l =
-    (text_at l.line l.found (numbered l.at (lines_of l.rest)) ≡ text_at l.line [] (numbered 1 (lines_of l.bytes)))
-    × (l.at + length l.rest ≤ 1 + length l.bytes)
+    (text_at l.line l.found (numbered l.at (lines_of l.rest)) ≡ text_at l.line [] (numbered l.from (lines_of l.bytes)))
+    × (l.at + length l.rest ≤ l.from + length l.bytes)
 
 abbrev pub decreases-loop-rest : goal.decreases-loop-rest
 decreases-loop-rest l = length l.rest

@@ -1,6 +1,7 @@
-use Rattle.std.proofs.Common.{rules, ◌≡◌, option_map, ℕ, List, [], ◌++◌, ◌∙◌, ap, true}
+use Rattle.std.proofs.Common.{rules, ◌≡◌, option_map, ℕ, List, [], ◌++◌, ◌∙◌, ap, subst, sym}
+use Rattle.cap_context.specs.{declared.keepings.Kept.Kept, Keepings.IsKept}
 use Rattle.capdiag.specs.{Judgings.{ShowsJudged, StopsJudged, kind_of}, Renderings.rendered}
-use Rattle.capdiag.proofs.RenderingLemmas.{if_some, kept_done, kept_read}
+use Rattle.capdiag.proofs.RenderingLemmas.{kept_done, kept_read}
 use Rattle.capdiag.proofs.renderings.judge_kept.Goals as goal
 
 pub returns : goal.returns
@@ -19,15 +20,12 @@ returns g c =
     let source_is = c.source-1.given.1 (search rules) in
     let kept_is = c.kept-2-1.given.1 (search rules) in
     let empty : c.new.result.writer.now.items ≡ [] = search rules in
-    let none : c.new-recorder.result.kept.now.items ≡ [] = search rules in
     let report = c.report-2-1.given.0.items in
     let report_is : c.judge_source-done.new.sink.writer.ghost_name ≡ c.new.result.writer.ghost_name
     → report ≡ c.judge_source-done.new.sink.writer.now.items = λ same. search (rules, c.report-2-1.given.1) in
-    let kept : c.judge_source-done.new.source.is_whole ≡ true → c.as_slice.result.now ≡ given = λ whole.
-    let items : c.as_slice.result.now ≡ c.judge_source-done.new.source.kept.now.items = search (rules, kept_is) in
-    items ∙ (gives.3 whole).1 ∙ ap (λ (held : List ℕ). held ++ given) none in
-    let put = rw c.kind_of.ensures.value at (o.put given (if_some c.recorded.result c.recorded.ensures.some
-    (λ bytes known. known.1 ∙ kept (search (rules, known.0))))) in
+    let fresh : IsKept c.new-recorder.result.kept.now [] = subst (λ (k : Kept). IsKept k []) (sym c.new-recorder.ensures.kept) c.new-kept.ensures.empty in
+    let held_is : c.kept-2-1.given.0 ≡ c.judge_source-done.new.source.kept.now = search (rules, kept_is) in
+    let put = rw c.kind_of.ensures.value at (o.put given (subst (λ (k : Kept). IsKept k given) (sym held_is) (gives.3 [] fresh))) in
     let done = c.judge_source-done.result in
     let answer = c.push_report.result in
     rw source_is (record {

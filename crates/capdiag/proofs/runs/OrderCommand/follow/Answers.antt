@@ -35,7 +35,7 @@ returns-in-None g c = record {
   followed = followed_missing order_meaning (Some c.args.self) g.S.Source.gave g.S.Source.ended g.S.Source.faults g.K.Sink.took
       g.K.Sink.faults c.args.input.now c.args.out.now c.in-None.is (g.met.K.Sink.nothing c.args.out.now)
       (subst (λ (o : Order). Fails (Some o) [] Read) (sym c.in-Judge.is) (unread_lacks c.in-Judge.judging
-      (is_kept c.in-Judge.form (name_of c.in-Judge.files (option_map (λ it. it.now) c.in-Judge.file)))));
+      (is_kept c.in-Judge.form (name_of c.in-Judge.form.look c.in-Judge.files (option_map (λ it. it.now) c.in-Judge.file)))));
 }
 
 pub returns-in-Some : goal.returns-in-Some
