@@ -58,6 +58,11 @@ def filled(text, first, rest):
     return [*lines, line.rstrip()]
 
 
+def as_named(line):
+    """A line with the page's name of the library's function that gives an element of a list by its index."""
+    return re.sub(r"(?<!\w)get_or(?!\w)", "slice_index_or", line)
+
+
 def anchored(number):
     """What a link to a clause leads to."""
     return f'<a id="c{number}"></a>'
@@ -192,7 +197,7 @@ class Page:
                 if it in waiting:
                     give(*waiting[it])
             self.put(number, module, name)
-            lines = [part for line in joined(nested(text_of(module, name))) for part in wrapped(line, WIDTH)]
+            lines = [part for line in joined(nested(text_of(module, name))) for part in wrapped(as_named(line), WIDTH)]
             self.block.append((number, headed(number, comment_of(module, name) or name, lines)))
 
         for it in self.run:
@@ -246,7 +251,7 @@ class Page:
             self.put(number, ("kit", module), name)
             if os.path.isdir(KIT):
                 found = kit_definition(f"Rattle.std.specs.{module}", name) or fail(f"the kit has no definition of {text}")
-                found = [part for it in found for part in wrapped(re.sub(r"(?<!\w)get_or(?!\w)", "slice_index_or", it), WIDTH)]
+                found = [part for it in found for part in wrapped(as_named(it), WIDTH)]
                 self.block.append((number, [f"{found[0]:<80}  -- {number}", *found[1:]]))
             else:
                 m = re.search(rf"^[^\n]*  -- {re.escape(number)}\n(?:(?!```|\n|[^\n]*  -- \d)[^\n]*\n)*", self.old, re.M)
@@ -453,7 +458,7 @@ def check_definitions(page, prose):
     notation = prose.partition(" Notation\n")[2].partition("\n## ")[0].replace("\\|", "|")
     library = [name for (crate, _), name in page.at.values() if crate == "kit"]
     renamed = re.findall(r"`(\w+)` is the type `\w+`", prose)
-    lacking = unexplained(due, [*re.findall(r"`[^`]*`", notation), *library, *page.types, *renamed, "Refusal", "w64"])
+    lacking = unexplained(due, [*re.findall(r"`[^`]*`", notation), *library, *page.types, *renamed, "Refusal", "get_or", "w64"])
     if lacking:
         fail("the page doesn't explain " + ", ".join(sorted(lacking)))
 

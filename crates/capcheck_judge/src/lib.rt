@@ -34,6 +34,17 @@ macro_rules! state {
     };
 }
 
+// Writes a text into the room that C lends, and answers its length.
+macro_rules! text {
+    ($room:ident, |$sink:ident| $pushed:expr) => {{
+        let mut $sink = TextSink::new($room);
+        match $pushed {
+            Ok(()) => $sink.length(),
+            Err(PushFault) => 0,
+        }
+    }};
+}
+
 // What is done with a step of version 2, whatever its kind.
 macro_rules! by_kind {
     ($any:expr, $step:ident => $done:expr) => {

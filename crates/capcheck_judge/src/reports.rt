@@ -49,11 +49,7 @@ fn write_end_report(judge: &Judge<PageStore>, text: &mut [u8]) -> u64
     ensures { (bytes : List ℕ) → HasRead judge.now bytes
         → AnswersEndReport bytes text.old text.new result }
 {
-    let mut sink = TextSink::new(text);
-    match push_ending(judge, &[], &mut sink) {
-        Ok(()) => sink.length(),
-        Err(PushFault) => 0,
-    }
+    text!(text, |sink| push_ending(judge, &[], &mut sink))
 }
 
 // Writes the report of a judge's faulty line, and answers its length.
@@ -61,9 +57,5 @@ fn write_report(judge: &Judge<PageStore>, text: &mut [u8]) -> u64
     ensures { (bytes : List ℕ) → HasRead judge.now bytes
         → AnswersReport bytes text.old text.new result }
 {
-    let mut sink = TextSink::new(text);
-    match push_refused(judge, &mut sink) {
-        Ok(()) => sink.length(),
-        Err(PushFault) => 0,
-    }
+    text!(text, |sink| push_refused(judge, &mut sink))
 }

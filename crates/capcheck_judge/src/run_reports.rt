@@ -57,11 +57,7 @@ fn write_run_report(judge: &RunJudge<PageStore>, text: &mut [u8]) -> u64
     ensures { (asks : AsksIn) (bytes : List ℕ) → Follows run_turns (unread asks) bytes (stage_of judge.now)
         → AnswersRunReport asks bytes text.old text.new result }
 {
-    let mut sink = TextSink::new(text);
-    match push_run_refused(judge, &mut sink) {
-        Ok(()) => sink.length(),
-        Err(PushFault) => 0,
-    }
+    text!(text, |sink| push_run_refused(judge, &mut sink))
 }
 
 // Writes the text of the verdict on a judge's lines as a whole run log, and answers its length.
@@ -69,9 +65,5 @@ fn write_run_end_report(judge: &RunJudge<PageStore>, text: &mut [u8]) -> u64
     ensures { (asks : AsksIn) (bytes : List ℕ) → Follows run_turns (unread asks) bytes (stage_of judge.now)
         → AnswersRunEndReport asks bytes text.old text.new result }
 {
-    let mut sink = TextSink::new(text);
-    match push_run_ending(judge, &mut sink) {
-        Ok(()) => sink.length(),
-        Err(PushFault) => 0,
-    }
+    text!(text, |sink| push_run_ending(judge, &mut sink))
 }
