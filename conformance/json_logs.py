@@ -77,7 +77,8 @@ def object_of(report, command):
             it.setdefault(name, []).append(value_of(schema["items"], rest.split(" "))[0])
         else:
             assert name not in it, name
-            it[name], left = (rest, []) if schema == {"type": "string", "description": schema["description"]} else value_of(schema, rest.split(" "))
+            is_text = name == "asked" or schema == {"type": "string", "description": schema["description"]}
+            it[name], left = (rest, []) if is_text else value_of(schema, rest.split(" "))
             assert not left, line
     return it
 
