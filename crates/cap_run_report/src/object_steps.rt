@@ -15,7 +15,7 @@ use cap_texts::text_lines::put_decimal_line;
 use tagmem::TaggedStore;
 
 /// The interval that a line asks for as an extent.
-pub fn asked_extent<M: TaggedStore>(
+pub(crate) fn asked_extent<M: TaggedStore>(
     machine: &RunMachine<M>,
     register: u8,
     number: Option<u32>,
@@ -55,7 +55,7 @@ fn put_asked<M: TaggedStore>(
 }
 
 /// The object that a line means: that of its number, or the owner of its register.
-pub fn meant<M: TaggedStore>(
+pub(crate) fn meant<M: TaggedStore>(
     machine: &RunMachine<M>,
     register: u8,
     number: Option<u32>,

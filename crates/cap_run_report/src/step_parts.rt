@@ -98,7 +98,7 @@ fn put_derived<M: TaggedStore>(
 }
 
 /// Whether a register can't get what is derived from a source.
-pub fn is_refused(source: Cap, recorded: Cap) -> bool
+pub(crate) fn is_refused(source: Cap, recorded: Cap) -> bool
     ensures { result ≡ is_refused source recorded }
 {
     recorded.tag && derive_fault(source, recorded.word, false).is_some()
@@ -130,7 +130,7 @@ fn put_exchanged<M: TaggedStore>(
 }
 
 /// A word without its seal.
-pub fn opened(word: Word) -> Word
+pub(crate) fn opened(word: Word) -> Word
     ensures { result.0 ≡ with_type word.0 unsealed_type }
 {
     let high = (word.0 >> 109) << 109;
@@ -139,7 +139,7 @@ pub fn opened(word: Word) -> Word
 }
 
 /// Whether a word is another without its seal, at its address or that with bit 0 cleared.
-pub fn is_opened(source: Word, word: Word) -> bool
+pub(crate) fn is_opened(source: Word, word: Word) -> bool
     ensures { result ≡ is_opened source.0 word.0 }
 {
     let open_word = opened(source).0;
