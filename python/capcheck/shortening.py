@@ -2,6 +2,7 @@
 from __future__ import annotations
 
 import io
+import re
 import time
 from collections.abc import Callable, Iterable, Iterator
 from contextlib import suppress
@@ -140,6 +141,8 @@ def _run_fault(diagnosis: str) -> list[str]:
             told.append(" ".join([name, *words[2:5]]))
         elif name in ("freed", "gone") or words[:1] == ["owner"]:
             told.append(" ".join([name, *words[:1]]) if words[:1] == ["owner"] else name)
+        elif name == "says":
+            told.append(re.sub(r"\b(line|object|is) \d+", r"\1", re.sub(r", as \d+ more do", "", row)))
         elif name not in ("roots", "steps", "granules", "objects"):
             told.append(row)
     return told

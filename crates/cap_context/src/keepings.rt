@@ -81,7 +81,7 @@ impl Kept {
         }
     }
 
-    // Drops the lines that no context has, but for the last that wrote each register.
+    // Drops the lines that no context has, except the last that wrote each register.
     fn drop_lines(&mut self) -> Result<(), AllocError>
         ensures keeps { OnOk result ((given : List ℕ) → IsKept self.old given → IsKept self.new given) }
     {
