@@ -24,19 +24,6 @@ nothing_kept writers bytes none empty =
       last = λ register is. found_none register;
     }))
 
--- more bytes are given
-pub more_kept : (skipped : ℕ) (slots : List Slot) (rest given bytes : List ℕ) → Keeps skipped slots rest given
-    → Keeps skipped slots (rest ++ bytes) (given ++ bytes)
-more_kept skipped slots rest given bytes kept = record {
-  dropped = kept.dropped;
-  lines = λ more.
-      ap (λ (b : List ℕ). numbered 1 (lines_of b)) (append_assoc given bytes more) ∙ kept.lines (bytes ++ more)
-      ∙ ap (λ (b : List ℕ). kept.dropped ++ numbered (skipped + 1) (lines_of b)) (sym (append_assoc rest bytes more));
-  count = kept.count;
-  least = kept.least;
-  last = kept.last;
-}
-
 -- a whole line, and the lines after it, whatever bytes follow
 line_by : (same : Bool) (byte : ℕ) (bytes more : List ℕ)
     → (same ≡ false → lines_of (bytes ++ more) ≡ upto 10 bytes ∷ lines_of (past 10 bytes ++ more))
