@@ -408,7 +408,8 @@ impl RunJudge {
         place_of(unsafe { abi::capcheck_run_judge_holder(self.judge.get(), number) })
     }
 
-    /// What `capdiag run --why` prints of the lines so far as a whole log: the verdict, and after a `no` the diagnosis.
+    /// What `capdiag run --why` prints of the lines so far as a whole log: the verdict, and after a `no` the diagnosis; after a
+    /// `yes` without what was asked.
     pub fn diagnosis(&self) -> String {
         let mut text = vec![0; REPORT_SIZE];
         let length = unsafe { abi::capcheck_run_judge_end_report(self.judge.get(), text.as_mut_ptr(), text.len()) };
