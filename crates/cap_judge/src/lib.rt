@@ -31,5 +31,5 @@ pub use crate::streams::{
 };
 pub use crate::verdict::{Expected, TakeFault, Verdict};
 pub use crate::verdict_lines::{verdict_status, verdict_text};
-pub use cap_turns::{Stop, Taken};
 pub use cap_streams::judging::{FaultLine, JudgeFault, JudgeToFault};
+pub use cap_turns::{Stop, Taken};

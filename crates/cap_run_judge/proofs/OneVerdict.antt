@@ -25,8 +25,8 @@ pub some_run_verdict : (asks_are : Asks) (bytes : List ℕ) → (verdict : RunVe
 some_run_verdict asks_are bytes =
     elim (some_end run_turns (run_lawful asks_are) bytes) [
       | inl whole ↦ (
-          Yes whole.0.state.run.steps whole.0.state.run.roots whole.0.state.run.count,
-          record { stage = whole.0; whole = whole.1; step_count_is = refl; root_count_is = refl; object_count_is = refl },
-        )
+        Yes whole.0.state.run.steps whole.0.state.run.roots whole.0.state.run.count,
+        record { stage = whole.0; whole = whole.1; step_count_is = refl; root_count_is = refl; object_count_is = refl },
+      )
       | inr fault ↦ (No fault.0 fault.1, fault.2)
     ]

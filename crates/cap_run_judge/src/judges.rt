@@ -14,13 +14,13 @@ ghost use Rattle.cap_turns.specs.{Turns.{Goes, IsAtFault, lines_read, refusal_at
 
 use crate::faults::RefusedRunLine;
 use crate::verdict::RunVerdict;
-use cap_turns::{Stop, Taken};
 use cap_log::{Line, Mode, read_line};
 use cap_machine::{MOST_BYTES, Refusal, Rules};
 use cap_run::{Asks, RunEnd, RunMachine, RunRefusal};
 use cap_run_log::{RunLine, take_derive, take_exchange, take_run_line};
 use cap_streams::judging::FaultLine;
 use cap_streams::{Front, front};
+use cap_turns::{Stop, Taken};
 use std::alloc::Global;
 use tagmem::TaggedStore;
 

@@ -12,11 +12,11 @@ ghost use Rattle.cap_turns.specs.{Readings.{Follows, IsNoLine}, Turns.{Body, IsA
 
 use crate::judges::{Due, RunJudge};
 use cap_judge::TakeFault;
-use cap_turns::{Stop, is_whole};
 use cap_machine::Instruction;
 use cap_run::RunEnd;
 use cap_run_log::{RunLine, RunStep, write_run_line};
 use cap_streams::{Front, front};
+use cap_turns::{Stop, is_whole};
 use tagmem::TaggedStore;
 
 impl<M: TaggedStore> RunJudge<M> {

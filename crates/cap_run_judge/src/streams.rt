@@ -12,10 +12,10 @@ ghost use Rattle.cap_turns.specs.{Readings.StopsAt, Turns.lines_read};
 use crate::faults::RefusedRunLine;
 use crate::judges::RunJudge;
 use crate::verdict::RunVerdict;
-use cap_turns::Stop;
 use cap_run::{Asks, RunMachine};
 use cap_streams::judging::{FaultLine, JudgeFault};
 use cap_streams::{PullFault, ReadBuffer, SliceSource, Source};
+use cap_turns::Stop;
 use std::alloc::Global;
 use tagmem::{PageStore, TaggedStore};
 

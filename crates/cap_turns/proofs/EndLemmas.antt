@@ -119,8 +119,7 @@ module _ {Line State Refusal : Type 0} (turns : Turns Line State Refusal) where
             | inl whole ↦ let never : ⊥ = let both = sym whole.0 ∙ is in cc in absurd never
             | inr faulty ↦
                 let same = same_refused (lines_read turns stage + 1) line faulty.0 refusal rest text (sym faulty.1 ∙ is) in
-                rw (sym same.0, sym same.1, sym same.2)
-                (
+                rw (sym same.0, sym same.1, sym same.2) (
                   record {
                     stage = stage;
                     rest = rest;
@@ -146,10 +145,10 @@ module _ {Line State Refusal : Type 0} (turns : Turns Line State Refusal) where
       whole_told is =
           elim (ending stage.state stage.due rest (goes_clear turns laws front stage goes)) [
             | inl whole ↦ record {
-                goes = subst (λ (r : List ℕ). Goes turns start (front ++ r) stage) (sym whole.2)
-                    (subst (λ (b : List ℕ). Goes turns start b stage) (sym (append-nil front)) goes);
-                ended = whole.1;
-              }
+              goes = subst (λ (r : List ℕ). Goes turns start (front ++ r) stage) (sym whole.2)
+                  (subst (λ (b : List ℕ). Goes turns start b stage) (sym (append-nil front)) goes);
+              ended = whole.1;
+            }
             | inr faulty ↦ let never : ⊥ = let both = sym faulty.1 ∙ is in cc in absurd never
           ]
 

@@ -147,8 +147,8 @@ module _ {Line State Refusal : Type 0} (turns : Turns Line State Refusal) where
           k.behind.bytes_are (refused_stops h.stage h.rest refusal h.refused) (refused_stops k.stage k.rest refusal' k.refused) in (
             h.number_is ∙ ap (λ (ls : List Line). length ls + 1) same.0 ∙ sym k.number_is,
             one_refusal h.stage h.rest refusal refusal' h.refused
-            (subst (λ (s : Stage State Refusal). Refuses turns s h.rest refusal') (sym same.2)
-            (subst (λ (r : List ℕ). Refuses turns k.stage r refusal') (sym same.1) k.refused)),
+                (subst (λ (s : Stage State Refusal). Refuses turns s h.rest refusal') (sym same.2)
+                (subst (λ (r : List ℕ). Refuses turns k.stage r refusal') (sym same.1) k.refused)),
           )
 
       -- where all bytes lead to a stage, no line of them is refused

@@ -44,9 +44,11 @@ pub returns-in-Derive-clause-written : goal.returns-in-Derive-clause-written
 returns-in-Derive-clause-written g c =
     let run = run_in c.args.machine.now in
     let step = c.in-Derive.step in
-    by_variant run c.args.refusal c.args.at c.args.buffer.now c.put_derived.new.buffer c.put_derived.result _ _ c.in-Derive.is
-    (derived_lines run step.target step.source step.result, refl,
-    rw (c.register-target.ensures.register, c.register-source.ensures.register) at c.put_derived.ensures.written)
+    by_variant run c.args.refusal c.args.at c.args.buffer.now c.put_derived.new.buffer c.put_derived.result _ _ c.in-Derive.is (
+      derived_lines run step.target step.source step.result,
+      refl,
+      rw (c.register-target.ensures.register, c.register-source.ensures.register) at c.put_derived.ensures.written,
+    )
 
 pub returns-in-Exchange-clause-written : goal.returns-in-Exchange-clause-written
 returns-in-Exchange-clause-written g c =
@@ -62,9 +64,11 @@ pub returns-in-Invoke-clause-written : goal.returns-in-Invoke-clause-written
 returns-in-Invoke-clause-written g c =
     let run = run_in c.args.machine.now in
     let step = c.in-Invoke.step in
-    by_variant run c.args.refusal c.args.at c.args.buffer.now c.put_invoked.new.buffer c.put_invoked.result _ _ c.in-Invoke.is
-    (invoked_lines run step.code step.datum step.code_word step.datum_word c.args.refusal, refl,
-    rw (c.number-code.ensures.number, c.number-datum.ensures.number) at c.put_invoked.ensures.written)
+    by_variant run c.args.refusal c.args.at c.args.buffer.now c.put_invoked.new.buffer c.put_invoked.result _ _ c.in-Invoke.is (
+      invoked_lines run step.code step.datum step.code_word step.datum_word c.args.refusal,
+      refl,
+      rw (c.number-code.ensures.number, c.number-datum.ensures.number) at c.put_invoked.ensures.written,
+    )
 
 pub returns-in-Object-clause-written : goal.returns-in-Object-clause-written
 returns-in-Object-clause-written g c =

@@ -17,25 +17,31 @@ pub returns-in-Derive-clause-written : goal.returns-in-Derive-clause-written
 returns-in-Derive-clause-written g c =
     let run = run_in c.args.machine.now in
     let step = c.in-Derive.step in
-    let text = derived_text run step.target step.source step.result c.args.refusal in
-    (text, subst (λ (s : RunStep). IsStepText run s c.args.refusal text) (sym c.in-Derive.is) refl,
-    rw (c.register-target.ensures.register, c.register-source.ensures.register) at c.put_derived_text.ensures.written)
+    let text = derived_text run step.target step.source step.result c.args.refusal in (
+      text,
+      subst (λ (s : RunStep). IsStepText run s c.args.refusal text) (sym c.in-Derive.is) refl,
+      rw (c.register-target.ensures.register, c.register-source.ensures.register) at c.put_derived_text.ensures.written,
+    )
 
 pub returns-in-Exchange-clause-written : goal.returns-in-Exchange-clause-written
 returns-in-Exchange-clause-written g c =
     let run = run_in c.args.machine.now in
     let step = c.in-Exchange.step in
-    let text = exchanged_text run (General step.target) (General step.source) (Special step.special) step.result step.special_result c.args.refusal in
-    (text, subst (λ (s : RunStep). IsStepText run s c.args.refusal text) (sym c.in-Exchange.is) refl,
-    rw (c.number.ensures.number, c.number-in-Exchange.ensures.number, c.number-in-Exchange-2.ensures.number) at c.put_exchanged_text.ensures.written)
+    let text = exchanged_text run (General step.target) (General step.source) (Special step.special) step.result step.special_result c.args.refusal in (
+      text,
+      subst (λ (s : RunStep). IsStepText run s c.args.refusal text) (sym c.in-Exchange.is) refl,
+      rw (c.number.ensures.number, c.number-in-Exchange.ensures.number, c.number-in-Exchange-2.ensures.number) at c.put_exchanged_text.ensures.written,
+    )
 
 pub returns-in-Invoke-clause-written : goal.returns-in-Invoke-clause-written
 returns-in-Invoke-clause-written g c =
     let run = run_in c.args.machine.now in
     let step = c.in-Invoke.step in
-    let text = invoked_text run step.code step.datum step.code_word step.datum_word c.args.refusal in
-    (text, subst (λ (s : RunStep). IsStepText run s c.args.refusal text) (sym c.in-Invoke.is) refl,
-    rw (c.number-code.ensures.number, c.number-datum.ensures.number) at c.put_invoked_text.ensures.written)
+    let text = invoked_text run step.code step.datum step.code_word step.datum_word c.args.refusal in (
+      text,
+      subst (λ (s : RunStep). IsStepText run s c.args.refusal text) (sym c.in-Invoke.is) refl,
+      rw (c.number-code.ensures.number, c.number-datum.ensures.number) at c.put_invoked_text.ensures.written,
+    )
 
 pub returns-in-Widen-clause-written : goal.returns-in-Widen-clause-written
 returns-in-Widen-clause-written g c =
