@@ -8,6 +8,9 @@ import { contrasts, overlaps } from "./use.mjs";
 const chosenOf = (options) => ({ freed: (options.match(/--freed (used|both)/) ?? ["", ""])[1], owned: options.includes("--owned") ? "1" : "" });
 const wordsOf = ({ freed, owned }) => [...(freed ? ["--freed", freed] : []), ...(owned ? ["--owned"] : [])];
 
+/** What `capdiag run --why` prints of a log; after a `yes` without what was asked, as the page has it. */
+const diagnosed = (log, words = []) => printed(CAPDIAG, ["run", "--why", ...words], log).replace(/^asked .*\n/m, "");
+
 /** The corpus of run logs, with the options of each row. */
 const corpus = () => text("conformance/RUNS.tsv").trimEnd().split("\n").slice(1).map((row) => row.split("\t"))
     .filter(([, options]) => !options.includes("--owners"))
@@ -51,7 +54,7 @@ export async function runsAreJudged(page) {
     const shown = await page.run(said, given);
     const kinds = new Set();
     given.forEach(({ name, log, answer, ...asks }, k) => {
-        const wanted = printed(CAPDIAG, ["run", "--why", ...wordsOf(asks)], log);
+        const wanted = diagnosed(log, wordsOf(asks));
         const [verdict, first, number, refusal] = wanted.split("\n")[0].split(" ");
         const it = shown[k];
         // The module gets whole lines: of a log that ends within a line it has no diagnosis of that line.
@@ -226,7 +229,7 @@ async function revokerIsDrawn(page) {
         at.rows[0]);
     check(at.bars[2] === 1 && at.bars[1] >= 1, `extents: ${at.bars}`);
     check(at.held.some((it) => it.startsWith("scr3") && it.includes("owned by object 17")), "scr3's owner");
-    same(await page.run(() => log.judged.text), printed(CAPDIAG, ["run", "--why"], log), "the revoker that misses a place");
+    same(await page.run(() => log.judged.text), diagnosed(log), "the revoker that misses a place");
 }
 
 /** A run log fits narrow screens, and its texts have contrast. */
