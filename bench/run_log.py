@@ -7,7 +7,9 @@
     bench/run_log.py derivations COUNT  derivations: each line moves the address of c1 into c2
     bench/run_log.py moves COUNT        moves, to compare calls with
     bench/run_log.py objects LIVE COUNT LIVE objects are handed out; then COUNT of them are freed, and others handed out in their place
-    bench/run_log.py frame LIVE COUNT   the same without the lines of objects, to subtract"""
+    bench/run_log.py frame LIVE COUNT   the same without the lines of objects, to subtract
+    bench/run_log.py held COUNT LINES   COUNT objects are handed out and freed. Registers hold 20 of them, over moves up to LINES
+                                        lines; the last line hands out the memory of one that is held"""
 import os
 import sys
 
@@ -82,10 +84,33 @@ def objects(live, count, told):
     sys.stdout.write("".join(out) + f"end {total}\n")
 
 
+def held(count, lines):
+    """Each object has 64 bytes; c3 to c22 hold 20 of them, at equal distances."""
+    out = [HEAD, f"root c1 {word(WHOLE, 0)}\n"]
+
+    def bounded(at):
+        return set_bounds_result(tagged(WHOLE * 2**64 + at), 64).word
+
+    def handed_out(at):
+        return [f"setaddr c2 c1 {at:016x} = 1 {word(WHOLE, at)}\n", f"setbounds c2 c2 0000000000000040 = 1 {bounded(at):032x}\n", "object c2\n"]
+
+    for number in range(count):
+        at = 0x10000 + 64 * number
+        out += handed_out(at)
+        if number % (count // 20) == 0:
+            out.append(f"move c{3 + number // (count // 20)} c2 = 1 {bounded(at):032x}\n")
+    out += [f"move c2 c1 = 1 {word(WHOLE, 0)}\n", *(f"free {number + 1}\n" for number in range(count))]
+    out += [f"move c2 c1 = 1 {word(WHOLE, 0)}\n"] * (lines - len(out) - 5)
+    out += handed_out(0x10000 + 64 * (count // 20) * 7)
+    sys.stdout.write("".join(out) + f"end {len(out) - 2}\n")
+
+
 if __name__ == "__main__":
     kind, *rest = sys.argv[1:]
     if kind in ("steps", "owned"):
         {"steps": steps, "owned": owned}[kind](rest[0])
+    elif kind == "held":
+        held(int(rest[0]), int(rest[1]))
     elif kind in ("calls", "derivations", "moves"):
         {"calls": calls, "derivations": derivations, "moves": moves}[kind](int(rest[0]))
     else:

@@ -46,6 +46,7 @@ const GROUPS = {
     runsAreUsable: runs.runsAreUsable,
     picturesAreDrawn: drawings.picturesAreDrawn,
     picturesAreGiven: drawings.picturesAreGiven,
+    longPicturesAreDrawn: drawings.longPicturesAreDrawn,
     picturesLead: drawings.picturesLead,
     heapsAreJudged: heaps.heapsAreJudged,
     liveObjectsAreDrawn: heaps.liveObjectsAreDrawn,

@@ -1,11 +1,13 @@
 // The picture of a run, beside what `capdiag run --owners` prints of the lines before a line.
 import { execFileSync } from "node:child_process";
 import fs from "node:fs";
+import os from "node:os";
+import path from "node:path";
 import { pathToFileURL } from "node:url";
 import zlib from "node:zlib";
 
 import { built, check, file, hash, root, same, text, tools } from "./given.mjs";
-import { CAPDIAG, printed, settled } from "./logs.mjs";
+import { CAPDIAG, opened, printed, settled } from "./logs.mjs";
 import { overlaps } from "./use.mjs";
 
 const HELD = text("conformance/runs/36-of-the-second.log");
@@ -119,6 +121,50 @@ export async function picturesAreGiven(page) {
     await page.run(settled);
     await page.run((text) => dropped(bytesOf8(text), "moves.log"), text("examples/moves.log"));
     check(await page.run(() => byId("picture").hidden), "another log has no picture");
+}
+
+/** Of a log of a million lines, 200,000 objects are drawn, with each of the 20 that stay held after they were freed, and what the refused
+ * line asks for. */
+export async function longPicturesAreDrawn(page) {
+    await page.size(1280, 900);
+    await page.run(settled);
+    const folder = fs.mkdtempSync(path.join(os.tmpdir(), "capcheck-pictures-"));
+    try {
+        const name = path.join(folder, "held.log");
+        const words = ["bench/run_log.py", "held", "200000", "1000000"];
+        fs.writeFileSync(name, execFileSync("python3", words, { cwd: root, maxBuffer: 1 << 28 }));
+        await opened(page, name);
+        const [took, it] = await page.run(async () => {
+            const began = performance.now();
+            byId("picture").open = true;
+            for (let k = 0; k < 6000 && !log.timeline; k++) await new Promise((done) => setTimeout(done, 10));
+            const { objects, last, samples } = log.timeline;
+            const held = objects.filter(({ freed, gone }) => freed && !gone).map(({ number, held }) => [number, held]);
+            const count = (kind) => Number(document.querySelector(`#pictured path.${kind}`).dataset.count);
+            // The bars that reach the right edge while hatched, by the pixels of their paths.
+            const ends = (kind) => {
+                const bars = document.querySelector(`#pictured path.${kind}`).getAttribute("d").match(/M[^z]*z/g).map((it) => it.match(/M(\d+) (\d+)h(\d+)/).slice(1).map(Number));
+                const right = Math.max(...bars.map(([x, , width]) => x + width));
+                return bars.filter(([x, , width]) => x + width === right).length;
+            };
+            return [performance.now() - began, {
+                last, held, samples: samples.length, live: count("bounds"), ends: ends("freed"), across: document.querySelectorAll("#pictured .asked-across").length,
+                says: seen("picture-says"), after: [samples.at(-1).held, samples.at(-1).holders].map(String),
+            }];
+        });
+        same([it.last, it.live, it.across], [999998, 200000, 1], "what is drawn of a million lines");
+        same(it.held, [...Array(20).keys()].map((k) => [10000 * k + 1, 1]), "the objects that stay held");
+        same(it.after, ["1280", "20"], "the curves at the end");
+        same(it.ends, 20, "the hatched bars that reach the refused line");
+        check(it.samples >= 900 && it.samples <= 1100, `${it.samples} points`);
+        check(it.says.includes("It meets object 70001, freed by line ") && it.says.includes(", held by c10."), it.says);
+        check(took <= 20000, `the picture of a million lines: ${took} ms`);
+        fs.mkdirSync(file("web/out/pictures"), { recursive: true });
+        await page.picture(file("web/out/pictures/million-1280.png"));
+        return `a million lines drawn ${Math.round(took)} ms after they were judged`;
+    } finally {
+        fs.rmSync(folder, { recursive: true });
+    }
 }
 
 /** A click leads to the line there. */
