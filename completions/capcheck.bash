@@ -5,9 +5,9 @@ _capcheck_options() {
     case $1 in
         'capcheck explain') echo '--memory --tag' ;;
         'capcheck judge') echo '--origins' ;;
-        'capdiag why') echo '--origins --freed --owned --owners --context --json' ;;
-        'capdiag heap') echo '--report --why --context --json' ;;
-        'capdiag run') echo '--freed --owned --owners --why --context --json' ;;
+        'capdiag why') echo '--origins --freed --owned --owners --context --json --progress' ;;
+        'capdiag heap') echo '--report --why --context --json --progress' ;;
+        'capdiag run') echo '--freed --owned --owners --why --context --json --progress' ;;
     esac
 }
 

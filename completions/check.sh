@@ -21,24 +21,24 @@ offers() {
 }
 offers 'capdiag ' why heap run --help --version
 offers 'capdiag w' why
-offers 'capdiag why ' --origins --freed --owned --owners --context --json --help
+offers 'capdiag why ' --origins --freed --owned --owners --context --json --progress --help
 offers 'capdiag why --or' --origins
 offers 'capdiag why --freed ' held used both
-offers 'capdiag why --origins -' --freed --owned --owners --context --json
+offers 'capdiag why --origins -' --freed --owned --owners --context --json --progress
 offers 'capdiag why --context '
-offers 'capdiag why --context 3 -' --origins --freed --owned --owners --json
-offers 'capdiag why --json --origins -' --freed --owned --owners --context
-offers 'capdiag heap ' --report --why --context --json --help
-offers 'capdiag heap --report -' --why --context --json
-offers 'capdiag heap --why -' --report --context --json
-offers 'capdiag heap --why log --json --' --report --context
-offers 'capdiag heap --why --report -' --context --json
+offers 'capdiag why --context 3 -' --origins --freed --owned --owners --json --progress
+offers 'capdiag why --json --origins -' --freed --owned --owners --context --progress
+offers 'capdiag heap ' --report --why --context --json --progress --help
+offers 'capdiag heap --report -' --why --context --json --progress
+offers 'capdiag heap --why -' --report --context --json --progress
+offers 'capdiag heap --why log --json --' --report --context --progress
+offers 'capdiag heap --why --report -' --context --json --progress
 offers 'capdiag why log --or' --origins
-offers 'capdiag run ' --freed --owned --owners --why --context --json --help
+offers 'capdiag run ' --freed --owned --owners --why --context --json --progress --help
 offers 'capdiag run --freed ' held used both
 offers 'capdiag run --freed u' used
-offers 'capdiag run --freed used --' --owned --owners --why --context --json
-offers 'capdiag run log --owned --' --freed --owners --why --context --json
+offers 'capdiag run --freed used --' --owned --owners --why --context --json --progress
+offers 'capdiag run log --owned --' --freed --owners --why --context --json --progress
 offers 'capdiag why -- -'
 offers 'capcheck ' explain round judge vectors
 offers 'capcheck j' judge
@@ -52,7 +52,7 @@ _capcheck capcheck capcheck.f judge
 ! command -v zsh > /dev/null || zsh -n _capcheck
 if command -v fish > /dev/null; then
     got=$(fish -c 'source capdiag.fish; complete -C "capdiag heap --"' | cut -f 1 | sort | tr '\n' ' ')
-    [ "$got" = '--context --help --json --report --why ' ] || { echo "completions: fish completes 'capdiag heap --' by $got" >&2; exit 1; }
+    [ "$got" = '--context --help --json --progress --report --why ' ] || { echo "completions: fish completes 'capdiag heap --' by $got" >&2; exit 1; }
     got=$(fish -c 'source capcheck.fish; complete -C "capcheck "' | cut -f 1 | sort | tr '\n' ' ')
     [ "$got" = 'explain judge round vectors ' ] || { echo "completions: fish completes 'capcheck ' by $got" >&2; exit 1; }
 fi

@@ -16,6 +16,7 @@ import socket
 import subprocess
 import sys
 import tempfile
+import time
 
 ROOT = os.path.join(os.path.dirname(os.path.abspath(__file__)), "../..")
 
@@ -353,12 +354,73 @@ def terminals(room):
     os.close(theirs)
 
 
+def fed(room, words, pieces, pause, out=subprocess.PIPE, err=subprocess.PIPE):
+    """What a run gives whose input comes in pieces, with a pause of so many seconds after each."""
+    given, other = os.pipe()
+    program = os.environ.get(room.program.upper()) or f"crates/{room.program}/out/{room.program}"
+    environment = {**os.environ, "TERM": "xterm", "NO_COLOR": "1"}
+    with subprocess.Popen([os.path.join(os.path.abspath(ROOT), program), *words], cwd=room.folder, stdin=given, stdout=out, stderr=err, env=environment) as ran:
+        os.close(given)
+        for piece in pieces:
+            os.write(other, piece)
+            time.sleep(pause)
+        os.close(other)
+        return (ran.wait(), *(it.read() if it else None for it in (ran.stdout, ran.stderr)))
+
+
+def progresses(room):
+    """How far the reading is: on a terminal by itself after two seconds, cleared before the verdict; elsewhere only if it is asked for. An
+    object of JSON comes as soon as its file was judged."""
+    if room.program != "capdiag":
+        return
+    steps = 8
+    pieces = [b"capcheck 1\nroot c1 ffff1ffffc0180040000000000000000\n", *[b"move c2 c1 = 1 ffff1ffffc0180040000000000000000\n"] * steps]
+    yes, no = [*pieces, b"end 8\n"], [*pieces, b"end 9\n"]
+    said_yes, said_no = b"yes 8 1\n", b"no 11 6 WrongCount\n"
+    line = rb"capdiag: (%s)\d+ [kM]B( of \d+ kB)?, \d+ lines, \d+ [kM]B/s(, \d+ s left)?"
+    drawn = rb"(\r%s\x1b\[K)+\r\x1b\[K" % line
+    for pieces, said, status in ((yes, said_yes, 0), (no, said_no, 1)):
+        for words, pause, told in ((["why"], 0.3, True), (["why", "--progress"], 0.1, True), (["why"], 0.02, False), (["why", "--json"], 0.3, True),
+                                   (["why", "-", "gone"], 0.3, True)):
+            ours, theirs = pty.openpty()
+            ran = fed(room, words, pieces, pause, err=theirs)
+            os.close(theirs)
+            text = written(ours)
+            name = b"'-': " if "gone" in words else b""
+            shown = re.match(drawn % name, text) if told else re.match(b"", text)
+            room.wants(f"{words}, in pieces each {pause} s, on a terminal", (ran[0], bool(shown), text.count(b"capdiag: ") > 0), (3 if name else status, True, told or bool(name)))
+            rest = text[shown.end():] if shown else text
+            counted = b"capdiag: 1 accepted, 0 rejected; 1 not opened\n" if status == 0 else b"capdiag: 0 accepted, 1 rejected: 1 WrongCount; 1 not opened\n"
+            room.wants(f"{words}, what stays on the terminal", rest, b"capdiag: cannot open 'gone': no such file\n" + counted if name else b"")
+            if "--json" not in words:
+                room.wants(f"{words}, in pieces each {pause} s", ran[1].partition(b"\n")[0] + b"\n", said)
+    ran = fed(room, ["why"], yes, 0.3)
+    room.wants("why, in pieces, elsewhere", ran, (0, said_yes, b""))
+    ran = fed(room, ["why", "--progress"], yes, 0.7)
+    room.wants("why --progress, in pieces, elsewhere", (*ran[:2], bool(re.fullmatch(line % b"" + b"\n", ran[2]))), (0, said_yes, True))
+    room.put("good", YES)
+    given, other = os.pipe()
+    ours, theirs = os.pipe()
+    program = os.environ.get("CAPDIAG") or "crates/capdiag/out/capdiag"
+    with subprocess.Popen([os.path.join(os.path.abspath(ROOT), program), "why", "--json", "good", "-"], cwd=room.folder, stdin=given, stdout=theirs,
+                          stderr=subprocess.PIPE) as ran:
+        os.close(given)
+        os.close(theirs)
+        early = os.read(ours, 4096)
+        os.write(other, NO)
+        os.close(other)
+        room.wants("why --json good -, before the second log is there", early, room.run(["why", "--json", "good"])[1])
+        room.wants("why --json good -, its second object", os.read(ours, 4096).count(b"\n"), 1)
+        os.close(ours)
+        room.wants("why --json good -", (ran.wait(), ran.stderr.read()), (1, room.fault("1 accepted, 1 rejected: 1 WrongCount")))
+
+
 def main(programs):
     wrong = []
     for program in programs or PROGRAMS:
         with tempfile.TemporaryDirectory() as folder:
             room = Room(folder, program)
-            for part in (printed, inputs, unopened, verdicts, several, contexts, outputs, errors, terminals):
+            for part in (printed, inputs, unopened, verdicts, several, contexts, outputs, errors, terminals, progresses):
                 part(room)
         print("\n".join([*room.wrong, f"{room.count} runs of {program}, {len(room.wrong)} otherwise than is wanted"]))
         wrong += room.wrong

@@ -24,15 +24,15 @@ first_near known word = find (λ it. is_near it word) known
 abbrev pub options_of : List ℕ → List (List ℕ)
 options_of command =
     if bytes_eq command (codes "why")
-    then codes "--origins" ∷ codes "--freed" ∷ codes "--owners" ∷ codes "--owned" ∷ codes "--context" ∷ codes "--json" ∷ codes "--help" ∷ []
-    else if bytes_eq command (codes "heap") then codes "--report" ∷ codes "--why" ∷ codes "--context" ∷ codes "--json" ∷ codes "--help" ∷ []
+    then codes "--origins" ∷ codes "--freed" ∷ codes "--owners" ∷ codes "--owned" ∷ codes "--context" ∷ codes "--json" ∷ codes "--progress" ∷ codes "--help" ∷ []
+    else if bytes_eq command (codes "heap") then codes "--report" ∷ codes "--why" ∷ codes "--context" ∷ codes "--json" ∷ codes "--progress" ∷ codes "--help" ∷ []
     else if bytes_eq command (codes "run")
-    then codes "--freed" ∷ codes "--owners" ∷ codes "--owned" ∷ codes "--why" ∷ codes "--context" ∷ codes "--json" ∷ codes "--help" ∷ []
+    then codes "--freed" ∷ codes "--owners" ∷ codes "--owned" ∷ codes "--why" ∷ codes "--context" ∷ codes "--json" ∷ codes "--progress" ∷ codes "--help" ∷ []
     else codes "--help" ∷ codes "--version" ∷ []
 
 -- the words for which an unknown one may stand: the commands, or the options of its command
 abbrev pub known_words : Complaint → List (List ℕ) → List (List ℕ)
-known_words UnknownCommand words = codes "why" ∷ codes "heap" ∷ codes "run" ∷ []
+known_words UnknownCommand words = codes "why" ∷ codes "heap" ∷ codes "run" ∷ codes "help" ∷ []
 known_words UnknownOption (command ∷ words) = options_of command
 known_words complaint words = []
 

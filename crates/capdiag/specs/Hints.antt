@@ -21,6 +21,7 @@ other_kind (Judge (Run run false told) form file files) front =
     if bytes_eq front (codes "capche") then Some OfMachine else if bytes_eq front (codes "heap 1") then Some OfHeap else None
 other_kind (Judge (Heap report false) form file files) front =
     if bytes_eq front (codes "capche") then Some OfMachine else if bytes_eq front (codes "run 1\n") then Some OfRun else None
+other_kind (Judge (Heap report true) form file files) front = if bytes_eq front (codes "run 1\n") then Some OfRun else None
 other_kind order front = None
 
 -- what is told of it

@@ -9,6 +9,7 @@ pub mod Notes
 pub mod Noted
 pub mod Tallies
 pub mod Readings
+pub mod Progress
 pub mod Renderings
 pub mod Judgings
 pub mod Answers

@@ -11,11 +11,11 @@ use Rattle.capdiag.specs.declared.words.{Asked.Asked, Due.{Due, TheVariants.{Any
 use Rattle.capdiag.specs.Forms.{count_of, is_json, plain, with_json, with_lines}
 
 -- what words ask for: help; the version; or what a judge says of each of these files in turn, or of standard input if there is
--- none, and how it is shown
+-- none, how it is shown, and whether it is told how far the reading is
 pub data Request : Type 0 where
   Help : Request
   Version : Request
-  Judge : (judging : Judging) (form : Form) (files : List (List ℕ)) → Request
+  Judge : (judging : Judging) (form : Form) (progress : Bool) (files : List (List ℕ)) → Request
 
 -- what all words ask for, or what is wrong, and with which word
 abbrev pub Read : Type 0
@@ -70,8 +70,9 @@ after_flag asked word = flagged asked (if bytes_eq word (codes "--freed") then F
 abbrev pub after_option : Asked → List ℕ → Result Asked Complaint
 after_option asked word =
     if bytes_eq word (codes "--") then Ok (record asked { due = File })
-    else if bytes_eq word (codes "--help") then Err Alone
+    else if bytes_eq word (codes "--help") || bytes_eq word (codes "-h") then Err Alone
     else if bytes_eq word (codes "--json") then once (is_json asked.form.look) (record asked { form = with_json asked.form })
+    else if bytes_eq word (codes "--progress") then once asked.progress (record asked { progress = true })
     else if bytes_eq word (codes "--context") then once (is_some asked.form.context) (record asked { due = ContextValue })
     else after_flag asked word
 
@@ -119,7 +120,7 @@ with_word asked word = with_due asked.due asked word
 abbrev pub ended_by : Due → Asked → List (List ℕ) → Read
 ended_by FreedValue asked files = Err (NoValue, codes "--freed")
 ended_by ContextValue asked files = Err (NoCount, codes "--context")
-ended_by due asked files = Ok (Judge asked.judging asked.form files)
+ended_by due asked files = Ok (Judge asked.judging asked.form asked.progress files)
 
 abbrev pub at_end : Asked → List (List ℕ) → Read
 at_end asked files = ended_by asked.due asked files
@@ -141,14 +142,14 @@ with_words (Ok asked) files (word ∷ words) =
 
 -- whether the words after a command ask for help
 abbrev pub is_help : List (List ℕ) → Bool
-is_help (word ∷ []) = bytes_eq word (codes "--help")
+is_help (word ∷ []) = bytes_eq word (codes "--help") || bytes_eq word (codes "-h")
 is_help words = false
 
 -- what a command and the words after it ask for
 abbrev pub after_command : Judging → List (List ℕ) → Read
 after_command judge words =
     if is_help words then Ok Help
-    else with_words (Ok (record { due = Any; judging = judge; form = plain; has_input = false })) [] words
+    else with_words (Ok (record { due = Any; judging = judge; form = plain; progress = false; has_input = false })) [] words
 
 -- what an option in place of a command asks for: no other word stands beside it
 abbrev pub alone : Request → List ℕ → List (List ℕ) → Read
@@ -158,7 +159,7 @@ alone request option (word ∷ words) = Err (Alone, option)
 -- what the words ask for if the first is no command
 abbrev pub without_command : List ℕ → List (List ℕ) → Read
 without_command word words =
-    if bytes_eq word (codes "--help") then alone Help word words
+    if bytes_eq word (codes "--help") || (bytes_eq word (codes "-h") || bytes_eq word (codes "help")) then alone Help word words
     else if bytes_eq word (codes "--version") then alone Version word words
     else if is_operand word then Err (UnknownCommand, word)
     else Err (UnknownOption, word)

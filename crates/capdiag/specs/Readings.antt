@@ -12,7 +12,7 @@ names_of texts = map (λ text. text.now) texts
 abbrev pub request_of : Request → orders.Request
 request_of Help = orders.Help
 request_of Version = orders.Version
-request_of (Judge judging form files) = orders.Judge judging form (names_of files.items)
+request_of (Judge judging form progress files) = orders.Judge judging form progress (names_of files.items)
 
 -- what was read
 abbrev pub read_of : Result Request Wrong → orders.Read

@@ -64,6 +64,7 @@ pub fn other_kind(order: Order<'_>, front: &[u8]) -> Option<LogKind>
                 None
             }
         }
+        Judging::Heap { why: true, .. } if front == RUN_HEADER.as_slice() => Some(LogKind::Run),
         _ => None,
     }
 }

@@ -54,9 +54,17 @@ fn options_of(command: &str) -> &'static [&'static str]
             "--owned",
             "--context",
             "--json",
+            "--progress",
             "--help",
         ],
-        "heap" => &["--report", "--why", "--context", "--json", "--help"],
+        "heap" => &[
+            "--report",
+            "--why",
+            "--context",
+            "--json",
+            "--progress",
+            "--help",
+        ],
         "run" => &[
             "--freed",
             "--owners",
@@ -64,6 +72,7 @@ fn options_of(command: &str) -> &'static [&'static str]
             "--why",
             "--context",
             "--json",
+            "--progress",
             "--help",
         ],
         _ => &["--help", "--version"],
@@ -75,7 +84,7 @@ fn known_words(complaint: Complaint, words: &[&str]) -> &'static [&'static str]
     ensures value { map (λ it. it.now) result.now ≡ known_words complaint (map (λ word. word.now) words.now) }
 {
     match complaint {
-        Complaint::UnknownCommand => &["why", "heap", "run"],
+        Complaint::UnknownCommand => &["why", "heap", "run", "help"],
         Complaint::UnknownOption => match words.split_first() {
             Some((command, _)) => options_of(command),
             None => &[],

@@ -11,9 +11,11 @@ mod help;
 mod judges;
 mod noting;
 mod orders;
+mod progress;
 mod renderings;
 mod runs;
 mod tallies;
+mod watches;
 mod words;
 
 pub use crate::complaints::{
@@ -23,9 +25,11 @@ pub use crate::forms::{Form, Look, is_json, is_plain, show_unopened};
 pub use crate::fronts::{order_on, other_kind, read_front};
 pub use crate::noting::{Noting, name_in};
 pub use crate::orders::{Judging, Order, Request, RunAsked, order_of};
+pub use crate::progress::{Reading, read_on, tell_progress};
 pub use crate::renderings::name_of;
 pub use crate::runs::run;
 pub use crate::tallies::{Tally, tell_summary};
+pub use crate::watches::{Clearing, Telling, Watched};
 pub use crate::words::read_words;
 use cap_log::WriteSink;
 pub use cap_program::carry_out;
@@ -62,13 +66,9 @@ fn answer(rt: &HostRuntime) -> Result<u8, AllocError> {
     match read_words(rt.alloc(), words)? {
         Ok(Request::Help) => Ok(show(rt, Order::Help)),
         Ok(Request::Version) => Ok(show(rt, Order::Version)),
-        Ok(Request::Judge(judging, form, files)) => {
-            judge_files(
-                rt,
-                judging,
-                with_colors(has_colors(rt), form),
-                files.as_slice(),
-            )
+        Ok(Request::Judge(judging, form, progress, files)) => {
+            let form = with_colors(has_colors(rt), form);
+            judge_files(rt, judging, form, progress, files.as_slice())
         }
         Err(wrong) => {
             tell_words(words, wrong, &mut WriteSink::new(&mut rt.stderr()));
@@ -94,12 +94,15 @@ fn judge_files(
     rt: &HostRuntime,
     judging: Judging,
     form: Form,
+    progress: bool,
     files: &[&str],
 ) -> Result<u8, AllocError> {
+    let telling = telling_of(rt, progress);
     let mut tally = Tally::new(rt.alloc());
     let mut status = 0u8;
     for number in 0..files.len().max(1) {
-        let (own, goes_on) = judge_alone(rt, order_of(judging, form, files, number), &mut tally)?;
+        let order = order_of(judging, form, files, number);
+        let (own, goes_on) = judge_alone(rt, order, telling.as_ref(), &mut tally)?;
         status = status.max(own);
         if !goes_on {
             return Ok(status);
@@ -121,10 +124,21 @@ fn has_colors(rt: &HostRuntime) -> bool {
         Ok(value) if value.is_empty() => {}
         _ => return false,
     }
+    !is_dumb(rt)
+}
+
+// Whether the terminal takes no escape sequences, or doesn't say that it does.
+fn is_dumb(rt: &HostRuntime) -> bool {
     match env::var(rt, "TERM") {
-        Ok(terminal) => terminal.as_str() != "dumb",
-        Err(_) => false,
+        Ok(terminal) => terminal.as_str() == "dumb",
+        Err(_) => true,
     }
+}
+
+// How it is told how far the reading is, if it is.
+fn telling_of(rt: &HostRuntime, is_asked: bool) -> Option<Telling> {
+    let is_drawn = rt.stderr().is_terminal() && !is_dumb(rt);
+    Telling::new(rt, is_drawn, is_asked)
 }
 
 // A form with colors, if there are any and it is shown as it is otherwise.
@@ -143,13 +157,20 @@ fn with_colors(has_colors: bool, form: Form) -> Form {
 fn judge_alone(
     rt: &HostRuntime,
     order: Order,
+    telling: Option<&Telling>,
     tally: &mut Tally,
 ) -> Result<(u8, bool), AllocError> {
     let (out, errors) = (&mut rt.stdout(), &mut rt.stderr());
-    let mut out = Noting::new(out);
+    let mut out = Clearing::new(out, rt.stderr(), telling);
+    let errors = &mut Clearing::new(errors, rt.stderr(), telling);
+    let mut out = Noting::new(&mut out);
+    let name = name_of(Look::Plain, files_of(order), file_of(order));
     let status = match file_of(order) {
         Some(path) => match open(rt, path) {
-            Ok(file) => judge(rt, order, file, &mut out, errors),
+            Ok((file, whole)) => {
+                let file = Watched::new(file, rt, rt.stderr(), telling, name, whole);
+                judge(rt, order, file, &mut out, errors)
+            }
             Err(reason) => {
                 tell_unopened(path, reason, &mut WriteSink::new(errors));
                 tally.pass_over();
@@ -158,9 +179,13 @@ fn judge_alone(
         },
         None => {
             let input = rt.stdin();
-            if input.is_terminal() {
+            let telling = if input.is_terminal() {
                 tell_waiting(&mut WriteSink::new(errors));
-            }
+                None
+            } else {
+                telling
+            };
+            let input = Watched::new(input, rt, rt.stderr(), telling, name, None);
             judge(rt, order, input, &mut out, errors)
         }
     };
@@ -230,15 +255,16 @@ fn judge<R: Read + Drop, O: Write, F: Write>(
     }
 }
 
-// Opens a file that is no directory.
-fn open(rt: &HostRuntime, path: &str) -> Result<File, Unopened> {
+// Opens a file that is no directory, and answers how many bytes it has, if that is known.
+fn open(rt: &HostRuntime, path: &str) -> Result<(File, Option<u64>), Unopened> {
     let file = match File::open(rt, path) {
         Ok(file) => file,
         Err(error) => return Err(reason_of(error.kind())),
     };
     match file.metadata() {
         Ok(found) if found.is_dir() => Err(Unopened::Directory),
-        _ => Ok(file),
+        Ok(found) if found.is_file() => Ok((file, Some(found.len()))),
+        _ => Ok((file, None)),
     }
 }
 

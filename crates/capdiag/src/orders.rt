@@ -8,13 +8,14 @@ use crate::forms::{Form, is_json};
 /// What the words ask for.
 #[derive(Drop)]
 pub enum Request<'a> {
-    /// `--help`, after a command too: tell how the program is used.
+    /// `help`, `--help` or `-h`, also one of these options after a command: tell how the program is used.
     Help,
     /// `--version`: tell its version.
     Version,
-    /// `why`, `heap` or `run`, each with `[--context N] [--json] [FILE..]`: judge each file in turn, or standard input if there
-    /// is none, and print the verdict with the reports that are asked for, in this form. `-` is standard input.
-    Judge(Judging, Form, Vec<&'a str>),
+    /// `why`, `heap` or `run`, each with `[--context N] [--json] [--progress] [FILE..]`: judge each file in turn, or standard
+    /// input if there is none, and print the verdict with the reports that are asked for, in this form; and tell meanwhile how far
+    /// the reading is, if that is asked for. `-` is standard input.
+    Judge(Judging, Form, bool, Vec<&'a str>),
 }
 
 /// What the program does at once.

@@ -40,6 +40,8 @@ struct Asked {
     judging: Judging,
     // How they are shown.
     form: Form,
+    // Whether it is asked how far the reading is.
+    progress: bool,
     // Whether standard input is named.
     has_input: bool,
 }
@@ -153,7 +155,7 @@ fn after_option(asked: Asked, word: &str) -> Result<Asked, Complaint>
             due: Due::File,
             ..asked
         }),
-        "--help" => Err(Complaint::Alone),
+        "--help" | "-h" => Err(Complaint::Alone),
         "--json" => once(
             is_json(form.look),
             Asked {
@@ -161,6 +163,13 @@ fn after_option(asked: Asked, word: &str) -> Result<Asked, Complaint>
                     look: Look::Json,
                     ..form
                 },
+                ..asked
+            },
+        ),
+        "--progress" => once(
+            asked.progress,
+            Asked {
+                progress: true,
                 ..asked
             },
         ),
@@ -282,7 +291,12 @@ fn at_end<'a>(asked: Asked, files: Vec<&'a str>) -> Result<Request<'a>, Wrong<'a
             complaint: Complaint::NoCount,
             word: "--context",
         }),
-        Due::Any | Due::File => Ok(Request::Judge(asked.judging, asked.form, files)),
+        Due::Any | Due::File => Ok(Request::Judge(
+            asked.judging,
+            asked.form,
+            asked.progress,
+            files,
+        )),
     }
 }
 
@@ -314,7 +328,7 @@ fn is_help(words: &[&str]) -> bool
     ensures value { result ≡ is_help (map (λ word. word.now) words.now) }
 {
     match words {
-        [word] => *word == "--help",
+        [word] => *word == "--help" || *word == "-h",
         _ => false,
     }
 }
@@ -334,6 +348,7 @@ fn after_command<'a>(
         due: Due::Any,
         judging,
         form: PLAIN,
+        progress: false,
         has_input: false,
     };
     with_words(alloc, asked, words)
@@ -361,7 +376,7 @@ fn without_command<'a>(word: &'a str, words: &[&'a str]) -> Result<Request<'a>, 
     ensures value { without_command word.now (map (λ word. word.now) words.now) ≡ read_of result }
 {
     match word {
-        "--help" => alone(Request::Help, word, words),
+        "--help" | "-h" | "help" => alone(Request::Help, word, words),
         "--version" => alone(Request::Version, word, words),
         _ if is_operand(word) => Err(Wrong {
             complaint: Complaint::UnknownCommand,
