@@ -3,7 +3,10 @@ the run log of a trace, the verdicts on many logs, and a picture of a run."""
 from __future__ import annotations
 
 import argparse
+import os
+import stat
 import sys
+import time
 from typing import Any
 
 from . import Capability, heaps, importing, judge, many, pictures, runs, shorten, version, why
@@ -38,6 +41,38 @@ def _arguments() -> argparse.Namespace:
     return parser.parse_args()
 
 
+class _Progress:
+    """How far a log was judged: a terminal shows it after two seconds, and an interrupt tells it."""
+
+    def __init__(self, log: Any) -> None:
+        about = os.fstat(log.fileno())
+        self._whole = f" of {self._amount(about.st_size)}" if stat.S_ISREG(about.st_mode) else ""
+        self._taken, self._is_shown, self._due = 0, False, time.monotonic() + 2
+
+    @staticmethod
+    def _amount(count: int) -> str:
+        return f"{count // 1000} kB" if count < 10**7 else f"{count // 10**6} MB"
+
+    def __str__(self) -> str:
+        return f"{self._amount(self._taken)}{self._whole}"
+
+    def __call__(self, taken: int) -> None:
+        self._taken = taken
+        if time.monotonic() >= self._due and sys.stderr.isatty():
+            self._is_shown, self._due = True, time.monotonic() + 0.5
+            print(f"\rcapcheck: {self}", end="\x1b[K", file=sys.stderr, flush=True)
+
+    def judged(self, call: Any, *words: Any, **more: Any) -> Any:
+        """What a judge answers, which is told of it."""
+        try:
+            return call(*words, **more, progress=self)
+        except KeyboardInterrupt:
+            raise KeyboardInterrupt(f" after {self}") from None
+        finally:
+            if self._is_shown:
+                print("\r\x1b[K", end="", file=sys.stderr, flush=True)
+
+
 def _printed(given: argparse.Namespace, log: Any) -> tuple[bytes, int]:
     """What is printed of a log, and the status."""
     if given.command == "picture":
@@ -47,11 +82,11 @@ def _printed(given: argparse.Namespace, log: Any) -> tuple[bytes, int]:
         return shorten(log, given.seconds, given.replayable, **asks), 0
     begin, explains = log.peek(8), given.command == "why"
     if begin.startswith(b"run 1\n"):
-        text = runs.why(log, **asks) if explains else f"{runs.judge(log, **asks)}\n"
+        text = runs.why(log, **asks) if explains else f"{_Progress(log).judged(runs.judge, log, **asks)}\n"
     elif begin.startswith(b"heap 1\n"):
         text = heaps.why(log) if explains else f"{heaps.judge(log)}\n"
     else:
-        text = why(log, given.origins) if explains else f"{judge(log)}\n"
+        text = why(log, given.origins) if explains else f"{_Progress(log).judged(judge, log)}\n"
     return text.encode(), int(not text.startswith("yes"))
 
 
@@ -85,8 +120,8 @@ def main() -> int:
         return _failed(1 if given.command == "shorten" else 2, wrong)
     except MemoryError:
         return _failed(3, "no memory")
-    except KeyboardInterrupt:
-        return _failed(130, "interrupted")
+    except KeyboardInterrupt as at:
+        return _failed(130, f"interrupted{at}")
     except importing.WriteFault as fault:
         return _failed(3, f"write fault: {fault}")
     except OSError as fault:

@@ -104,11 +104,22 @@ def files(paths: Iterable[str]) -> Iterator[str]:
 
 def judge_file(file: str, freed: str = "held", owned: bool = False) -> Result:
     """The verdict on a file: what its first line says that it is."""
+    return _result(file, _asks(freed, owned), _found(file, freed, owned))
+
+
+def _result(file: str, asks: str, found: tuple[Any, ...]) -> Result:
+    """The result of a file, by what was found in it."""
+    size, changed, *more = found
+    return Result(file, size, changed, asks, *more)
+
+
+def _found(file: str, freed: str, owned: bool) -> tuple[Any, ...]:
+    """The fields of a result after its file, without what was asked and without those at the end that are empty: so little passes from one
+    process to another."""
     try:
         data, changed = _read(file)
     except OSError as fault:
-        return Result(file, -1, -1, _asks(freed, owned), "", failed=f"read fault: {fault.strerror or fault}")
-    of = file, len(data), changed, _asks(freed, owned)
+        return -1, -1, "", 0, "", "", f"read fault: {fault.strerror or fault}"
     try:
         why: Callable[[], str]
         if data.startswith(b"run 1\n"):
@@ -119,11 +130,11 @@ def judge_file(file: str, freed: str = "held", owned: bool = False) -> Result:
         else:
             found, why = judges.judge_bytes(data), lambda: judges.why(data)
         if found:
-            return Result(*of, str(found))
+            return len(data), changed, str(found)
         last = why().rstrip("\n").rsplit("\n", 1)[-1]
     except MemoryError:
-        return Result(*of, "", failed="no memory")
-    return Result(*of, str(found), found.line, str(found).split()[-1], last)
+        return len(data), changed, "", 0, "", "", "no memory"
+    return len(data), changed, str(found), found.line, str(found).split()[-1], last
 
 
 def _asks(freed: str, owned: bool) -> str:
@@ -173,9 +184,9 @@ class _Written:
         self._file.flush()
 
 
-def _each(names: list[str], freed: str, owned: bool) -> list[Result]:
+def _each(names: list[str], freed: str, owned: bool) -> list[tuple[Any, ...]]:
     """What a process or a worker does with a batch."""
-    return [judge_file(name, freed, owned) for name in names]
+    return [_found(name, freed, owned) for name in names]
 
 
 def _batches(names: Sequence[str], jobs: int) -> Iterator[list[str]]:
@@ -191,14 +202,14 @@ def judge_many(names: Sequence[str], jobs: int = 1, freed: str = "held", owned: 
         return
     # An interrupt ends this process, which ends the others.
     with ProcessPoolExecutor(jobs, initializer=signal.signal, initargs=(signal.SIGINT, signal.SIG_IGN)) as pool:
-        batches, pending = _batches(names, jobs), set[Future[list[Result]]]()
+        batches, asks, of = _batches(names, jobs), _asks(freed, owned), dict[Future[list[tuple[Any, ...]]], list[str]]()
         try:
             while True:
-                pending |= {pool.submit(_each, batch, freed, owned) for batch in islice(batches, _WAITING * jobs - len(pending))}
-                if not pending:
+                of.update((pool.submit(_each, batch, freed, owned), batch) for batch in islice(batches, _WAITING * jobs - len(of)))
+                if not of:
                     return
-                done, pending = wait(pending, return_when=FIRST_COMPLETED)
-                yield from (result for it in done for result in it.result())
+                done, _ = wait(of, return_when=FIRST_COMPLETED)
+                yield from (_result(name, asks, found) for it in done for name, found in zip(of.pop(it), it.result()))
         except BrokenProcessPool:  # The system ended one, for lack of memory.
             raise MemoryError from None
 
@@ -215,7 +226,7 @@ def judge_by_cluster(scheduler: str, names: Sequence[str], freed: str = "held", 
     except (OSError, ValueError) as fault:
         raise ConnectionError(f"the scheduler {scheduler} doesn't answer: {fault}") from None
     with client:
-        batches = _batches(names, max(1, sum(client.nthreads().values())))
+        batches, asks = _batches(names, max(1, sum(client.nthreads().values()))), _asks(freed, owned)
         of = {client.submit(_each, batch, freed, owned, pure=False): batch for batch in islice(batches, _UNDER_WAY)}
         done = as_completed(list(of))
         for future in done:
@@ -227,10 +238,10 @@ def judge_by_cluster(scheduler: str, names: Sequence[str], freed: str = "held", 
                 continue
             batch = of.pop(future)
             if status == "finished":
-                yield from future.result()
+                yield from (_result(name, asks, found) for name, found in zip(batch, future.result()))
             else:
                 failed = f"no worker judged it: {type(future.exception()).__name__}"
-                yield from (Result(name, -1, -1, _asks(freed, owned), "", failed=failed) for name in batch)
+                yield from (Result(name, -1, -1, asks, "", failed=failed) for name in batch)
             for more in islice(batches, 1):
                 added = client.submit(_each, more, freed, owned, pure=False)
                 of[added] = more

@@ -5,9 +5,11 @@ import mmap
 import os
 import pickle
 import random
+import signal
 import subprocess
 import tempfile
 import threading
+import time
 import unittest
 from pathlib import Path
 
@@ -445,6 +447,18 @@ class Command(unittest.TestCase):
             self.assertTrue(call(Slowly(), progress=told.append))
             self.assertEqual(told, [min(3 * it, len(log)) for it in range(1, -(-len(log) // 3) + 1)])
             self.assertRaises(ZeroDivisionError, call, io.BytesIO(log), progress=lambda _: 1 // 0)
+
+    def test_interrupt(self):
+        """An interrupt tells how far a log was judged."""
+        for first in (b"capcheck 1\n", b"run 1\nmode clear\n"):
+            with subprocess.Popen(["python3", "-m", "capcheck", "judge"], stdin=subprocess.PIPE, stderr=subprocess.PIPE) as it:
+                it.stdin.write(first + b"root c1 ffff1ffffc0180040000000000000000\n" + b"move c2 c1 = 1 ffff1ffffc0180040000000000000000\n" * 5000)
+                it.stdin.flush()  # More than a pipe holds: it has begun to judge.
+                time.sleep(0.5)
+                it.send_signal(signal.SIGINT)
+                self.assertRegex(it.stderr.read(), rb"\Acapcheck: interrupted after [0-9]+ kB\n\Z")
+                it.stdin.close()
+            self.assertEqual(it.returncode, 130)
 
     def test_statuses_of_the_program(self):
         for words in ("judge examples/moves.log > /dev/full", "judge missing.log", "why examples", "explain %s > /dev/full" % NULL.digits,
