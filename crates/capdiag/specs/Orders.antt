@@ -1,6 +1,7 @@
 -- What the words after the program's name ask for, or what is wrong with them. All of it is this profile's own.
-use Rattle.std.specs.Prelude.{ℕ, Bool, true, false, ◌||◌, List, [], ◌∷◌, ◌++◌, codes, bytes_eq, if◌then◌else◌}
+use Rattle.std.specs.Prelude.{ℕ, Bool, true, false, ◌||◌, List, [], ◌∷◌, ◌++◌, drop, codes, bytes_eq, if◌then◌else◌}
 use Rattle.std.specs.Prelude.{Option, Some, None, is_some, ok_or, option_map, Result, Ok, Err}
+use Rattle.cap_json.specs.Words.{begins}
 use Rattle.cap_program.specs.Words.{is_operand}
 use Rattle.capdiag.specs.declared.complaints.Complaint.{Complaint}
 use Rattle.capdiag.specs.declared.complaints.Complaint.TheVariants.{NoCommand, UnknownCommand, UnknownOption, NoValue, UnknownValue}
@@ -104,14 +105,31 @@ is_file due word = false
 abbrev pub with_file : Asked → List ℕ → Result Asked Complaint
 with_file asked word = if bytes_eq word (codes "-") then once asked.has_input (record asked { has_input = true }) else Ok asked
 
+-- what is asked for with the value of an option, by which one is due
+abbrev pub with_value : Due → Asked → List ℕ → Result Asked Complaint
+with_value FreedValue asked word =
+    ok_or (option_map (λ more. record asked { due = Any; judging = more }) (with_freed asked.judging word)) UnknownValue
+with_value ContextValue asked word =
+    ok_or (option_map (λ count. record asked { due = Any; form = with_lines asked.form count }) (count_of word)) UnknownCount
+with_value due asked word = Err UnknownOption
+
+-- what is asked for with an option and its value
+abbrev pub with_both : Result Asked Complaint → List ℕ → Result Asked Complaint
+with_both (Err complaint) value = Err complaint
+with_both (Ok asked) value = with_value asked.due asked value
+
+-- what is asked for with an option, and with its value if they are joined by an equals sign
+abbrev pub after_dash : Asked → List ℕ → Result Asked Complaint
+after_dash asked word =
+    if begins (codes "--context=") word then with_both (after_option asked (codes "--context")) (drop 10 word)
+    else if begins (codes "--freed=") word then with_both (after_option asked (codes "--freed")) (drop 8 word)
+    else after_option asked word
+
 -- what is asked for with one word more, by what it is
 abbrev pub with_due : Due → Asked → List ℕ → Result Asked Complaint
-with_due FreedValue asked word =
-    ok_or (option_map (λ more. record asked { due = Any; judging = more }) (with_freed asked.judging word)) UnknownValue
-with_due ContextValue asked word =
-    ok_or (option_map (λ count. record asked { due = Any; form = with_lines asked.form count }) (count_of word)) UnknownCount
-with_due Any asked word = if is_taken word then with_file asked word else after_option asked word
+with_due Any asked word = if is_taken word then with_file asked word else after_dash asked word
 with_due File asked word = with_file asked word
+with_due due asked word = with_value due asked word
 
 abbrev pub with_word : Asked → List ℕ → Result Asked Complaint
 with_word asked word = with_due asked.due asked word

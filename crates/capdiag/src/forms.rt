@@ -70,10 +70,10 @@ fn is_digit(byte: u8) -> bool
 }
 
 /// The number of lines that a word spells, 0 to 99, if it does.
-pub(crate) fn count_of(word: &str) -> Option<u8>
+pub(crate) fn count_of(word: &[u8]) -> Option<u8>
     ensures value { result ≡ count_of word.now }
 {
-    match word.as_bytes() {
+    match word {
         [digit] if is_digit(*digit) => Some(*digit - b'0'),
         [ten, digit] if *ten != b'0' && is_digit(*ten) && is_digit(*digit) => {
             Some(10 * (*ten - b'0') + (*digit - b'0'))

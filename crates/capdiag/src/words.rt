@@ -2,12 +2,14 @@
 
 ghost use Rattle.std.specs.Prelude.{◌≡◌, [], IfOk, Ok, map};
 ghost use Rattle.capdiag.specs.Orders.{after_command, after_flag, after_option, alone, at_end, freed_of, is_file, is_help, is_taken, with_asked_flag, with_why_flag};
-ghost use Rattle.capdiag.specs.Orders.{once, read_words, with_file, with_flag, with_freed, with_run_flag, with_word, with_words, without_command};
+ghost use Rattle.capdiag.specs.Orders.{after_dash, once, read_words, with_both, with_file, with_flag, with_freed, with_run_flag, with_value, with_word, with_words};
+ghost use Rattle.capdiag.specs.Orders.{without_command};
 ghost use Rattle.capdiag.specs.Readings.{names_of, read_of, request_of};
 
 use crate::complaints::{Complaint, Wrong};
 use crate::forms::{Form, Look, PLAIN, count_of, is_json};
 use crate::orders::{Freed, Judging, Request, RunAsked};
+use cap_json::begins;
 use cap_program::is_operand;
 use std::alloc::{AllocError, Global};
 
@@ -185,19 +187,22 @@ fn after_option(asked: Asked, word: &str) -> Result<Asked, Complaint>
 }
 
 // What a value of `--freed` asks of freed objects; none if the word isn't one.
-fn freed_of(word: &str) -> Option<Freed>
+fn freed_of(word: &[u8]) -> Option<Freed>
     ensures value { result ≡ freed_of word.now }
 {
-    match word {
-        "held" => Some(Freed::Held),
-        "used" => Some(Freed::Used),
-        "both" => Some(Freed::Both),
-        _ => None,
+    if word == b"held".as_slice() {
+        Some(Freed::Held)
+    } else if word == b"used".as_slice() {
+        Some(Freed::Used)
+    } else if word == b"both".as_slice() {
+        Some(Freed::Both)
+    } else {
+        None
     }
 }
 
 // A judge with the value of `--freed`; none if the word isn't one.
-fn with_freed(judging: Judging, word: &str) -> Option<Judging>
+fn with_freed(judging: Judging, word: &[u8]) -> Option<Judging>
     ensures value { result ≡ with_freed judging word.now }
 {
     let freed = Some(freed_of(word)?);
@@ -249,9 +254,9 @@ fn with_file(asked: Asked, word: &str) -> Result<Asked, Complaint>
     }
 }
 
-// What is asked for with one word more.
-fn with_word(asked: Asked, word: &str) -> Result<Asked, Complaint>
-    ensures value { result ≡ with_word asked word.now }
+// What is asked for with the value of an option.
+fn with_value(asked: Asked, word: &[u8]) -> Result<Asked, Complaint>
+    ensures value { result ≡ with_value asked.due asked word.now }
 {
     match asked.due {
         Due::FreedValue => match with_freed(asked.judging, word) {
@@ -273,7 +278,41 @@ fn with_word(asked: Asked, word: &str) -> Result<Asked, Complaint>
             }),
             None => Err(Complaint::UnknownCount),
         },
-        Due::Any if !is_taken(word) => after_option(asked, word),
+        Due::Any | Due::File => Err(Complaint::UnknownOption),
+    }
+}
+
+// What is asked for with an option and its value.
+fn with_both(asked: Asked, option: &str, value: &[u8]) -> Result<Asked, Complaint>
+    ensures value { result ≡ with_both (after_option asked option.now) value.now }
+{
+    match after_option(asked, option) {
+        Ok(asked) => with_value(asked, value),
+        Err(complaint) => Err(complaint),
+    }
+}
+
+// What is asked for with an option, and with its value if they are joined by an equals sign.
+fn after_dash(asked: Asked, word: &str) -> Result<Asked, Complaint>
+    ensures value { result ≡ after_dash asked word.now }
+{
+    let bytes = word.as_bytes();
+    if begins(b"--context=", bytes) {
+        with_both(asked, "--context", &bytes[10..])
+    } else if begins(b"--freed=", bytes) {
+        with_both(asked, "--freed", &bytes[8..])
+    } else {
+        after_option(asked, word)
+    }
+}
+
+// What is asked for with one word more.
+fn with_word(asked: Asked, word: &str) -> Result<Asked, Complaint>
+    ensures value { result ≡ with_word asked word.now }
+{
+    match asked.due {
+        Due::FreedValue | Due::ContextValue => with_value(asked, word.as_bytes()),
+        Due::Any if !is_taken(word) => after_dash(asked, word),
         Due::Any | Due::File => with_file(asked, word),
     }
 }

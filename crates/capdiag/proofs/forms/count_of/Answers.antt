@@ -1,4 +1,4 @@
-use Rattle.std.proofs.Common.{◌≡◌, ◌≢◌, ◌<◌, ◌≤◌, ◌+◌, ◌-◌, ◌*◌, ℕ, List, [], ◌∷◌, length, get_or, arith, subst, true, None, Some}
+use Rattle.std.proofs.Common.{◌≡◌, ◌≢◌, ◌<◌, ◌≤◌, ◌+◌, ◌-◌, ◌*◌, ℕ, List, [], ◌∷◌, length, get_or, arith, true, None, Some}
 use Rattle.std.proofs.lemmas.Grind.{common_steps}
 use Rattle.capdiag.specs.Forms.{count_of, is_digit}
 use Rattle.capdiag.proofs.forms.count_of.Goals as goal
@@ -19,17 +19,12 @@ two_digits (a ∷ b ∷ d ∷ more) two three ten a_digit b_digit = absurd (omeg
 
 pub returns-in-len2 : goal.returns-in-len2
 returns-in-len2 c =
-    let bytes = c.as_bytes.result.now in
-    let ten : get_or bytes 0 0 ≢ 48 = omega arith in
-    record {
-      value = subst (λ (word : List ℕ). Some (10 * (get_or bytes 0 0 - 48) + (get_or bytes 1 0 - 48)) ≡ count_of word) c.as_bytes.ensures.value
-          (two_digits bytes c.in-len2.len_at_least c.in-len2.len_below ten c.if-is_digit-2.ensures.value c.if-is_digit-3.ensures.value);
-    }
+    let word = c.args.word.now in
+    let ten : get_or word 0 0 ≢ 48 = omega arith in
+    record { value = two_digits word c.in-len2.len_at_least c.in-len2.len_below ten c.if-is_digit-2.ensures.value c.if-is_digit-3.ensures.value }
 
 pub returns-in_default-5 : goal.returns-in_default-5
 returns-in_default-5 c =
-    let zero : get_or c.as_bytes.result.now 0 0 ≡ 48 = omega arith in
-    record {
-      value = subst (λ (word : List ℕ). None ≡ count_of word) c.as_bytes.ensures.value
-          (leading_zero c.as_bytes.result.now c.in-len2.len_at_least c.in-len2.len_below zero);
-    }
+    let word = c.args.word.now in
+    let zero : get_or word 0 0 ≡ 48 = omega arith in
+    record { value = leading_zero word c.in-len2.len_at_least c.in-len2.len_below zero }
