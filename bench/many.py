@@ -5,10 +5,12 @@ this machine, and `capdiag run` by xargs.
     python3 bench/many.py PREFIX [COUNT]
 
 PREFIX is the folder that install.sh installed below. The COUNT logs, or 100,000, have 300 lines each. It prints for each how many logs a second
-of time and of processor time there are: the least time of three rounds counts."""
+of time and of processor time there are: the least time of three rounds counts. Before that it prints the work for a log, by the least time of
+many short runs, which other load changes least: by one job; by one of several, and by the process that gets its results; by `capdiag run`."""
 import importlib.util
 import json
 import os
+import pickle
 import subprocess
 import sys
 import tempfile
@@ -38,6 +40,31 @@ def said(what, command, folder):
     print(f"{what:28} {COUNT / took:8.0f} a second, {COUNT / spent:8.0f} a second of processor time", flush=True)
 
 
+def least(call, count, rounds):
+    """The least time of many rounds, in microseconds for each of so many logs."""
+    found = []
+    for _ in range(rounds):
+        begun = time.perf_counter()
+        call()
+        found.append(time.perf_counter() - begun)
+    return min(found) * 1e6 / count
+
+
+def work(folder):
+    os.environ.update(ENVIRONMENT)
+    sys.path.insert(0, ENVIRONMENT["PYTHONPATH"])
+    from capcheck import many
+    names = sorted(many.files([f"{folder}/logs"]))[:128]
+    results = many._each(names, "held", False)
+    passed = pickle.dumps(results)
+    alone = least(lambda: [many.judge_file(it) for it in names], 128, 150)
+    judged = least(lambda: pickle.dumps(many._each(names, "held", False)), 128, 150)
+    got = least(lambda: [many._result(name, "held", it) for name, it in zip(names, pickle.loads(passed))], 128, 150)
+    more = sorted(many.files([f"{folder}/logs"]))[:2001]
+    of = [least(lambda: subprocess.run([f"{PREFIX}/bin/capdiag", "run", *some], capture_output=True), 1, 25) for some in (more[:1], more)]
+    print(f"work for a log: one job {alone:.1f} us; of several jobs {judged:.1f} us, and {got:.1f} us for its result; capdiag {(of[1] - of[0]) / 2000:.1f} us", flush=True)
+
+
 def by_cluster(folder, many):
     about = f"{folder}/scheduler.json"
     start = [sys.executable, "-m", "distributed.cli.dask_scheduler", "--host", "127.0.0.1", "--port", "0", "--no-dashboard", "--scheduler-file", about]
@@ -62,6 +89,7 @@ def main():
             at = f"{folder}/logs/{number // 1000:03}"
             os.makedirs(at, exist_ok=True)
             Path(f"{at}/{number:06}.log").write_text(f"{ROOT}{MOVE * 296}end 296\n")
+        work(folder)
         many = [sys.executable, "-m", "capcheck", "many", f"{folder}/logs"]
         for jobs in (1, 2, 4):
             said(f"many, {jobs} job{'s' * (jobs > 1)}", [*many, "--jobs", str(jobs)], folder)
