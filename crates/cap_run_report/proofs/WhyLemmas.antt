@@ -24,13 +24,13 @@ why_yes owners run fault verdict steps roots objects is =
     subst (λ (v : RunVerdict). IsRunWhyText owners run fault v (run_report_text owners run v)) (sym is) refl
 
 pub why_no : (owners : Bool) (run : Run) (fault : List ℕ) (verdict : RunVerdict) (line : ℕ) (refusal : RunRefusal) (report : List ℕ)
-    → verdict ≡ No line refusal → IsRunLineReport run fault refusal report → IsRunWhyText owners run fault verdict (run_verdict_line verdict ++ report)
+    → verdict ≡ No line refusal → IsRunLineReport run line fault refusal report → IsRunWhyText owners run fault verdict (run_verdict_line verdict ++ report)
 why_no owners run fault verdict line refusal report is by =
     subst (λ (v : RunVerdict). IsRunWhyText owners run fault v (run_verdict_line v ++ report)) (sym is) (report, by, refl)
 
 -- the text of a faulty line that a judge was handed
 pub so_far : (asks : Asks) (bytes : List ℕ) (stage : RunStage) (n : ℕ) (refusal : RunRefusal) (text report : List ℕ)
-    → Follows run_turns (unread asks) bytes stage → stage.due ≡ Refused n refusal text → IsRunLineReport stage.state.run text refusal report
+    → Follows run_turns (unread asks) bytes stage → stage.due ≡ Refused n refusal text → IsRunLineReport stage.state.run n text refusal report
     → ExplainsRunSoFar asks bytes (Some (No n refusal)) (run_verdict_line (No n refusal) ++ report)
 so_far asks bytes stage n refusal text report follows is by =
     let ends = no_ends asks bytes stage n refusal text false follows is in
@@ -47,7 +47,7 @@ yes_at_end asks bytes stage end (No line refusal) is are follows ends = absurd (
 
 pub no_at_end : (asks : Asks) (bytes : List ℕ) (stage : RunStage) (end : Result RunVerdict RefusedRunLine) (fault : RefusedRunLine) (report : List ℕ)
     → end ≡ Err fault → Follows run_turns (unread asks) bytes stage → AnswerAtEnd stage [] end
-    → IsRunLineReport stage.state.run (bytes_of fault.text) fault.refusal report
+    → IsRunLineReport stage.state.run fault.line (bytes_of fault.text) fault.refusal report
     → ExplainsRunEnd asks bytes (No fault.line fault.refusal) (run_verdict_line (No fault.line fault.refusal) ++ report)
 no_at_end asks bytes stage end fault report is follows ends by =
     let told_is = all_ends asks bytes stage (No fault.line fault.refusal) (bytes_of fault.text) follows (subst (AnswerAtEnd stage []) is ends) in

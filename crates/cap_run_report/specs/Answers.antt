@@ -13,13 +13,13 @@ abbrev pub ExplainsRun : Asks → Bool → List ℕ → Bool → RunVerdict → 
 ExplainsRun asks owners bytes ended (Yes steps roots objects) text = TellsRun asks owners bytes ended (Yes steps roots objects) text
 ExplainsRun asks owners bytes ended (No line refusal) text =
     (run : Run) × (fault : List ℕ) × StopsWithRun asks bytes ended run line fault
-    × (report : List ℕ) × IsRunLineReport run fault refusal report × (text ≡ run_verdict_line (No line refusal) ++ report)
+    × (report : List ℕ) × IsRunLineReport run line fault refusal report × (text ≡ run_verdict_line (No line refusal) ++ report)
 
 -- the text of a verdict by the run of a machine and the line that was refused
 abbrev pub IsRunWhyText : Bool → Run → List ℕ → RunVerdict → List ℕ → Type 0
 IsRunWhyText owners run fault (Yes steps roots objects) text = text ≡ run_report_text owners run (Yes steps roots objects)
 IsRunWhyText owners run fault (No line refusal) text =
-    (report : List ℕ) × IsRunLineReport run fault refusal report × (text ≡ run_verdict_line (No line refusal) ++ report)
+    (report : List ℕ) × IsRunLineReport run line fault refusal report × (text ≡ run_verdict_line (No line refusal) ++ report)
 
 -- the text of how a run log stands that begins with these bytes: none while no line of theirs is faulty, and otherwise that
 -- of a judge that explains the no, which stands whatever bytes follow

@@ -7,6 +7,7 @@ use Rattle.cap_run_log.specs.declared.lines.{RunPlace.{RunPlace, TheVariants.{Ge
 use Rattle.cap_run_log.specs.declared.lines.RunRegister.TheVariants as registers
 use Rattle.cap_run_log.specs.RunLines.{run_place_spelling}
 use Rattle.cap_run.specs.{Run.{Run, register_key}}
+use Rattle.cap_run_report.specs.declared.cap_parts.Placed.{Placed}
 
 -- a place that can be read: c0 too
 abbrev pub IsReadable : RunPlace → Type 0
@@ -18,6 +19,13 @@ IsReadable (Granule number) = number < 2 ^ 60
 abbrev pub place_of : RunRegister → RunPlace
 place_of (registers.General number) = General number
 place_of (registers.Special number) = Special number
+
+-- what a register of a run holds, and what a line records for a register
+abbrev pub placed_in : Run → RunRegister → Placed
+placed_in run register = record { place = place_of register; cap = run.state (register_key register) }
+
+abbrev pub recorded_for : RunRegister → Cap → Placed
+recorded_for register result = record { place = place_of register; cap = result }
 
 -- a capability after a name and its place: its tag, its word, and what the word stands for
 unfoldable pub held_lines : List ℕ → RunPlace → Cap → List ℕ

@@ -6,5 +6,5 @@ pub mod ObjectParts
 pub mod Extents
 pub mod RunSentences
 pub mod DeriveSentences
+pub mod InvokedPairs
 pub mod StepParts
-pub mod StepSentences

@@ -1,5 +1,5 @@
 -- The report of a first fault in a run log: its line, and what the run held before it (this profile's own).
-use Rattle.std.specs.Prelude.{◌≡◌, ◌⊎◌, ℕ, List, [], ◌++◌, codes}
+use Rattle.std.specs.Prelude.{◌≡◌, ◌⊎◌, ℕ, ◌==◌, if◌then◌else◌, List, [], ◌++◌, codes}
 use Rattle.cap_word.specs.{declared.word.Word.Word, Digits.hex_digits}
 use Rattle.cap_bounds.specs.Bounds.{length_of}
 use Rattle.cap_ops.specs.declared.refusal.Refusal.{Refusal, TheVariants.{BadHeader, BadLine, BadMode, LimitPassed, LineTooLong, Misplaced}}
@@ -12,7 +12,7 @@ use Rattle.cap_run_log.specs.declared.lines.RunLine.TheVariants as lines
 use Rattle.cap_run_log.specs.RunLines.{SpellsRun, run_place_spelling}
 use Rattle.cap_run.specs.declared.ends.RunRefusal.{RunRefusal, TheVariants.Usual}
 use Rattle.cap_run.specs.{Run.Run, RunChanges.{account_in, place_key}}
-use Rattle.cap_run_report.specs.{BadRunLines.{AreBadRunLines, AreFirstRunLines}, CapParts.held_lines, StepSentences.IsStepText}
+use Rattle.cap_run_report.specs.{BadRunLines.{AreBadRunLines, AreFirstRunLines}, CapParts.held_lines}
 use Rattle.cap_run_report.specs.StepParts.{AreRunStepLines, AreUsualLines}
 
 -- a root: what its place holds already, or what its word stands for, with its length
@@ -27,9 +27,7 @@ root_lines run place word refusal =
 abbrev pub AreKnownLines : Run → RunLine → RunRefusal → List ℕ → Type 0
 AreKnownLines run (lines.Root place word) refusal told = told ≡ root_lines run place word refusal
 AreKnownLines run (lines.Step step) refusal told = AreUsualLines run step refusal told
-AreKnownLines run (lines.Run step) refusal told =
-    (details : List ℕ) × AreRunStepLines run step refusal details × (sentence : List ℕ) × IsStepText run step refusal sentence
-    × (told ≡ details ++ says_line sentence)
+AreKnownLines run (lines.Run step) refusal told = AreRunStepLines run step refusal told
 AreKnownLines run line refusal told = told ≡ []
 
 -- what the checks of a line saw, if it has a form
@@ -38,28 +36,39 @@ AreLineDetails run text refusal told =
     ((line : RunLine) × SpellsRun text line × AreKnownLines run line refusal told)
     ⊎ (((line : RunLine) → SpellsRun text line → ⊥) × (told ≡ []))
 
+-- what has to come where a log is cut, by the number of the line that is missing
+abbrev pub cut_due : ℕ → List ℕ
+cut_due line =
+    if line == 1 then codes "run 1, and a line feed after each line"
+    else if line == 2 then codes "mode strict or mode clear, and a line feed after each line"
+    else codes "a step or an end line, and a line feed after each line"
+
+-- how much was taken of such a log, and what has to come
+abbrev pub cut_lines : Run → ℕ → List ℕ → List ℕ
+cut_lines run line text =
+    count_lines (account_in run) ++ (text_line (codes "expected") (cut_due line) ++ hint_line (cut_hint text))
+
 -- what is told of a line for a refusal that other logs have too, after what was taken before it: what is expected if it has
 -- no form; how much was taken if that decides; and otherwise what its checks saw
-abbrev pub AreUsualDetails : Run → List ℕ → Refusal → List ℕ → Type 0
-AreUsualDetails run text BadHeader told = AreFirstRunLines text told
-AreUsualDetails run text LineTooLong told = told ≡ text_line (codes "expected") (codes "a line feed after at most 95 bytes")
-AreUsualDetails run text BadLine told = AreBadRunLines text told
-AreUsualDetails run text BadMode told = told ≡ header_lines text (codes "mode strict or mode clear")
-AreUsualDetails run text Misplaced told =
+abbrev pub AreUsualDetails : Run → ℕ → List ℕ → Refusal → List ℕ → Type 0
+AreUsualDetails run line text BadHeader told = AreFirstRunLines text told
+AreUsualDetails run line text LineTooLong told = told ≡ text_line (codes "expected") (codes "a line feed after at most 95 bytes")
+AreUsualDetails run line text BadLine told = AreBadRunLines text told
+AreUsualDetails run line text BadMode told = told ≡ header_lines text (codes "mode strict or mode clear")
+AreUsualDetails run line text Misplaced told =
     told ≡ (count_lines (account_in run) ++ due_line (account_in run) Misplaced) ++ hint_line (place_hint text)
-AreUsualDetails run text Truncated told =
-    told ≡ (count_lines (account_in run) ++ due_line (account_in run) Truncated) ++ hint_line (cut_hint text)
-AreUsualDetails run text WrongCount told = told ≡ count_lines (account_in run) ++ due_line (account_in run) WrongCount
-AreUsualDetails run text LimitPassed told = told ≡ count_lines (account_in run) ++ due_line (account_in run) LimitPassed
-AreUsualDetails run text refusal told = AreLineDetails run text (Usual refusal) told
+AreUsualDetails run line text Truncated told = told ≡ cut_lines run line text
+AreUsualDetails run line text WrongCount told = told ≡ count_lines (account_in run) ++ due_line (account_in run) WrongCount
+AreUsualDetails run line text LimitPassed told = told ≡ count_lines (account_in run) ++ due_line (account_in run) LimitPassed
+AreUsualDetails run line text refusal told = AreLineDetails run text (Usual refusal) told
 
 -- what is told of a line for its refusal
-abbrev pub AreRunDetails : Run → List ℕ → RunRefusal → List ℕ → Type 0
-AreRunDetails run text (Usual refusal) told = AreUsualDetails run text refusal told
-AreRunDetails run text refusal told = AreLineDetails run text refusal told
+abbrev pub AreRunDetails : Run → ℕ → List ℕ → RunRefusal → List ℕ → Type 0
+AreRunDetails run line text (Usual refusal) told = AreUsualDetails run line text refusal told
+AreRunDetails run line text refusal told = AreLineDetails run text refusal told
 
--- the report of a line, by its bytes and the run before it
-pub record IsRunLineReport (run : Run) (text : List ℕ) (refusal : RunRefusal) (report : List ℕ) : Type 0 where
+-- the report of a line, by its number, its bytes and the run before it
+pub record IsRunLineReport (run : Run) (line : ℕ) (text : List ℕ) (refusal : RunRefusal) (report : List ℕ) : Type 0 where
   pub details : List ℕ
-  pub are : AreRunDetails run text refusal details
+  pub are : AreRunDetails run line text refusal details
   pub report_is : report ≡ shown_line text ++ details

@@ -1,17 +1,13 @@
 -- Why a step on objects is refused, or an access for its owner, in a sentence (this profile's own).
 use Rattle.std.specs.Prelude.{◌≡◌, ◌⊎◌, ℕ, ◌+◌, ◌-◌, nat_lt, Bool, true, false, if◌then◌else◌, List, [], ◌++◌, Option, Some, None, codes, decimal}
-use Rattle.cap_word.specs.{declared.word.Cap.Cap, Fields.otype_of}
+use Rattle.cap_word.specs.declared.word.Cap.{Cap}
 use Rattle.cap_bounds.specs.Bounds.{base_of, top_of}
-use Rattle.cap_machine.specs.declared.shown.Reached.{Reached}
 use Rattle.cap_objects.specs.declared.objects.Object.{Object}
 use Rattle.cap_run_log.specs.declared.lines.RunPlace.{RunPlace, TheVariants.General}
 use Rattle.cap_run_log.specs.RunLines.{run_place_spelling}
 use Rattle.cap_run.specs.Run.{Run}
-use Rattle.cap_run.specs.declared.ends.RunRefusal.{RunRefusal, TheVariants.{HasOwner, NoCapability, NotOwned, Overlaps, OwnerFreed, StillHeld}}
-use Rattle.cap_run.specs.declared.ends.RunRefusal.TheVariants.{AlreadyFreed, NoObject, NoOwner}
-use Rattle.cap_report.specs.Sentences.{number_text}
 use Rattle.cap_run_report.specs.ObjectParts.{HasNoHolder, IsFirstHolder, IsLeastMet, MeetsNone}
-use Rattle.cap_run_report.specs.Extents.{asked_extent, meant}
+use Rattle.cap_run_report.specs.{DeriveSentences.sealed_type_text, Extents.asked_extent}
 
 -- the line that freed an object, if one did, in a log with so many roots
 abbrev pub freed_by : ℕ → Object → List ℕ
@@ -49,8 +45,7 @@ dead_text run owner = owner_text run owner ++ codes ", isn't live"
 -- a place holds no unsealed capability
 abbrev pub capability_text : RunPlace → Cap → List ℕ
 capability_text place cap =
-    run_place_spelling place
-    ++ (if cap.tag then codes " is sealed with type " ++ number_text (otype_of cap.word.0) else codes " has no tag")
+    run_place_spelling place ++ (if cap.tag then sealed_type_text cap.word.0 else codes " has no tag")
 
 -- no object owns a place
 abbrev pub empty_text : ℕ → List ℕ
@@ -103,31 +98,8 @@ abbrev pub IsAskedText : Run → ℕ → Option ℕ → Bool → List ℕ → Ty
 IsAskedText run register number freed text =
     (met : List ℕ) × IsExtentText run number freed (asked_extent run register number) met × (text ≡ asking_text (General register) number ++ met)
 
--- why what a register holds is handed out or freed in vain, with the number of an object or without
-abbrev pub IsLifeText : Run → ℕ → Option ℕ → RunRefusal → List ℕ → Type 0
-IsLifeText run register number NoCapability text = text ≡ capability_text (General register) (run.state register)
-IsLifeText run register number HasOwner text = text ≡ owns_text run (run.owners register) (General register)
-IsLifeText run register number NoOwner text = text ≡ unowned_text (General register) (run.state register)
-IsLifeText run register number AlreadyFreed text = text ≡ dead_text run (meant run register number)
-IsLifeText run register number NoObject text = text ≡ unallocated_text run number
-IsLifeText run register number Overlaps text = IsAskedText run register number false text
-IsLifeText run register number StillHeld text = IsAskedText run register number true text
-IsLifeText run register number refusal text = text ≡ []
-
--- why the object of a number is freed in vain
-abbrev pub free_text : Run → ℕ → RunRefusal → List ℕ
-free_text run number AlreadyFreed = dead_text run (Some number)
-free_text run number NoObject = unallocated_text run (Some number)
-free_text run number refusal = []
-
--- why an access is refused for its owner
-abbrev pub IsReachedText : Run → Reached → RunRefusal → List ℕ → Type 0
-IsReachedText run access OwnerFreed text = text ≡ owns_text run (run.owners access.authority) (General access.authority)
-IsReachedText run access NotOwned text =
-    (met : List ℕ) × IsMetText run None false access.address (access.address + access.size) met
-    × (text ≡ codes "no object owns " ++ run_place_spelling (General access.authority) ++ codes ", and the access touches " ++ met)
-IsReachedText run access refusal text = text ≡ []
-
-abbrev pub IsAccessText : Run → Option Reached → RunRefusal → List ℕ → Type 0
-IsAccessText run None refusal text = text ≡ []
-IsAccessText run (Some access) refusal text = IsReachedText run access refusal text
+-- no object owns the authority of an access, and the object that it touches
+abbrev pub IsTouchedText : Run → ℕ → ℕ → ℕ → List ℕ → Type 0
+IsTouchedText run authority base top text =
+    (met : List ℕ) × IsMetText run None false base top met
+    × (text ≡ codes "no object owns " ++ run_place_spelling (General authority) ++ codes ", and the access touches " ++ met)

@@ -5,7 +5,7 @@ ghost use Rattle.cap_streams.specs.Written.{Writes};
 ghost use Rattle.cap_run_log.specs.RunLines.{IsRunRegister, run_place_spelling};
 ghost use Rattle.cap_texts.specs.TextLines.{says_line};
 ghost use Rattle.cap_report.specs.Says.{taken_text};
-ghost use Rattle.cap_run_report.specs.CapParts.{IsReadable, held_lines, owned_lines, place_of, register_lines};
+ghost use Rattle.cap_run_report.specs.CapParts.{IsReadable, held_lines, owned_lines, place_of, placed_in, recorded_for, register_lines};
 ghost use Rattle.cap_run.specs.Machines.{run_in};
 
 use cap_log::Place;
@@ -15,6 +15,39 @@ use cap_run_log::{RunPlace, RunRegister};
 use cap_texts::cap_lines::put_meaning_lines;
 use cap_word::Cap;
 use tagmem::TaggedStore;
+
+/// A place, and the capability that it holds or that a line records for it.
+#[derive(Clone, Copy)]
+pub struct Placed {
+    /// The place.
+    pub place: RunPlace,
+    /// The capability.
+    pub cap: Cap,
+}
+
+/// A register, and what it holds.
+pub fn placed_in<M: TaggedStore>(machine: &RunMachine<M>, register: RunRegister) -> Placed
+    requires { IsRunRegister 0 register }
+    ensures value { result ≡ placed_in (run_in machine.now) register }
+    ensures readable { IsReadable result.place }
+{
+    Placed {
+        place: place_of(register),
+        cap: machine.register(register),
+    }
+}
+
+/// A register, and what a line records for it.
+pub fn recorded_for(register: RunRegister, cap: Cap) -> Placed
+    requires { IsRunRegister 0 register }
+    ensures value { result ≡ recorded_for register cap }
+    ensures readable { IsReadable result.place }
+{
+    Placed {
+        place: place_of(register),
+        cap,
+    }
+}
 
 /// A register as a place.
 pub fn place_of(register: RunRegister) -> RunPlace
@@ -65,6 +98,18 @@ pub fn put_run_place(buffer: &mut [u8], at: usize, place: RunPlace) -> usize
     }
 }
 
+/// Writes a place, and what is said of it.
+pub fn put_place_text(buffer: &mut [u8], at: usize, place: RunPlace, text: &[u8]) -> usize
+    requires place { IsReadable place }
+    requires few { length text.now ≤ 24 }
+    requires room { at + 41 ≤ length buffer.old }
+    ensures written { Writes at (run_place_spelling place ++ text.now) buffer.old buffer.new result }
+    ensures fits { result ≤ at + 41 }
+{
+    let at = put_run_place(buffer, at, place);
+    put(buffer, at, text)
+}
+
 /// Writes the lines of what a register holds.
 pub fn put_register<M: TaggedStore>(
     machine: &RunMachine<M>,
@@ -110,17 +155,6 @@ pub fn put_taken_says(place: RunPlace, buffer: &mut [u8], at: usize) -> usize
     ensures fits { result ≤ at + 102 }
 {
     let at = put(buffer, at, b"says ");
-    let at = put_taken(place, buffer, at);
+    let at = put_place_text(buffer, at, place, b" has a root already");
     put(buffer, at, b"\n")
-}
-
-// Writes that a root's place has one already.
-fn put_taken(place: RunPlace, buffer: &mut [u8], at: usize) -> usize
-    requires place { IsReadable place }
-    requires room { at + 48 ≤ length buffer.old }
-    ensures written { Writes at (run_place_spelling place ++ taken_text) buffer.old buffer.new result }
-    ensures fits { result ≤ at + 48 }
-{
-    let at = put_run_place(buffer, at, place);
-    put(buffer, at, b" has a root already")
 }

@@ -126,11 +126,11 @@ fn push_fault<M: TaggedStore, K: Sink>(
     sink: &mut K,
 ) -> Result<(), PushFault>
     ensures ok { OnOk result ((report : List ℕ)
-        × IsRunLineReport (run_in machine.now) (bytes_of fault.now.text) fault.now.refusal report
+        × IsRunLineReport (run_in machine.now) fault.now.line (bytes_of fault.now.text) fault.now.refusal report
         × K.took sink.old sink.new (run_verdict_line (No fault.now.line fault.now.refusal) ++ report)
         × (length (run_verdict_line (No fault.now.line fault.now.refusal) ++ report) ≤ 3136)) }
     ensures err { OnErr result ((report : List ℕ)
-        × IsRunLineReport (run_in machine.now) (bytes_of fault.now.text) fault.now.refusal report
+        × IsRunLineReport (run_in machine.now) fault.now.line (bytes_of fault.now.text) fault.now.refusal report
         × (n : ℕ) × K.took sink.old sink.new (take n (run_verdict_line (No fault.now.line fault.now.refusal) ++ report))) }
     ensures counted { CountsFault (K.faults sink.old) (K.faults sink.new) result }
 {
@@ -138,6 +138,6 @@ fn push_fault<M: TaggedStore, K: Sink>(
     let mut line = [0u8; 64];
     let length = run_verdict_text(&fault.verdict(), &mut line);
     let at = put(&mut text, 0, &line[..length]);
-    let end = put_run_report(machine, &fault.text, fault.refusal, &mut text, at);
+    let end = put_run_report(machine, fault, &mut text, at);
     push_all(sink, &text[..end])
 }

@@ -9,12 +9,12 @@ mod bad_run_lines;
 mod cap_parts;
 mod derive_sentences;
 mod explanations;
+mod invoked_pairs;
 mod line_reports;
 mod object_parts;
 mod object_steps;
 mod run_sentences;
 mod step_parts;
-mod step_sentences;
 
 pub use crate::explanations::{judge_run_why, push_run_ending, push_run_refused};
 pub use crate::object_parts::holder;

@@ -5,23 +5,25 @@ ghost use Rattle.cap_streams.specs.{FaultLines.bytes_of, Written.Writes};
 ghost use Rattle.cap_report.specs.FaultReports.{count_lines, due_line};
 ghost use Rattle.cap_run.specs.RunChanges.{account_in};
 ghost use Rattle.cap_run_log.specs.RunLines.{IsRunLineInRange, IsRunPlace};
-ghost use Rattle.cap_run_report.specs.LineReports.{AreKnownLines, AreLineDetails, AreRunDetails, AreUsualDetails, IsRunLineReport, root_lines};
+ghost use Rattle.cap_run_report.specs.LineReports.{AreKnownLines, AreLineDetails, AreRunDetails, AreUsualDetails, IsRunLineReport};
+ghost use Rattle.cap_run_report.specs.LineReports.{cut_due, cut_lines, root_lines};
 ghost use Rattle.cap_run.specs.Machines.{run_in};
 
 use crate::bad_run_lines::{put_bad_run_header, put_bad_run_line};
 use crate::cap_parts::{put_held, put_taken_says};
 use crate::step_parts::{put_run_step, put_usual};
-use crate::step_sentences::put_run_says;
 use cap_bounds::length_of;
 use cap_machine::Refusal;
 use cap_report::fault_reports::put_counted_lines;
 use cap_report::root_says::put_unsound_says;
 use cap_run::{RunMachine, RunRefusal};
+use cap_run_judge::RefusedRunLine;
 use cap_run_log::{RunLine, RunPlace, read_run_line};
-use cap_streams::judging::FaultLine;
 use cap_texts::shown_bytes::put_shown_line;
 use cap_texts::text_lines::{put_hex_line, put_line};
-use cap_texts::wrong_lines::{SHORT_LINE, cut_hint, place_hint, put_header_lines, put_hint_line};
+use cap_texts::wrong_lines::{
+    SHORT_LINE, cut_hint, place_hint, put_header_lines, put_hint_line, put_hinted_line,
+};
 use cap_word::{Cap, Word};
 use tagmem::TaggedStore;
 
@@ -29,24 +31,24 @@ use tagmem::TaggedStore;
 /// as it was before the line.
 pub fn put_run_report<M: TaggedStore>(
     machine: &RunMachine<M>,
-    line: &FaultLine,
-    refusal: RunRefusal,
+    fault: &RefusedRunLine,
     buffer: &mut [u8],
     at: usize,
 ) -> usize
     requires { at + 3072 ≤ length buffer.old }
     ensures fits { result ≤ length buffer.old }
-    ensures report { (report : List ℕ) × IsRunLineReport (run_in machine.now) (bytes_of line.now) refusal report
+    ensures report { (report : List ℕ) × IsRunLineReport (run_in machine.now) fault.now.line (bytes_of fault.now.text) fault.now.refusal report
         × Writes at report buffer.old buffer.new result }
 {
-    let text = line.as_slice();
+    let text = fault.text.as_slice();
     let at = put_shown_line(buffer, at, text);
-    put_details(machine, text, refusal, buffer, at)
+    put_details(machine, fault.line, text, fault.refusal, buffer, at)
 }
 
 // Writes what is told of a line for its refusal.
 fn put_details<M: TaggedStore>(
     machine: &RunMachine<M>,
+    line: u64,
     text: &[u8],
     refusal: RunRefusal,
     buffer: &mut [u8],
@@ -55,10 +57,10 @@ fn put_details<M: TaggedStore>(
     requires few { length text.now ≤ 96 }
     requires room { at + 2560 ≤ length buffer.old }
     ensures fits { result ≤ at + 2560 }
-    ensures written { (told : List ℕ) × AreRunDetails (run_in machine.now) text.now refusal told × Writes at told buffer.old buffer.new result }
+    ensures written { (told : List ℕ) × AreRunDetails (run_in machine.now) line text.now refusal told × Writes at told buffer.old buffer.new result }
 {
     match refusal {
-        RunRefusal::Usual(usual) => put_usual_details(machine, text, usual, buffer, at),
+        RunRefusal::Usual(usual) => put_usual_details(machine, line, text, usual, buffer, at),
         _ => put_line_details(machine, text, refusal, buffer, at),
     }
 }
@@ -66,6 +68,7 @@ fn put_details<M: TaggedStore>(
 // Writes what is told of a line for a refusal that other logs have too.
 fn put_usual_details<M: TaggedStore>(
     machine: &RunMachine<M>,
+    line: u64,
     text: &[u8],
     refusal: Refusal,
     buffer: &mut [u8],
@@ -74,7 +77,7 @@ fn put_usual_details<M: TaggedStore>(
     requires few { length text.now ≤ 96 }
     requires room { at + 2560 ≤ length buffer.old }
     ensures fits { result ≤ at + 2560 }
-    ensures written { (told : List ℕ) × AreUsualDetails (run_in machine.now) text.now refusal told × Writes at told buffer.old buffer.new result }
+    ensures written { (told : List ℕ) × AreUsualDetails (run_in machine.now) line text.now refusal told × Writes at told buffer.old buffer.new result }
 {
     match refusal {
         Refusal::BadHeader => put_bad_run_header(buffer, at, text),
@@ -85,16 +88,43 @@ fn put_usual_details<M: TaggedStore>(
             let at = put_counts(machine, Refusal::Misplaced, buffer, at);
             put_hint_line(buffer, at, place_hint(text))
         }
-        Refusal::Truncated => {
-            let at = put_counts(machine, Refusal::Truncated, buffer, at);
-            put_hint_line(buffer, at, cut_hint(text))
-        }
+        Refusal::Truncated => put_cut(machine, line, text, buffer, at),
         Refusal::WrongCount | Refusal::LimitPassed => put_counts(machine, refusal, buffer, at),
         _ => put_line_details(machine, text, RunRefusal::Usual(refusal), buffer, at),
     }
 }
 
-// Writes the counts of what was taken so far, and what has to come then.
+// What has to come where a log is cut, by the number of the line that is missing.
+fn cut_due(line: u64) -> &'static [u8]
+    ensures text { result.now ≡ cut_due line }
+    ensures short { length result.now ≤ 64 }
+{
+    if line == 1 {
+        b"run 1, and a line feed after each line"
+    } else if line == 2 {
+        b"mode strict or mode clear, and a line feed after each line"
+    } else {
+        b"a step or an end line, and a line feed after each line"
+    }
+}
+
+// Writes the counts of what was taken so far of a log that is cut, and what has to come then.
+fn put_cut<M: TaggedStore>(
+    machine: &RunMachine<M>,
+    line: u64,
+    text: &[u8],
+    buffer: &mut [u8],
+    at: usize,
+) -> usize
+    requires { at + 768 ≤ length buffer.old }
+    ensures written { Writes at (cut_lines (run_in machine.now) line text.now) buffer.old buffer.new result }
+    ensures fits { result ≤ at + 768 }
+{
+    let at = put_counts(machine, Refusal::BadLine, buffer, at);
+    put_hinted_line(buffer, at, cut_due(line), cut_hint(text))
+}
+
+// Writes the counts of what was taken so far, and what has to come then, if the refusal says it.
 fn put_counts<M: TaggedStore>(
     machine: &RunMachine<M>,
     refusal: Refusal,
@@ -143,10 +173,7 @@ fn put_known<M: TaggedStore>(
     match *line {
         RunLine::Root(place, word) => put_root(machine, buffer, at, place, word, refusal),
         RunLine::Step(step) => put_usual(machine, buffer, at, &step, refusal),
-        RunLine::Run(step) => {
-            let at = put_run_step(machine, buffer, at, &step, refusal);
-            put_run_says(machine, buffer, at, &step, refusal)
-        }
+        RunLine::Run(step) => put_run_step(machine, buffer, at, &step, refusal),
         RunLine::Version | RunLine::Plain(_) | RunLine::Mode(_) | RunLine::End(_) => at,
     }
 }

@@ -5,24 +5,23 @@ ghost use Rattle.cap_streams.specs.Written.{Writes};
 ghost use Rattle.cap_log.specs.Lines.{IsTarget};
 ghost use Rattle.cap_word.specs.Fields.{address_of, otype_of};
 ghost use Rattle.cap_report.specs.Sentences.{number_text};
-ghost use Rattle.cap_texts.specs.TextLines.{says_line};
 ghost use Rattle.cap_bounds.specs.Bounds.{base_of, top_of};
 ghost use Rattle.cap_run_report.specs.CapParts.{IsReadable};
-ghost use Rattle.cap_run_report.specs.RunSentences.{HasHolderText, IsAccessText, IsAskedText, IsExtentText, IsHolderText, IsLifeText, IsMetText};
-ghost use Rattle.cap_run_report.specs.RunSentences.{asking_text, capability_text, dead_text, empty_text, found_text, free_text, freed_by, freed_text, gone_text};
+ghost use Rattle.cap_run_report.specs.RunSentences.{HasHolderText, IsAskedText, IsExtentText, IsHolderText, IsMetText, IsTouchedText};
+ghost use Rattle.cap_run_report.specs.RunSentences.{asking_text, capability_text, dead_text, empty_text, found_text, freed_by, freed_text, gone_text};
 ghost use Rattle.cap_run_report.specs.RunSentences.{object_text, others_text, owner_text, owns_text, unallocated_text, unowned_text};
 ghost use Rattle.cap_run.specs.Machines.{run_in};
 
 use crate::cap_parts::put_run_place;
+use crate::derive_sentences::put_sealed_type;
 use crate::object_parts::{holder, least_met};
-use crate::object_steps::{asked_extent, meant};
+use crate::object_steps::asked_extent;
 use cap_bounds::bounds;
 use cap_log::buffers::{put, put_decimal};
-use cap_machine::Reached;
 use cap_objects::Object;
 use cap_report::sentences::put_number;
-use cap_run::{RunMachine, RunRefusal};
-use cap_run_log::{RunPlace, RunRegister};
+use cap_run::RunMachine;
+use cap_run_log::RunPlace;
 use cap_word::{Cap, Word};
 use tagmem::TaggedStore;
 
@@ -151,8 +150,8 @@ fn put_owner_text<M: TaggedStore>(
     }
 }
 
-// Writes that an object owns a place.
-fn put_owns_text<M: TaggedStore>(
+/// Writes that an object owns a place.
+pub fn put_owns_text<M: TaggedStore>(
     machine: &RunMachine<M>,
     buffer: &mut [u8],
     at: usize,
@@ -169,8 +168,8 @@ fn put_owns_text<M: TaggedStore>(
     put_run_place(buffer, at, place)
 }
 
-// Writes that an object isn't live.
-fn put_dead_text<M: TaggedStore>(
+/// Writes that an object isn't live.
+pub fn put_dead_text<M: TaggedStore>(
     machine: &RunMachine<M>,
     buffer: &mut [u8],
     at: usize,
@@ -184,8 +183,8 @@ fn put_dead_text<M: TaggedStore>(
     put(buffer, at, b", isn't live")
 }
 
-// Writes that a place holds no unsealed capability.
-fn put_capability_text(buffer: &mut [u8], at: usize, place: RunPlace, cap: Cap) -> usize
+/// Writes that a place holds no unsealed capability.
+pub fn put_capability_text(buffer: &mut [u8], at: usize, place: RunPlace, cap: Cap) -> usize
     requires place { IsReadable place }
     requires room { at + 144 ≤ length buffer.old }
     ensures written { Writes at (capability_text place cap) buffer.old buffer.new result }
@@ -193,8 +192,7 @@ fn put_capability_text(buffer: &mut [u8], at: usize, place: RunPlace, cap: Cap) 
 {
     let at = put_run_place(buffer, at, place);
     if cap.tag {
-        let at = put(buffer, at, b" is sealed with type ");
-        put_type(buffer, at, cap.word)
+        put_sealed_type(buffer, at, cap.word)
     } else {
         put(buffer, at, b" has no tag")
     }
@@ -225,8 +223,8 @@ fn put_empty_text(buffer: &mut [u8], at: usize, word: Word) -> usize
     }
 }
 
-// Writes that no object owns a place.
-fn put_unowned_text(buffer: &mut [u8], at: usize, place: RunPlace, cap: Cap) -> usize
+/// Writes that no object owns a place.
+pub fn put_unowned_text(buffer: &mut [u8], at: usize, place: RunPlace, cap: Cap) -> usize
     requires place { IsReadable place }
     requires room { at + 144 ≤ length buffer.old }
     ensures written { Writes at (unowned_text place cap) buffer.old buffer.new result }
@@ -237,8 +235,8 @@ fn put_unowned_text(buffer: &mut [u8], at: usize, place: RunPlace, cap: Cap) -> 
     put_empty_text(buffer, at, cap.word)
 }
 
-// Writes that no line allocated the object with a number.
-fn put_unallocated_text<M: TaggedStore>(
+/// Writes that no line allocated the object with a number.
+pub fn put_unallocated_text<M: TaggedStore>(
     machine: &RunMachine<M>,
     buffer: &mut [u8],
     at: usize,
@@ -365,8 +363,8 @@ fn put_extent_text<M: TaggedStore>(
     }
 }
 
-// Writes what asks for an extent, and the object that this meets.
-fn put_asked_text<M: TaggedStore>(
+/// Writes what asks for an extent, and the object that this meets.
+pub fn put_asked_text<M: TaggedStore>(
     machine: &RunMachine<M>,
     buffer: &mut [u8],
     at: usize,
@@ -384,106 +382,22 @@ fn put_asked_text<M: TaggedStore>(
     put_extent_text(machine, buffer, at, number, freed, extent)
 }
 
-/// Writes why what a register holds is handed out or freed in vain.
-pub fn put_life_text<M: TaggedStore>(
+/// Writes that no object owns the authority of an access, and the object that it touches.
+pub fn put_touched_text<M: TaggedStore>(
     machine: &RunMachine<M>,
     buffer: &mut [u8],
     at: usize,
     register: u8,
-    number: Option<u32>,
-    refusal: RunRefusal,
+    base: u64,
+    top: u128,
 ) -> usize
-    requires register { IsTarget register }
-    requires room { at + 288 ≤ length buffer.old }
-    ensures written { (text : List ℕ) × IsLifeText (run_in machine.now) register number refusal text × Writes at text buffer.old buffer.new result }
-    ensures fits { result ≤ at + 288 }
+    requires register { register ≤ 31 }
+    requires room { at + 264 ≤ length buffer.old }
+    ensures written { (text : List ℕ) × IsTouchedText (run_in machine.now) register base top text × Writes at text buffer.old buffer.new result }
+    ensures fits { result ≤ at + 264 }
 {
-    let place = RunPlace::General(register);
-    let held = RunRegister::General(register);
-    match refusal {
-        RunRefusal::NoCapability => {
-            put_capability_text(buffer, at, place, machine.register(held))
-        }
-        RunRefusal::HasOwner => {
-            put_owns_text(machine, buffer, at, machine.register_owner(held), place)
-        }
-        RunRefusal::NoOwner => put_unowned_text(buffer, at, place, machine.register(held)),
-        RunRefusal::AlreadyFreed => {
-            put_dead_text(machine, buffer, at, meant(machine, register, number))
-        }
-        RunRefusal::NoObject => put_unallocated_text(machine, buffer, at, number),
-        RunRefusal::Overlaps => put_asked_text(machine, buffer, at, register, number, false),
-        RunRefusal::StillHeld => put_asked_text(machine, buffer, at, register, number, true),
-        _ => at,
-    }
-}
-
-/// Writes why the object of a number is freed in vain.
-pub fn put_free_text<M: TaggedStore>(
-    machine: &RunMachine<M>,
-    buffer: &mut [u8],
-    at: usize,
-    number: u32,
-    refusal: RunRefusal,
-) -> usize
-    requires { at + 144 ≤ length buffer.old }
-    ensures written { Writes at (free_text (run_in machine.now) number refusal) buffer.old buffer.new result }
-    ensures fits { result ≤ at + 144 }
-{
-    match refusal {
-        RunRefusal::AlreadyFreed => put_dead_text(machine, buffer, at, Some(number)),
-        RunRefusal::NoObject => put_unallocated_text(machine, buffer, at, Some(number)),
-        _ => at,
-    }
-}
-
-// Writes why an access is refused for its owner.
-fn put_access_text<M: TaggedStore>(
-    machine: &RunMachine<M>,
-    buffer: &mut [u8],
-    at: usize,
-    access: Option<Reached>,
-    refusal: RunRefusal,
-) -> usize
-    requires { at + 288 ≤ length buffer.old }
-    ensures written { (text : List ℕ) × IsAccessText (run_in machine.now) access refusal text × Writes at text buffer.old buffer.new result }
-    ensures fits { result ≤ at + 288 }
-{
-    let Some(access) = access else {
-        return at;
-    };
-    let register = access.authority.number();
-    let place = RunPlace::General(register);
-    match refusal {
-        RunRefusal::OwnerFreed => {
-            let owner = machine.register_owner(RunRegister::General(register));
-            put_owns_text(machine, buffer, at, owner, place)
-        }
-        RunRefusal::NotOwned => {
-            let end = u128::from(access.address) + u128::from(access.size);
-            let at = put(buffer, at, b"no object owns ");
-            let at = put_run_place(buffer, at, place);
-            let at = put(buffer, at, b", and the access touches ");
-            put_met_text(machine, buffer, at, None, false, access.address, end)
-        }
-        _ => at,
-    }
-}
-
-/// Writes in a sentence why an access is refused for its owner.
-#[tactic(auto, unfolding(cap_texts::specs::TextLines::says_line))]
-pub fn put_access_says<M: TaggedStore>(
-    machine: &RunMachine<M>,
-    buffer: &mut [u8],
-    at: usize,
-    access: Option<Reached>,
-    refusal: RunRefusal,
-) -> usize
-    requires { at + 296 ≤ length buffer.old }
-    ensures written { (text : List ℕ) × IsAccessText (run_in machine.now) access refusal text × Writes at (says_line text) buffer.old buffer.new result }
-    ensures fits { result ≤ at + 296 }
-{
-    let at = put(buffer, at, b"says ");
-    let at = put_access_text(machine, buffer, at, access, refusal);
-    put(buffer, at, b"\n")
+    let at = put(buffer, at, b"no object owns ");
+    let at = put_run_place(buffer, at, RunPlace::General(register));
+    let at = put(buffer, at, b", and the access touches ");
+    put_met_text(machine, buffer, at, None, false, base, top)
 }

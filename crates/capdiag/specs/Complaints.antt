@@ -6,7 +6,8 @@ use Rattle.cap_texts.specs.ShownBytes.{shown}
 use Rattle.capdiag.specs.declared.complaints.Complaint.{Complaint}
 use Rattle.capdiag.specs.declared.complaints.Complaint.TheVariants.{NoCommand, UnknownCommand, UnknownOption, NoValue}
 use Rattle.capdiag.specs.declared.complaints.Complaint.TheVariants.{UnknownValue, NoCount, UnknownCount, Twice, Alone}
-use Rattle.capdiag.specs.Hints.{hint_text}
+use Rattle.capdiag.specs.declared.fronts.Packing.{Packing}
+use Rattle.capdiag.specs.Hints.{hint_text, packed_text}
 use Rattle.capdiag.specs.declared.complaints.Unopened.{Unopened}
 use Rattle.capdiag.specs.declared.complaints.Unopened.TheVariants.{Missing, Denied, Directory, Through, Long, Circle, Other}
 
@@ -68,5 +69,11 @@ abbrev pub named : Option (List ℕ) → List ℕ
 named None = []
 named (Some name) = quoted name ++ codes ": "
 
-unfoldable pub hint_line : Option (List ℕ) → LogKind → List ℕ
-hint_line name kind = codes "capdiag: " ++ named name ++ hint_text kind ++ codes "\n"
+unfoldable pub told_line : Option (List ℕ) → List ℕ → List ℕ
+told_line name text = codes "capdiag: " ++ named name ++ text ++ codes "\n"
+
+abbrev pub hint_line : Option (List ℕ) → LogKind → List ℕ
+hint_line name kind = told_line name (hint_text kind)
+
+abbrev pub packed_line : Option (List ℕ) → Packing → List ℕ
+packed_line name packing = told_line name (packed_text packing)

@@ -3,9 +3,11 @@
 ghost use Rattle.std.specs.Prelude.{◌≡◌, ◌+◌, ◌≤◌, length, map, option_map, take};
 ghost use Rattle.cap_streams.specs.Written.{Writes};
 ghost use Rattle.cap_program.specs.Doings.{IsPushed};
-ghost use Rattle.capdiag.specs.{Guesses.guess_of, Hints.hint_text};
-ghost use Rattle.capdiag.specs.Complaints.{complaint_line, front_text, hint_line, named, question, quoted, reason_text, subject, unopened_line, waiting_line};
+ghost use Rattle.capdiag.specs.{Guesses.guess_of, Hints.{hint_text, packed_text}};
+ghost use Rattle.capdiag.specs.Complaints.{complaint_line, front_text, hint_line, named, packed_line, question, quoted};
+ghost use Rattle.capdiag.specs.Complaints.{reason_text, subject, told_line, unopened_line, waiting_line};
 
+use crate::fronts::Packing;
 use crate::guesses::guess_of;
 use cap_json::LogKind;
 use cap_log::buffers::put;
@@ -156,14 +158,29 @@ pub fn tell_waiting<F: Sink>(faults: &mut F)
 
 /// Pushes the line that names the command for a log of another kind, with the name of its file if that is one of several. Where
 /// the sink fails it took a beginning of the line.
-#[tactic(auto, unfolding(crate::specs::Complaints::hint_line))]
 pub fn tell_hint<F: Sink>(name: Option<&str>, kind: LogKind, faults: &mut F)
     ensures told { IsPushed F.took F.faults faults.old faults.new (hint_line (option_map (λ it. it.now) name.entry) kind) }
+{
+    tell_of_log(name, hint_text(kind), faults)
+}
+
+/// Pushes in the same way the line that says how a log is packed.
+pub fn tell_packed<F: Sink>(name: Option<&str>, packing: Packing, faults: &mut F)
+    ensures told { IsPushed F.took F.faults faults.old faults.new (packed_line (option_map (λ it. it.now) name.entry) packing) }
+{
+    tell_of_log(name, packed_text(packing), faults)
+}
+
+// Pushes the line that tells something of a log.
+#[tactic(auto, unfolding(crate::specs::Complaints::told_line))]
+fn tell_of_log<F: Sink>(name: Option<&str>, text: &[u8], faults: &mut F)
+    requires short { length text.now ≤ 64 }
+    ensures told { IsPushed F.took F.faults faults.old faults.new (told_line (option_map (λ it. it.now) name.entry) text.now) }
 {
     let mut line = [0u8; 512];
     let at = put(&mut line, 0, b"capdiag: ");
     let at = put_name(&mut line, at, name);
-    let at = put(&mut line, at, hint_text(kind));
+    let at = put(&mut line, at, text);
     let length = put(&mut line, at, b"\n");
     let _pushed = push_all(faults, &line[..length]);
 }
@@ -177,6 +194,19 @@ fn hint_text(kind: LogKind) -> &'static [u8]
         LogKind::Machine => b"this is a log of version 1 or 2; capdiag why judges it",
         LogKind::Heap => b"this is the log of an allocator; capdiag heap judges it",
         LogKind::Run => b"this is a run log; capdiag run judges it",
+    }
+}
+
+// What is told of a log that is packed.
+fn packed_text(packing: Packing) -> &'static [u8]
+    ensures text { result.now ≡ packed_text packing }
+    ensures short { length result.now ≤ 64 }
+{
+    match packing {
+        Packing::Gzip => b"this is packed by gzip; unpack it first",
+        Packing::Xz => b"this is packed by xz; unpack it first",
+        Packing::Zstandard => b"this is packed by zstd; unpack it first",
+        Packing::Zip => b"this is packed by zip; unpack it first",
     }
 }
 

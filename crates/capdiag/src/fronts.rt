@@ -2,7 +2,7 @@
 
 ghost use Rattle.std.specs.Prelude.{◌≡◌, ◌≤◌, ◌<◌, IfOk, length, take};
 ghost use Rattle.std.specs.Io.KnownBytes.{Consumes, IsAtEnd};
-ghost use Rattle.capdiag.specs.Hints.{order_on, other_kind, with_origins};
+ghost use Rattle.capdiag.specs.Hints.{order_on, other_kind, packing_of, with_origins};
 
 use crate::orders::{Judging, Order, RunAsked};
 use cap_json::LogKind;
@@ -10,6 +10,19 @@ use std::io::{self, ErrorKind, Read};
 
 // The first line of a run log, with its line feed.
 const RUN_HEADER: &[u8; 6] = b"run 1\n";
+
+/// How a log is packed.
+#[derive(Clone, Copy)]
+pub enum Packing {
+    /// By `gzip`.
+    Gzip,
+    /// By `xz`.
+    Xz,
+    /// By `zstd`.
+    Zstandard,
+    /// By `zip`.
+    Zip,
+}
 
 // What is asked of a run log, also the owners if the origins are asked for.
 fn with_origins(origins: bool, run: RunAsked) -> RunAsked
@@ -19,14 +32,14 @@ fn with_origins(origins: bool, run: RunAsked) -> RunAsked
     RunAsked { owners, ..run }
 }
 
-/// What an order means of an input that begins with these bytes: `why` judges a run log as `run --why` does, with the
-/// owners where the origins are asked for.
+/// What an order means of an input that begins with these bytes: `why` judges a run log, of whatever version, as `run --why`
+/// does, with the owners where the origins are asked for.
 pub fn order_on<'a>(order: Order<'a>, front: &[u8]) -> Order<'a>
     ensures value { result ≡ order_on order.entry front.now }
 {
     match order {
         Order::Judge(Judging::Why { origins, run }, form, file, files)
-            if front == RUN_HEADER.as_slice() => {
+            if front.starts_with(b"run ") => {
             let judging = Judging::Run {
                 run: with_origins(origins, run),
                 why: true,
@@ -66,6 +79,23 @@ pub fn other_kind(order: Order<'_>, front: &[u8]) -> Option<LogKind>
         }
         Judging::Heap { why: true, .. } if front == RUN_HEADER.as_slice() => Some(LogKind::Run),
         _ => None,
+    }
+}
+
+/// How an input is packed, by its first bytes.
+pub fn packing_of(front: &[u8]) -> Option<Packing>
+    ensures value { result ≡ packing_of front.now }
+{
+    if front.starts_with(b"\x1f\x8b") {
+        Some(Packing::Gzip)
+    } else if front.starts_with(b"\xfd7zXZ\0") {
+        Some(Packing::Xz)
+    } else if front.starts_with(b"\x28\xb5\x2f\xfd") {
+        Some(Packing::Zstandard)
+    } else if front.starts_with(b"PK\x03\x04") {
+        Some(Packing::Zip)
+    } else {
+        None
     }
 }
 

@@ -19,10 +19,10 @@ mod watches;
 mod words;
 
 pub use crate::complaints::{
-    Complaint, Unopened, Wrong, tell_hint, tell_unopened, tell_waiting, tell_words,
+    Complaint, Unopened, Wrong, tell_hint, tell_packed, tell_unopened, tell_waiting, tell_words,
 };
 pub use crate::forms::{Form, Look, is_json, is_plain, show_unopened};
-pub use crate::fronts::{order_on, other_kind, read_front};
+pub use crate::fronts::{Packing, order_on, other_kind, packing_of, read_front};
 pub use crate::noting::{Noting, name_in};
 pub use crate::orders::{Judging, Order, Request, RunAsked, order_of};
 pub use crate::progress::{Reading, read_on, tell_progress};
@@ -241,9 +241,12 @@ fn judge<R: Read + Drop, O: Write, F: Write>(
             let input = front.chain(input);
             let status = run(rt.alloc(), Some(order), Some(input), out, errors);
             if status == 1 {
+                let name = name_of(Look::Plain, files_of(order), file_of(order));
                 if let Some(kind) = other_kind(order, front) {
-                    let name = name_of(Look::Plain, files_of(order), file_of(order));
                     tell_hint(name, kind, &mut WriteSink::new(errors));
+                }
+                if let Some(packing) = packing_of(front) {
+                    tell_packed(name, packing, &mut WriteSink::new(errors));
                 }
             }
             status

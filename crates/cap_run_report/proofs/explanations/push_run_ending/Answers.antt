@@ -41,7 +41,7 @@ returns-in-Err-clause-ok g c =
       No fault.line fault.refusal,
       run_verdict_line (No fault.line fault.refusal) ++ p.0,
       no_at_end asks bytes (stage_of c.args.judge.now) c.ending.result fault p.0 c.in-Err.is read (c.ending.ensures.ends (omega arith, All-nil (λ b. b ≢ 10)))
-          (subst (λ m. IsRunLineReport (run_in m) (bytes_of fault.text) fault.refusal p.0) c.machine-in-Err.ensures.held p.1),
+          (subst (λ m. IsRunLineReport (run_in m) fault.line (bytes_of fault.text) fault.refusal p.0) c.machine-in-Err.ensures.held p.1),
       p.2,
       p.3,
     )) c.push_fault.ensures.ok
@@ -53,7 +53,7 @@ returns-in-Err-clause-err g c =
       No fault.line fault.refusal,
       run_verdict_line (No fault.line fault.refusal) ++ p.0,
       no_at_end asks bytes (stage_of c.args.judge.now) c.ending.result fault p.0 c.in-Err.is read (c.ending.ensures.ends (omega arith, All-nil (λ b. b ≢ 10)))
-          (subst (λ m. IsRunLineReport (run_in m) (bytes_of fault.text) fault.refusal p.0) c.machine-in-Err.ensures.held p.1),
+          (subst (λ m. IsRunLineReport (run_in m) fault.line (bytes_of fault.text) fault.refusal p.0) c.machine-in-Err.ensures.held p.1),
       p.2,
       p.3,
     )) c.push_fault.ensures.err

@@ -22,7 +22,7 @@ returns-in-Some-clause-ok g c =
       Some (No fault.line fault.refusal),
       run_verdict_line (No fault.line fault.refusal) ++ p.0,
       so_far asks bytes stage fault.line fault.refusal (bytes_of fault.text) p.0 read c.in-Some.ensures.fault
-          (subst (λ m. IsRunLineReport (run_in m) (bytes_of fault.text) fault.refusal p.0) c.machine.ensures.held p.1),
+          (subst (λ m. IsRunLineReport (run_in m) fault.line (bytes_of fault.text) fault.refusal p.0) c.machine.ensures.held p.1),
       p.2,
       p.3,
     )) c.push_fault.ensures.ok
@@ -35,7 +35,7 @@ returns-in-Some-clause-err g c =
       Some (No fault.line fault.refusal),
       run_verdict_line (No fault.line fault.refusal) ++ p.0,
       so_far asks bytes stage fault.line fault.refusal (bytes_of fault.text) p.0 read c.in-Some.ensures.fault
-          (subst (λ m. IsRunLineReport (run_in m) (bytes_of fault.text) fault.refusal p.0) c.machine.ensures.held p.1),
+          (subst (λ m. IsRunLineReport (run_in m) fault.line (bytes_of fault.text) fault.refusal p.0) c.machine.ensures.held p.1),
       p.2,
       p.3,
     )) c.push_fault.ensures.err

@@ -8,12 +8,12 @@ use Rattle.cap_run.specs.Machines.{run_in}
 pub returns-in-Usual-clause-written : goal.returns-in-Usual-clause-written
 returns-in-Usual-clause-written g c =
     let told = c.put_usual_details.ensures.written in
-    (told.0, subst (λ (r : RunRefusal). AreRunDetails (run_in c.args.machine.now) c.args.text.now r told.0) (sym c.in-Usual.is) told.1, told.2)
+    (told.0, subst (λ (r : RunRefusal). AreRunDetails (run_in c.args.machine.now) c.args.line c.args.text.now r told.0) (sym c.in-Usual.is) told.1, told.2)
 
 pub returns-in_default-clause-written : goal.returns-in_default-clause-written
 returns-in_default-clause-written g c =
     let told = c.put_line_details.ensures.written in (
       told.0,
-      run_details (run_in c.args.machine.now) c.args.text.now c.args.refusal told.0 c.in_default.not-Usual told.1,
+      run_details (run_in c.args.machine.now) c.args.line c.args.text.now c.args.refusal told.0 c.in_default.not-Usual told.1,
       told.2,
     )

@@ -1,6 +1,4 @@
-use Rattle.std.proofs.Common.{◌++◌, refl, subst, sym}
-use Rattle.cap_streams.specs.Written.{◌⨾◌}
-use Rattle.cap_texts.specs.TextLines.{says_line}
+use Rattle.std.proofs.Common.{refl, subst, sym}
 use Rattle.cap_run_log.specs.declared.lines.RunLine.{RunLine}
 use Rattle.cap_run_report.specs.{LineReports.{AreKnownLines, root_lines}}
 use Rattle.cap_run_report.proofs.line_reports.put_known.Goals as goal
@@ -19,11 +17,5 @@ returns-in-Step-clause-written g c =
 
 pub returns-in-Run-clause-written : goal.returns-in-Run-clause-written
 returns-in-Run-clause-written g c =
-    let told = c.put_run_step-at.ensures.written in
-    let says = c.put_run_says.ensures.written in
-    let all = told.0 ++ says_line says.0 in (
-      all,
-      subst (λ (line : RunLine). AreKnownLines (run_in c.args.machine.now) line c.args.refusal all) (sym c.in-Run.is)
-          (told.0, told.1, says.0, says.1, refl),
-      told.2 ⨾ says.2,
-    )
+    let told = c.put_run_step.ensures.written in
+    (told.0, subst (λ (line : RunLine). AreKnownLines (run_in c.args.machine.now) line c.args.refusal told.0) (sym c.in-Run.is) told.1, told.2)

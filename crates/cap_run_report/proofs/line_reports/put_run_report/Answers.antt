@@ -8,7 +8,7 @@ returns-clause-report g c =
     let details = c.put_details.ensures.written in
     let text = c.as_slice-text.ensures.value in
     let line = rw text at c.put_shown_line-at.ensures.written in (
-      shown_line (bytes_of c.args.line.now) ++ details.0,
+      shown_line (bytes_of c.args.fault.now.text) ++ details.0,
       record { details = details.0; are = rw text at details.1; report_is = refl },
       line ⨾ details.2,
     )

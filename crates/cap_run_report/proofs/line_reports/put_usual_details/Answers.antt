@@ -9,7 +9,7 @@ returns-in_default-clause-written g c =
     let told = c.put_line_details.ensures.written in
     let other = c.in_default in (
       told.0,
-      details_other (run_in c.args.machine.now) c.args.text.now c.args.refusal told.0 other.not-BadHeader other.not-LineTooLong other.not-BadLine
+      details_other (run_in c.args.machine.now) c.args.line c.args.text.now c.args.refusal told.0 other.not-BadHeader other.not-LineTooLong other.not-BadLine
           other.not-BadMode other.not-Misplaced other.not-Truncated other.not-WrongCount other.not-LimitPassed told.1,
       told.2,
     )
@@ -20,9 +20,7 @@ returns-in-Misplaced-clause-written g c =
     rw c.in-Misplaced.is (_, refl, c.put_counts-at.ensures.written ⨾ hint)
 
 pub returns-in-Truncated-clause-written : goal.returns-in-Truncated-clause-written
-returns-in-Truncated-clause-written g c =
-    let hint = rw c.cut_hint.ensures.text at c.put_hint_line-in-Truncated.ensures.written in
-    rw c.in-Truncated.is (_, refl, c.put_counts-at-in-Truncated.ensures.written ⨾ hint)
+returns-in-Truncated-clause-written g c = rw c.in-Truncated.is (_, refl, c.put_cut.ensures.written)
 
 pub returns-in-BadHeader-clause-written : goal.returns-in-BadHeader-clause-written
 returns-in-BadHeader-clause-written g c = rw c.in-BadHeader.is c.put_bad_run_header.ensures.written

@@ -1,22 +1,14 @@
-use Rattle.std.proofs.Common.{ℕ, [], Option, refl, subst, sym, ◌∙◌}
-use Rattle.cap_streams.specs.Written.{Writes-nothing}
-use Rattle.cap_run_report.specs.StepParts.{AreAskedLines}
+use Rattle.std.proofs.Common.{◌++◌, refl}
+use Rattle.cap_streams.specs.Written.{◌⨾◌}
+use Rattle.cap_texts.specs.TextLines.{says_line}
 use Rattle.cap_run_report.proofs.object_steps.put_asked.Goals as goal
-use Rattle.cap_run.specs.Machines.{run_in}
 
-pub returns-in-Some-clause-written : goal.returns-in-Some-clause-written
-returns-in-Some-clause-written g c =
-    let told = c.put_extent.ensures.written in (
-      told.0,
-      subst (λ (o : Option (ℕ × ℕ)). AreAskedLines (run_in c.args.machine.now) c.args.number c.args.freed o told.0)
-          (sym c.in-Some.is ∙ c.asked_extent.ensures) told.1,
-      told.2,
+pub returns-clause-written : goal.returns-clause-written
+unfolding says_line
+returns-clause-written g c =
+    let lines = c.put_asked_extent-at.ensures.written in
+    let text = c.put_asked_text-at.ensures.written in (
+      lines.0 ++ says_line text.0,
+      (lines.0, lines.1, text.0, text.1, refl),
+      lines.2 ⨾ (c.put-at.ensures.written ⨾ text.2 ⨾ c.put.ensures.written),
     )
-
-pub returns-in-None-clause-written : goal.returns-in-None-clause-written
-returns-in-None-clause-written g c = (
-  [],
-  subst (λ (o : Option (ℕ × ℕ)). AreAskedLines (run_in c.args.machine.now) c.args.number c.args.freed o [])
-      (sym c.in-None.is ∙ c.asked_extent.ensures) refl,
-  Writes-nothing,
-)

@@ -1,16 +1,8 @@
-use Rattle.std.proofs.Common.{[], refl, ◌∙◌}
+use Rattle.std.proofs.Common.{[]}
 use Rattle.cap_streams.specs.Written.{Writes-nothing}
 use Rattle.cap_run_report.proofs.StepLemmas.{free_other}
 use Rattle.cap_run_report.proofs.object_steps.put_free_step.Goals as goal
 use Rattle.cap_run.specs.Machines.{run_in}
-
-pub returns-in-AlreadyFreed-clause-written : goal.returns-in-AlreadyFreed-clause-written
-returns-in-AlreadyFreed-clause-written g c = rw c.in-AlreadyFreed.is c.put_numbered.ensures.written
-
-pub returns-in-NoObject-clause-written : goal.returns-in-NoObject-clause-written
-returns-in-NoObject-clause-written g c =
-    let count = rw (c.from.ensures ∙ c.count.ensures.value) at c.put_decimal_line.ensures.written in
-    rw c.in-NoObject.is (_, refl, count)
 
 pub returns-in_default-clause-written : goal.returns-in_default-clause-written
 returns-in_default-clause-written g c =

@@ -1,9 +1,9 @@
 use Rattle.std.proofs.Common.{◌≡◌, ℕ, List, [], inl, inr, refl, subst, sym}
 use Rattle.cap_streams.specs.Written.{Writes, Writes-nothing}
 use Rattle.cap_run.specs.{declared.ends.RunRefusal.RunRefusal, Run.Run}
-use Rattle.cap_run_log.specs.declared.lines.{RunRegister.{RunRegister, TheVariants.{General, Special}}, RunStep.RunStep}
+use Rattle.cap_run_log.specs.declared.lines.{RunRegister.{TheVariants.{General, Special}}, RunStep.RunStep}
 use Rattle.cap_run_log.specs.RunLines.{IsRunRegister}
-use Rattle.cap_run_report.specs.StepParts.{AreRunStepLines, derived_lines, exchanged_lines, invoked_lines}
+use Rattle.cap_run_report.specs.{CapParts.{placed_in, recorded_for}, InvokedPairs.invoked_lines, StepParts.{AreRunStepLines, derived_lines, exchanged_lines}}
 use Rattle.cap_run_report.proofs.StepLemmas.{target_read}
 use Rattle.cap_run_report.proofs.step_parts.put_run_step.Goals as goal
 use Rattle.cap_run.specs.Machines.{run_in}
@@ -16,12 +16,9 @@ by_variant : (run : Run) (refusal : RunRefusal) (at : ℕ) (old new : List ℕ) 
     → Tells run refusal at old new end it → Tells run refusal at old new end step
 by_variant run refusal at old new end step it is = subst (Tells run refusal at old new end) (sym is)
 
-pub put_derived-requires-clause-target : goal.put_derived-requires-clause-target
-put_derived-requires-clause-target g c =
-    target_read _ (subst (IsRunRegister 1) (sym c.register-target.ensures.register) c.register-target.ensures.range)
-
-pub put_exchanged-requires-clause-target : goal.put_exchanged-requires-clause-target
-put_exchanged-requires-clause-target g c = rw c.number.ensures.number c.number.ensures.range.1
+pub recorded_for-target-requires : goal.recorded_for-target-requires
+recorded_for-target-requires g c =
+    target_read _ (subst (IsRunRegister 1) (sym c.register.ensures.register) c.register.ensures.range)
 
 pub put_object_step-requires-clause-register : goal.put_object_step-requires-clause-register
 put_object_step-requires-clause-register g c = rw c.in-Object.is at c.requires.step
@@ -45,19 +42,23 @@ returns-in-Derive-clause-written g c =
     let run = run_in c.args.machine.now in
     let step = c.in-Derive.step in
     by_variant run c.args.refusal c.args.at c.args.buffer.now c.put_derived.new.buffer c.put_derived.result _ _ c.in-Derive.is (
-      derived_lines run step.target step.source step.result,
+      derived_lines (recorded_for step.target step.result) (placed_in run step.source) c.args.refusal,
       refl,
-      rw (c.register-target.ensures.register, c.register-source.ensures.register) at c.put_derived.ensures.written,
+      rw (c.recorded_for-target.ensures.value, c.placed_in-source.ensures.value, c.register.ensures.register, c.register-in-Derive.ensures.register)
+          at c.put_derived.ensures.written,
     )
 
 pub returns-in-Exchange-clause-written : goal.returns-in-Exchange-clause-written
 returns-in-Exchange-clause-written g c =
     let run = run_in c.args.machine.now in
     let step = c.in-Exchange.step in
+    let target = recorded_for (General step.target) step.result in
+    let special = recorded_for (Special step.special) step.special_result in
     by_variant run c.args.refusal c.args.at c.args.buffer.now c.put_exchanged.new.buffer c.put_exchanged.result _ _ c.in-Exchange.is (
-      exchanged_lines run (General step.target) (General step.source) (Special step.special) step.result step.special_result,
+      exchanged_lines target (placed_in run (Special step.special)) special (placed_in run (General step.source)) c.args.refusal,
       refl,
-      rw (c.number.ensures.number, c.number-in-Exchange.ensures.number, c.number-in-Exchange-2.ensures.number) at c.put_exchanged.ensures.written,
+      rw (c.recorded_for-target-in-Exchange.ensures.value, c.placed_in-held.ensures.value, c.recorded_for-special.ensures.value, c.placed_in-source-in-Exchange.ensures.value, c.number.ensures.number, c.number-in-Exchange.ensures.number, c.number-in-Exchange-2.ensures.number)
+          at c.put_exchanged.ensures.written,
     )
 
 pub returns-in-Invoke-clause-written : goal.returns-in-Invoke-clause-written
@@ -65,9 +66,10 @@ returns-in-Invoke-clause-written g c =
     let run = run_in c.args.machine.now in
     let step = c.in-Invoke.step in
     by_variant run c.args.refusal c.args.at c.args.buffer.now c.put_invoked.new.buffer c.put_invoked.result _ _ c.in-Invoke.is (
-      invoked_lines run step.code step.datum step.code_word step.datum_word c.args.refusal,
+      invoked_lines (placed_in run (General step.code)) (placed_in run (General step.datum)) step.code_word step.datum_word c.args.refusal,
       refl,
-      rw (c.number-code.ensures.number, c.number-datum.ensures.number) at c.put_invoked.ensures.written,
+      rw (c.placed_in-code.ensures.value, c.placed_in-datum.ensures.value, c.number-in-Invoke.ensures.number, c.number-in-Invoke-2.ensures.number)
+          at c.put_invoked.ensures.written,
     )
 
 pub returns-in-Object-clause-written : goal.returns-in-Object-clause-written

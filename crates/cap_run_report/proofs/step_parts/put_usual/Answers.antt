@@ -3,9 +3,8 @@ use Rattle.cap_streams.specs.Written.{Writes, ◌⨾◌}
 use Rattle.cap_machine.specs.{Accounts.Account, Helds.account_of, Shown.shown_of}
 use Rattle.cap_machine.specs.declared.shown.Shown.{Shown}
 use Rattle.cap_report.specs.{Parts.lines_of_parts, StepLines.{asked_parts, step_lines}}
-use Rattle.cap_texts.specs.TextLines.{says_line}
 use Rattle.cap_run.specs.{declared.ends.RunRefusal.RunRefusal, RunChanges.without_origins}
-use Rattle.cap_run_report.specs.{RunSentences.IsAccessText, StepParts.{AreAccessLines, AreUsualLines}}
+use Rattle.cap_run_report.specs.StepParts.{AreAccessLines, AreUsualLines}
 use Rattle.cap_run_report.proofs.StepLemmas.{usual_told}
 use Rattle.cap_run_report.proofs.step_parts.put_usual.Goals as goal
 use Rattle.cap_run.specs.Machines.{run_in}
@@ -27,20 +26,16 @@ returns-in_default g c =
     let run = run_in c.args.machine.now in
     let step = c.args.step.now in
     let account = without_origins (account_of c.machine-main.result.now) in
-    let access = c.put_access-at.ensures.written in
+    let access = c.put_access.ensures.written in
     let asked = subst
     (λ (s : Shown). Writes c.args.at (lines_of_parts (asked_parts account s)) c.args.buffer.now c.put_asked-at.new.buffer c.put_asked-at.result)
     c.shown-shown.ensures.shown c.put_asked-at.ensures.written in
     let are = subst (λ (s : Shown). AreAccessLines run s.access c.args.refusal access.0) c.shown-shown.ensures.shown access.1 in
-    let first = c.put_asked-at.ensures.fits in
-    let second = c.put_access-at.ensures.fits in
-    let says = c.put_access_says.ensures.written in
-    let is = subst (λ (s : Shown). IsAccessText run s.access c.args.refusal says.0) c.shown-shown.ensures.shown says.1 in
     record {
       written = (
-        lines_of_parts (asked_parts account (shown_of account.state step)) ++ (access.0 ++ says_line says.0),
-        usual_told run step c.args.refusal access.0 says.0 account c.machine-main.ensures.account c.in_default.not-Usual are is,
-        asked ⨾ (access.2 ⨾ says.2),
+        lines_of_parts (asked_parts account (shown_of account.state step)) ++ access.0,
+        usual_told run step c.args.refusal access.0 account c.machine-main.ensures.account c.in_default.not-Usual are,
+        asked ⨾ access.2,
       );
-      fits = omega (arith, first, second, c.put_access_says.ensures.fits);
+      fits = omega (arith, c.put_asked-at.ensures.fits, c.put_access.ensures.fits);
     }

@@ -1,5 +1,5 @@
 use Rattle.cap_streams.specs.Written.{◌⨾◌}
-use Rattle.cap_run_report.proofs.derive_sentences.put_types.Goals as goal
+use Rattle.cap_run_report.proofs.invoked_pairs.put_types.Goals as goal
 
 pub returns-clause-written : goal.returns-clause-written
 returns-clause-written c =
