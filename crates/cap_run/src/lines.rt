@@ -37,6 +37,7 @@ impl<M: TaggedStore> RunMachine<M> {
     /// - free: `NoCapability` and `NoOwner`, or with a number `NoObject`; `AlreadyFreed`.
     ///
     /// `NoMemory` comes only at an object, and at a granule named for the first time.
+    #[inline(always)]
     pub fn make(&mut self, step: &RunStep) -> Result<(), RunEnd>
         requires { IsRunStepInRange step.now }
         ensures outcome { let old = run_in self.old in

@@ -5,6 +5,7 @@ ghost use Rattle.std.specs.FinMap as map;
 ghost use Rattle.cap_log.specs.Parts.{Begins};
 ghost use Rattle.cap_streams.specs.{FaultLines.bytes_of, Front.{IsCut, IsFront, IsFrontText}};
 ghost use Rattle.cap_turns.specs.declared.stops.Stop.TheVariants as stops;
+ghost use Rattle.cap_run_log.specs.declared.heads.RunHead.TheVariants as heads;
 ghost use Rattle.cap_run_log.specs.{declared.lines.RunLine.RunLine, RunLines.{IsRunLineInRange, run_spelling}};
 ghost use Rattle.cap_run_judge.specs.declared.faults.RefusedRunLine.{RefusedRunLine as FaultIn};
 ghost use Rattle.cap_run_judge.specs.declared.judges.Due.TheVariants.{Body, Refused as RefusedIn};
@@ -17,7 +18,7 @@ use crate::verdict::RunVerdict;
 use cap_log::{Line, Mode, read_line};
 use cap_machine::{MOST_BYTES, Refusal, Rules};
 use cap_run::{Asks, RunEnd, RunMachine, RunRefusal};
-use cap_run_log::{RunLine, take_derive, take_exchange, take_run_line};
+use cap_run_log::{RunHead, RunLine, take_derive, take_exchange, take_run_line, take_step};
 use cap_streams::judging::FaultLine;
 use cap_streams::{Front, front};
 use cap_turns::{Stop, Taken};
@@ -143,10 +144,14 @@ impl<M: TaggedStore> RunJudge<M> {
         'lines: loop {
             let before = self.take_derivations(rest);
             let behind = self.machine.take_steps(before);
-            if behind.len() == before.len() {
-                return behind;
+            if behind.len() != before.len() {
+                rest = behind;
+                continue 'lines;
             }
-            rest = behind;
+            match self.take_object_step(behind) {
+                Some(next) => rest = next,
+                None => return behind,
+            }
         }
     }
 
@@ -208,6 +213,44 @@ impl<M: TaggedStore> RunJudge<M> {
             return None;
         };
         match self.machine.derive(derive) {
+            Ok(()) => Some(rest),
+            Err(_) => None,
+        }
+    }
+
+    // Takes the line of `object`, `free` or `drop` at the front of some bytes: what follows it, or `None`, and nothing has
+    // changed.
+    #[inline(never)]
+    fn take_object_step<'a>(&mut self, bytes: &'a [u8]) -> Option<&'a [u8]>
+        requires { self.old.due ≡ Body }
+        ensures some { IfSome result (λ rest. (line : RunLine) × Begins IsRunLineInRange run_spelling 10 bytes.now line rest.now
+            × Takes run_turns (stage_of self.old) line (stage_of self.new)) }
+        ensures none { IfNone result (stage_of self.new ≡ stage_of self.old) }
+        ensures body { self.new.due ≡ Body }
+    {
+        if let Some(rest) = self.take_step(RunHead::Object, bytes) {
+            return Some(rest);
+        }
+        if let Some(rest) = self.take_step(RunHead::Free, bytes) {
+            return Some(rest);
+        }
+        self.take_step(RunHead::Drop, bytes)
+    }
+
+    // The same of a step with a head. The compiler makes a function of it for each head that it is called with.
+    #[inline(always)]
+    fn take_step<'a>(&mut self, head: RunHead, bytes: &'a [u8]) -> Option<&'a [u8]>
+        requires body { self.old.due ≡ Body }
+        requires head { (head ≢ heads.Version) × (head ≢ heads.Root) }
+        ensures some { IfSome result (λ rest. (line : RunLine) × Begins IsRunLineInRange run_spelling 10 bytes.now line rest.now
+            × Takes run_turns (stage_of self.old) line (stage_of self.new)) }
+        ensures none { IfNone result (stage_of self.new ≡ stage_of self.old) }
+        ensures body { self.new.due ≡ Body }
+    {
+        let Some((step, rest)) = take_step(head, bytes) else {
+            return None;
+        };
+        match self.machine.make(&step) {
             Ok(()) => Some(rest),
             Err(_) => None,
         }

@@ -82,6 +82,25 @@ fn run_head_text(head: RunHead) -> &'static [u8]
     }
 }
 
+/// What follows the word of a head and its space at the front of some bytes, or `None` where they do not stand there.
+#[inline(always)]
+pub(crate) fn strip_head(head: RunHead, bytes: &[u8]) -> Option<&[u8]>
+    ensures some { IfSome result (λ rest. bytes.now ≡ run_head_spelling head ++ 32 ∷ rest.now) }
+    ensures none { IfNone result (BeginsWithout (run_head_spelling head) 32 bytes.now) }
+{
+    match head {
+        RunHead::Version => strip_word(bytes, b"run", b' '),
+        RunHead::Root => strip_word(bytes, b"root", b' '),
+        RunHead::Derive => strip_derive(bytes),
+        RunHead::Exchange => strip_exchange(bytes),
+        RunHead::Invoke => strip_word(bytes, b"invoke", b' '),
+        RunHead::Drop => strip_word(bytes, b"drop", b' '),
+        RunHead::Fill => strip_word(bytes, b"fill", b' '),
+        RunHead::Object => strip_word(bytes, b"object", b' '),
+        RunHead::Free => strip_word(bytes, b"free", b' '),
+    }
+}
+
 /// What follows `exchange` and its space at the front of some bytes, or `None` where they do not stand there. The word is
 /// compared as one number.
 #[inline(always)]

@@ -18,6 +18,6 @@ pub use crate::laws::usual_lines_are_run_lines;
 pub use crate::lines::{Derive, Exchange, Invoke, RunLine, RunPlace, RunRegister, RunStep};
 pub use crate::operands::{RunSource, RunTarget, Special};
 pub use crate::readers::{
-    read_run_line, run_spellings_are_distinct, take_derive, take_exchange, take_run_line,
+    read_run_line, run_spellings_are_distinct, take_derive, take_exchange, take_run_line, take_step,
 };
 pub use crate::writers::{write_exchange, write_run_line};

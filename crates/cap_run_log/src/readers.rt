@@ -2,19 +2,20 @@
 
 #![tactic(auto, using(crate::proofs::Rows::after_each), unfolding(crate::specs::RunLines::run_spelling))]
 
-ghost use Rattle.std.specs.Prelude.{◌≡◌, ◌≤◌, ◌∷◌, ◌++◌, ℕ, List, length, IfSome, IfNone};
+ghost use Rattle.std.specs.Prelude.{◌≡◌, ◌≢◌, ◌≤◌, ◌∷◌, ◌++◌, ℕ, List, length, IfSome, IfNone};
 ghost use Rattle.cap_streams.specs.Front.{HasNoFeed};
 ghost use Rattle.cap_run_log.specs.{declared.lines.RunLine.RunLine, RunLines.SpellsRun};
-ghost use Rattle.cap_log.specs.Parts.{Begins, BeginsWithNone};
+ghost use Rattle.cap_log.specs.Parts.{Begins, BeginsWithNone, BeginsWithout};
 ghost use Rattle.cap_run_log.specs.{RunHeads.{IsRunHead, run_head_spelling}, RunLines.{IsRunLineInRange, run_spelling}};
 ghost use Rattle.cap_run_log.specs.declared.lines.{Derive.Derive as DeriveIn, Exchange.Exchange as ExchangeIn};
 ghost use Rattle.cap_run_log.specs.declared.lines.RunLine.TheVariants as lines;
+ghost use Rattle.cap_run_log.specs.declared.lines.RunStep.{RunStep as RunStepIn};
 ghost use Rattle.cap_run_log.specs.declared.lines.RunStep.TheVariants as steps;
 ghost use Rattle.cap_run_log.specs.RunParts.{IsFreed, IsHanded, StandsAfter, freed_spelling, handed_spelling};
 ghost use Rattle.cap_run_log.specs.declared.heads.RunHead.{RunHead as RunHeadIn};
 ghost use Rattle.cap_run_log.specs.declared.heads.RunHead.TheVariants as heads;
 
-use crate::heads::{RunHead, strip_derive, strip_exchange};
+use crate::heads::{RunHead, strip_derive, strip_exchange, strip_head};
 use crate::lines::{Derive, Exchange, Invoke, RunLine, RunStep};
 use crate::operands::Special;
 use crate::parts::{Equals, Freed, Granule, Handed, One};
@@ -78,6 +79,21 @@ pub fn take_derive(bytes: &[u8]) -> Option<(Derive, &[u8])>
         return None;
     };
     take_derived(operands)
+}
+
+/// Takes the line of a step with a head and its line feed from the front of some bytes, sooner than [`take_run_line`] does: the
+/// step, and what follows its line. `None` if no such line and a line feed stand there.
+#[inline(always)]
+pub fn take_step(head: RunHead, bytes: &[u8]) -> Option<(RunStep, &[u8])>
+    requires { (head ≢ heads.Version) × (head ≢ heads.Root) }
+    ensures some { IfSome result (λ p. Begins IsRunLineInRange run_spelling 10 bytes.now (lines.Run p.0) p.1.now) }
+    ensures none { IfNone result ((step : RunStepIn) (rest : List ℕ)
+        → Begins IsRunLineInRange run_spelling 10 bytes.now (lines.Run step) rest → BeginsWithout (run_head_spelling head) 32 bytes.now) }
+{
+    let Some(operands) = strip_head(head, bytes) else {
+        return None;
+    };
+    take_step_operands(head, operands)
 }
 
 /// Reads a line of a run log from its bytes, without its line feed: the line that they spell, or `None` if they spell none.
@@ -148,51 +164,59 @@ fn take_run_operands(head: RunHead, bytes: &[u8]) -> Option<(RunLine, &[u8])>
         RunHead::Root => {
             taken!(take_parts(head, bytes), (place, word) => RunLine::Root(place, word))
         }
-        RunHead::Derive => {
-            taken!(take_derived(bytes), derive => RunLine::Run(RunStep::Derive(derive)))
-        }
-        RunHead::Exchange => {
-            taken!(take_exchanged(bytes), exchange => RunLine::Run(RunStep::Exchange(exchange)))
-        }
-        RunHead::Invoke => {
-            taken!(take_parts::<InvokeParts>(head, bytes), (code, (datum, (_equals, (code_word, datum_word)))) =>
-                RunLine::Run(RunStep::Invoke(Invoke { code, datum, code_word, datum_word })))
-        }
-        RunHead::Drop => {
-            taken!(take_parts(head, bytes), place => RunLine::Run(RunStep::Drop(place)))
-        }
-        RunHead::Fill => {
-            taken!(take_parts::<(Granule, Word)>(head, bytes), (granule, word) => RunLine::Run(RunStep::Fill(granule.0, word)))
-        }
-        RunHead::Object => taken!(take_parts(head, bytes), handed => object_line(handed)),
-        RunHead::Free => taken!(take_parts(head, bytes), freed => free_line(freed)),
+        _ => taken!(take_step_operands(head, bytes), step => RunLine::Run(step)),
     }
 }
 
-// The line of `object` and what follows it.
+// Takes what follows the head of a step and its space, with the line feed.
 #[inline(always)]
-fn object_line(handed: Handed) -> RunLine
-    requires { IsHanded handed }
-    ensures range { IsRunLineInRange result }
-    ensures spelling { run_spelling result ≡ run_head_spelling heads.Object ++ 32 ∷ handed_spelling handed }
+fn take_step_operands(head: RunHead, bytes: &[u8]) -> Option<(RunStep, &[u8])>
+    requires { (head ≢ heads.Version) × (head ≢ heads.Root) }
+    ensures some { IfSome result (λ p. Begins IsRunLineInRange run_spelling 10 (run_head_spelling head ++ 32 ∷ bytes.now)
+        (lines.Run p.0) p.1.now) }
+    ensures none { IfNone result (BeginsWithNone IsRunLineInRange run_spelling 10 (run_head_spelling head ++ 32 ∷ bytes.now)) }
 {
-    RunLine::Run(match handed {
-        Handed::Alone(target) => RunStep::Object(target),
-        Handed::Numbered(target, number) => RunStep::Widen(target, number),
-    })
+    match head {
+        RunHead::Version | RunHead::Root => None,
+        RunHead::Derive => taken!(take_derived(bytes), derive => RunStep::Derive(derive)),
+        RunHead::Exchange => taken!(take_exchanged(bytes), exchange => RunStep::Exchange(exchange)),
+        RunHead::Invoke => {
+            taken!(take_parts::<InvokeParts>(head, bytes), (code, (datum, (_equals, (code_word, datum_word)))) =>
+                RunStep::Invoke(Invoke { code, datum, code_word, datum_word }))
+        }
+        RunHead::Drop => taken!(take_parts(head, bytes), place => RunStep::Drop(place)),
+        RunHead::Fill => {
+            taken!(take_parts::<(Granule, Word)>(head, bytes), (granule, word) => RunStep::Fill(granule.0, word))
+        }
+        RunHead::Object => taken!(take_parts(head, bytes), handed => handed_step(handed)),
+        RunHead::Free => taken!(take_parts(head, bytes), freed => freed_step(freed)),
+    }
 }
 
-// The line of `free` and what follows it.
+// The step of `object` and what follows it.
 #[inline(always)]
-fn free_line(freed: Freed) -> RunLine
-    requires { IsFreed freed }
-    ensures range { IsRunLineInRange result }
-    ensures spelling { run_spelling result ≡ run_head_spelling heads.Free ++ 32 ∷ freed_spelling freed }
+fn handed_step(handed: Handed) -> RunStep
+    requires { IsHanded handed }
+    ensures range { IsRunLineInRange (lines.Run result) }
+    ensures spelling { run_spelling (lines.Run result) ≡ run_head_spelling heads.Object ++ 32 ∷ handed_spelling handed }
 {
-    RunLine::Run(match freed {
+    match handed {
+        Handed::Alone(target) => RunStep::Object(target),
+        Handed::Numbered(target, number) => RunStep::Widen(target, number),
+    }
+}
+
+// The step of `free` and what follows it.
+#[inline(always)]
+fn freed_step(freed: Freed) -> RunStep
+    requires { IsFreed freed }
+    ensures range { IsRunLineInRange (lines.Run result) }
+    ensures spelling { run_spelling (lines.Run result) ≡ run_head_spelling heads.Free ++ 32 ∷ freed_spelling freed }
+{
+    match freed {
         Freed::Owner(target) => RunStep::FreeOwner(target),
         Freed::Number(number) => RunStep::FreeNumber(number),
-    })
+    }
 }
 
 // Takes what follows `derive` and its space.
