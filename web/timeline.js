@@ -70,8 +70,9 @@ class Timeline {
             lines.before(line + 1);
             return this.allocate(line, Number(second ?? 0));
         }
-        lines.before(line);
-        const number = first.startsWith("c") ? this.judge.owner(first) : Number(first);
+        const isOwner = first.startsWith("c");
+        if (isOwner) lines.before(line);
+        const number = isOwner ? this.judge.owner(first) : Number(first);
         lines.before(line + 1);
         this.free(line, number);
     }
