@@ -18,7 +18,8 @@
 #   PREFIX/share/gdb/auto-load/      a file by which a GDB installed below PREFIX loads these commands with the library
 #
 # DESTDIR goes in front of PREFIX, and is named in no file. What isn't built yet is proved and built first, which
-# needs the Rattle kit; a line says when each crate is proved, and CONTRIBUTING.md how long it takes. The shared libraries and the judge need a C compiler: CC, or cc.
+# needs the Rattle kit; a line says when each crate is proved, and CONTRIBUTING.md how long it takes. The shared libraries
+# and the judge need a C compiler: CC, or cc.
 set -eu
 [ $# = 1 ] || { echo 'usage: sh install.sh PREFIX' >&2; exit 2; }
 case $1 in
