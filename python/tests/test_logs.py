@@ -451,7 +451,9 @@ class Command(unittest.TestCase):
     def test_interrupt(self):
         """An interrupt tells how far a log was judged."""
         for first in (b"capcheck 1\n", b"run 1\nmode clear\n"):
-            with subprocess.Popen(["python3", "-m", "capcheck", "judge"], stdin=subprocess.PIPE, stderr=subprocess.PIPE) as it:
+            # A shell's job in the background ignores interrupts, and what it starts does too.
+            heard = {"preexec_fn": lambda: signal.signal(signal.SIGINT, signal.SIG_DFL)}
+            with subprocess.Popen(["python3", "-m", "capcheck", "judge"], stdin=subprocess.PIPE, stderr=subprocess.PIPE, **heard) as it:
                 it.stdin.write(first + b"root c1 ffff1ffffc0180040000000000000000\n" + b"move c2 c1 = 1 ffff1ffffc0180040000000000000000\n" * 5000)
                 it.stdin.flush()  # More than a pipe holds: it has begun to judge.
                 time.sleep(0.5)
