@@ -52,13 +52,14 @@ class ClusterTest(unittest.TestCase):
 
     def test_lost_worker(self):
         names = list(many.files([f"{self.folder}/logs"]))
-        wanted = sorted(many.judge_many(names))
+        wanted = [many.judge_file(it) for it in names]
         self.assertEqual([it.status for it in wanted], [int(number % 3 == 0) for number in range(LOGS)])
         lost, _ = self.worker(), self.worker()
         found = []
-        for it in many.judge_by_cluster(self.address, names):
-            found.append(it)
-            if len(found) == LOGS // 2:
+        for text, accepted, others in many.judge_by_cluster(self.address, names, form="jsonl"):
+            found += (many.Result(**json.loads(it)) for it in text.splitlines())
+            self.assertEqual([tuple(it) for it in found if it.status][-len(others):] if others else [], others)
+            if len(found) >= LOGS // 2:
                 lost.kill()
         self.assertEqual(sorted(found), wanted)
 

@@ -2,9 +2,11 @@
 import csv
 import json
 import os
+import signal
 import subprocess
 import sys
 import tempfile
+import time
 import unittest
 import xml.etree.ElementTree as xml
 from pathlib import Path
@@ -72,6 +74,41 @@ class ManyTest(unittest.TestCase):
         lines = self.ran(".", "--annotations")[1].splitlines()
         self.assertTrue(lines[0].startswith("::error file=b.log,line=5::no 5 11 BoundsEscape%0A"), lines[0])
         self.assertEqual(json.loads(json.dumps(many.judge_file(f"{self.folder.name}/a.log")._asdict()))["verdict"], "yes 2 1")
+
+    def test_names(self):
+        """Names of all kinds pass to other processes and into results. A folder may be named as a log is, and a link to one isn't followed."""
+        long = "/".join(["x" * 250] * 10)
+        os.makedirs(f"{self.folder.name}/many/{long}")
+        os.mkdir(f"{self.folder.name}/many/folder.log")
+        os.symlink("folder.log", f"{self.folder.name}/many/link.log")
+        names = ["folder.log/a.log", "folder.log-b.log", "new\nline.log", 'quote".log', "\udcff.log", "é,.log", *(f"{long}/{number:03}.log" for number in range(300))]
+        for name in names:
+            Path(f"{self.folder.name}/many/{name}").write_text(LOGS["in/d.log"])
+        wanted = sorted(f"many/{name}" for name in names)
+        self.assertEqual(list(many.files([f"{self.folder.name}/many"])), [f"{self.folder.name}/{name}" for name in wanted])
+        for jobs in ("1", "3"):
+            self.assertEqual(self.ran("many", "./many/", "--jobs", jobs, "--results", f"{jobs}.jsonl"), (0, f"{len(names)} accepted\n", ""))
+            lines = Path(f"{self.folder.name}/{jobs}.jsonl").read_text().splitlines()
+            results = many.read_results(f"{self.folder.name}/{jobs}.jsonl")
+            self.assertEqual([it.file for it in (results if jobs == "1" else sorted(results))], wanted)
+            self.assertEqual(lines, [json.dumps(it._asdict()) for it in results])
+
+    def test_processes(self):
+        """If the system ends a process there is no result, and an interrupt ends all; a second run judges what is left."""
+        os.mkfifo(f"{self.folder.name}/z.log")
+        words, results = [sys.executable, "-m", "capcheck", "many", ".", "--jobs", "3", "--results", "results.jsonl"], Path(f"{self.folder.name}/results.jsonl")
+        for number, wanted in ((signal.SIGKILL, (3, b"capcheck: no memory\n")), (signal.SIGINT, (130, b"capcheck: interrupted\n"))):
+            results.unlink(missing_ok=True)
+            # A shell's job in the background ignores interrupts, and what it starts does too.
+            with subprocess.Popen(words, cwd=self.folder.name, stderr=subprocess.PIPE, preexec_fn=lambda: signal.signal(signal.SIGINT, signal.SIG_DFL)) as it:
+                children = Path(f"/proc/{it.pid}/task/{it.pid}/children")
+                while not (results.exists() and results.read_text().count("\n") == 5 and len(left := children.read_text().split()) == 1):
+                    time.sleep(0.01)
+                os.kill(int(left[0]) if number == signal.SIGKILL else it.pid, number)
+                self.assertEqual((it.wait(), it.stderr.read()), wanted)
+                self.assertFalse(os.path.exists(f"/proc/{left[0]}"))
+        os.remove(f"{self.folder.name}/z.log")
+        self.assertEqual(self.ran(".", "--results", "results.jsonl")[1], SAID)
 
 
 if __name__ == "__main__":
