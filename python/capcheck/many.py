@@ -335,17 +335,18 @@ def many(given: argparse.Namespace) -> tuple[bytes, int]:
         raise ValueError(f"jobs {given.jobs} isn't 1 or more")
     words, form = (given.freed, given.owned), "" if not given.results else "csv" if given.results.endswith(".csv") else "jsonl"
     known = {it.file: it for it in read_results(given.results)} if given.results else {}
-    names, kept = dict[str, None](), list[Result]()
+    # A folder names a file once.
+    found = files(given.paths) if len(given.paths) == 1 else dict.fromkeys(files(given.paths))
+    names, kept = list[str](), list[Result]()
 
     def left() -> Iterator[str]:
         """The files that have no result."""
-        for name in files(given.paths):
-            if name not in names:
-                names[name] = None
-                if known and (it := known.get(name)) and _same(it, _asks(*words)):
-                    kept.append(it)
-                else:
-                    yield name
+        for name in found:
+            names.append(name)
+            if known and (it := known.get(name)) and _same(it, _asks(*words)):
+                kept.append(it)
+            else:
+                yield name
 
     listed = list(left()) if sys.stderr.isatty() else None  # A bar tells how many there are.
     wanted, others = left() if listed is None else listed, list[Result]()
@@ -354,8 +355,8 @@ def many(given: argparse.Namespace) -> tuple[bytes, int]:
         if written and form == "csv" and not written.tell():
             written.write(_block([Result._fields], form)[0])
         judged = judge_by_cluster(given.scheduler, wanted, *words, form) if given.scheduler else judge_many(wanted, given.jobs, *words, form)
-        for text, _, found in judged if listed is None else _shown(judged, len(listed)):
-            others += (Result(*it) for it in found)
+        for text, _, rows in judged if listed is None else _shown(judged, len(listed)):
+            others += (Result(*it) for it in rows)
             if written:
                 written.write(text)
                 written.flush()
