@@ -6,11 +6,10 @@ this machine, and `capdiag run` by xargs.
 
 PREFIX is the folder that install.sh installed below. The COUNT logs, or 100,000, have 300 lines each. It prints for each how many logs a second
 of time and of processor time there are: the least time of three rounds counts. Before that it prints the work for a log, by the least time of
-many short runs, which other load changes least: by one job; by one of several, and by the process that gets its results; by `capdiag run`."""
+many short runs, which other load changes least: by a job; to list it; by `capdiag run`."""
 import importlib.util
 import json
 import os
-import pickle
 import subprocess
 import sys
 import tempfile
@@ -21,12 +20,14 @@ PREFIX, COUNT = Path(sys.argv[1]), int(sys.argv[2]) if len(sys.argv) > 2 else 10
 ROOT = "run 1\nmode clear\nroot c1 ffff1ffffc0180040000000000000000\n"
 MOVE = "move c2 c1 = 1 ffff1ffffc0180040000000000000000\n"
 ENVIRONMENT = {**os.environ, "PYTHONPATH": str(PREFIX / "share/capcheck"), "CAPCHECK_LIB": str(PREFIX / "lib")}
+ENVIRONMENT.pop("PYTHONDONTWRITEBYTECODE", None)  # Python keeps the package compiled, as it does elsewhere.
 
 
 def timed(command, folder):
     """The least time of three rounds, and the least processor time."""
     times, spent = [], []
     for _ in range(3):
+        Path(f"{folder}/results.jsonl").unlink(missing_ok=True)
         before, begun = os.times(), time.monotonic()
         subprocess.run(command, cwd=folder, env=ENVIRONMENT, stdout=subprocess.DEVNULL, check=True)
         times.append(time.monotonic() - begun)
@@ -55,14 +56,11 @@ def work(folder):
     sys.path.insert(0, ENVIRONMENT["PYTHONPATH"])
     from capcheck import many
     names = sorted(many.files([f"{folder}/logs"]))[:128]
-    results = many._each(names, "held", False)
-    passed = pickle.dumps(results)
-    alone = least(lambda: [many.judge_file(it) for it in names], 128, 150)
-    judged = least(lambda: pickle.dumps(many._each(names, "held", False)), 128, 150)
-    got = least(lambda: [many._result(name, "held", it) for name, it in zip(names, pickle.loads(passed))], 128, 150)
+    job = [least(lambda: list(many._blocks(names, "held", False, form)), 128, 150) for form in ("", "jsonl")]
+    listed = least(lambda: list(many.files([f"{folder}/logs"])), COUNT, 5)
     more = sorted(many.files([f"{folder}/logs"]))[:2001]
     of = [least(lambda: subprocess.run([f"{PREFIX}/bin/capdiag", "run", *some], capture_output=True), 1, 25) for some in (more[:1], more)]
-    print(f"work for a log: one job {alone:.1f} us; of several jobs {judged:.1f} us, and {got:.1f} us for its result; capdiag {(of[1] - of[0]) / 2000:.1f} us", flush=True)
+    print(f"work for a log: a job {job[0]:.1f} us, with its result as JSON {job[1]:.1f} us; to list it {listed:.1f} us; capdiag {(of[1] - of[0]) / 2000:.1f} us", flush=True)
 
 
 def by_cluster(folder, many):
@@ -93,6 +91,7 @@ def main():
         many = [sys.executable, "-m", "capcheck", "many", f"{folder}/logs"]
         for jobs in (1, 2, 4):
             said(f"many, {jobs} job{'s' * (jobs > 1)}", [*many, "--jobs", str(jobs)], folder)
+            said("  with their results", [*many, "--jobs", str(jobs), "--results", "results.jsonl"], folder)
         said("xargs -P4 capdiag run", ["sh", "-c", f"find logs -name '*.log' -print0 | xargs -0 -P4 {PREFIX}/bin/capdiag run"], folder)
         if importlib.util.find_spec("distributed"):
             by_cluster(folder, many)

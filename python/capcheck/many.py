@@ -14,21 +14,21 @@ from contextlib import ExitStack
 from itertools import chain, islice
 from json.encoder import encode_basestring_ascii as _quoted  # type: ignore
 from pathlib import Path
-from typing import Any, NamedTuple, TextIO
+from typing import Any, BinaryIO, NamedTuple
 
 from . import heaps, judges, runs
 from ._abi import whole_logs
 from .processes import shared
 
 _NUMBERS = ("size", "changed", "line")  # The fields of a result that are.
-_BATCH = 512  # So many files a process or a worker gets at a time, at most.
+_BATCH = 256  # So many files a process or a worker gets at a time, at most.
 _SOON = 0.2  # After so many seconds a process passes on what it has judged.
 _UNDER_WAY = 1000  # So many batches a cluster gets at most.
 _YES = int(judges.State.YES)  # Faster than the member.
 _AN_ANNOTATION_ENDS = str.maketrans({"%": "%25", "\r": "%0D", "\n": "%0A"})
 
 # What a process passes on: the text of some results, if one is wanted, how many logs are accepted, and the fields of the others' results.
-_Block = tuple[str, int, list[tuple[Any, ...]]]
+_Block = tuple[bytes, int, list[tuple[Any, ...]]]
 
 
 class Result(NamedTuple):
@@ -166,15 +166,12 @@ def _same(result: Result, asks: str) -> bool:
 def read_results(file: str) -> list[Result]:
     """The results in a file, of JSON Lines or CSV; none if there is no file. What was cut at the end is left out."""
     try:
-        with open(file, encoding="utf-8", newline="") as text:
+        with open(file, encoding="utf-8", errors="surrogateescape", newline="") as text:
             lines = text.read()
     except FileNotFoundError:
         return []
-    whole = lines[:lines.rfind("\n") + 1].splitlines()
-    if file.endswith(".csv"):
-        rows: Iterable[dict[str, Any]] = csv.DictReader(whole)
-    else:
-        rows = (json.loads(line) for line in whole)
+    whole = io.StringIO(lines[:lines.rfind("\n") + 1], newline="")
+    rows: Iterable[dict[str, Any]] = csv.DictReader(whole) if file.endswith(".csv") else (json.loads(line) for line in whole)
     try:
         return [Result(**{name: int(row[name]) if name in _NUMBERS else row[name] for name in Result._fields}) for row in rows]
     except (ValueError, KeyError, TypeError):
@@ -193,7 +190,7 @@ def _block(rows: Sequence[tuple[Any, ...]], form: str) -> _Block:
     if form == "csv":
         csv.writer(text, lineterminator="\n").writerows(rows)
     others = [it for it in rows if it[5] or it[8]]
-    return text.getvalue(), len(rows) - len(others), others
+    return text.getvalue().encode(errors="surrogateescape"), len(rows) - len(others), others
 
 
 def _blocks(names: Iterable[str], freed: str, owned: bool, form: str) -> Iterator[_Block]:
@@ -353,7 +350,7 @@ def many(given: argparse.Namespace) -> tuple[bytes, int]:
     with ExitStack() as stack:
         written = stack.enter_context(_appended(given.results)) if form else None
         if written and form == "csv" and not written.tell():
-            written.write(_block([Result._fields], form)[0])
+            written.write(f"{','.join(Result._fields)}\n".encode())
         judged = judge_by_cluster(given.scheduler, wanted, *words, form) if given.scheduler else judge_many(wanted, given.jobs, *words, form)
         for text, _, rows in judged if listed is None else _shown(judged, len(listed)):
             others += (Result(*it) for it in rows)
@@ -364,17 +361,16 @@ def many(given: argparse.Namespace) -> tuple[bytes, int]:
     if given.junit:
         Path(given.junit).write_text(junit(names, others), encoding="utf-8")
     shown = [annotation(it) if given.annotations else f"{it.file}: {it.failed or it.verdict}" for it in others]
-    text = "".join(f"{line}\n" for line in shown) + summary(len(names) - len(others), others)
-    return text.encode(errors="surrogateescape"), max((it.status for it in others), default=0)
+    said = "".join(f"{line}\n" for line in shown) + summary(len(names) - len(others), others)
+    return said.encode(errors="surrogateescape"), max((it.status for it in others), default=0)
 
 
-def _appended(file: str) -> TextIO:
+def _appended(file: str) -> BinaryIO:
     """A file to add lines to, without what was cut at its end."""
-    opened = open(file, "a+", encoding="utf-8", newline="")
+    opened = open(file, "a+b")
     opened.seek(0)
     text = opened.read()
-    opened.seek(0, os.SEEK_END)
-    if not text.endswith("\n") and text:
-        opened.truncate(len(text[:text.rfind("\n") + 1].encode()))
+    if (end := text.rfind(b"\n") + 1) < len(text):
+        opened.truncate(end)
         opened.seek(0, os.SEEK_END)
     return opened

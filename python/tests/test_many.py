@@ -92,6 +92,8 @@ class ManyTest(unittest.TestCase):
             results = many.read_results(f"{self.folder.name}/{jobs}.jsonl")
             self.assertEqual([it.file for it in (results if jobs == "1" else sorted(results))], wanted)
             self.assertEqual(lines, [json.dumps(it._asdict()) for it in results])
+        self.ran("many", "--results", "all.csv")
+        self.assertEqual(sorted(many.read_results(f"{self.folder.name}/all.csv")), sorted(results))
 
     def test_processes(self):
         """If the system ends a process there is no result, and an interrupt ends all; a second run judges what is left."""
