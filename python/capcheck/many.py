@@ -126,16 +126,15 @@ def judge_file(file: str, freed: str = "held", owned: bool = False) -> Result:
 
 def _fields(file: str, freed: str, owned: bool, asks: str) -> tuple[Any, ...]:
     """The fields of the result of a file."""
+    size, changed = -1, -1
     try:
         data, changed = _read(file)
-    except OSError as fault:
-        return file, -1, -1, asks, "", 0, "", "", f"read fault: {fault.strerror or fault}"
-    try:
+        size = len(data)
         found: Any
         if data.startswith(b"run 1\n"):
-            answer = whole_logs.capcheck_run_judge_bytes(data, len(data), runs._asks(freed, owned))
+            answer = whole_logs.capcheck_run_judge_bytes(data, size, runs._asks(freed, owned))
             if answer.state == _YES:  # As most are, at once.
-                return file, len(data), changed, asks, f"yes {answer.steps} {answer.roots} {answer.objects}", 0, "", "", ""
+                return file, size, changed, asks, f"yes {answer.steps} {answer.roots} {answer.objects}", 0, "", "", ""
             found, why = runs._verdict(answer), runs.why(data, freed, owned)
         elif data.startswith(b"heap 1\n"):
             found = heaps.judge(data)
@@ -143,11 +142,13 @@ def _fields(file: str, freed: str, owned: bool, asks: str) -> tuple[Any, ...]:
         else:
             found = judges.judge_bytes(data)
             why = "" if found else judges.why(data)
+    except OSError as fault:
+        return file, size, changed, asks, "", 0, "", "", f"read fault: {fault.strerror or fault}"
     except MemoryError:
-        return file, len(data), changed, asks, "", 0, "", "", "no memory"
+        return file, size, changed, asks, "", 0, "", "", "no memory"
     if found:
-        return file, len(data), changed, asks, str(found), 0, "", "", ""
-    return file, len(data), changed, asks, str(found), found.line, str(found).split()[-1], why.rstrip("\n").rsplit("\n", 1)[-1], ""
+        return file, size, changed, asks, str(found), 0, "", "", ""
+    return file, size, changed, asks, str(found), found.line, str(found).split()[-1], why.rstrip("\n").rsplit("\n", 1)[-1], ""
 
 
 def _asks(freed: str, owned: bool) -> str:

@@ -5,6 +5,7 @@ import marshal
 import os
 import select
 import signal
+import sys
 from collections.abc import Callable, Iterable, Iterator
 from contextlib import ExitStack
 from typing import Any, NoReturn
@@ -44,8 +45,9 @@ def shared(batches: Iterator[list[str]], processes: int, call: Callable[[list[st
                     yield marshal.loads(data)
                     continue
                 os.close(pipe)
-                if os.waitpid(of.pop(pipe), 0)[1]:  # The system ended it, for lack of memory.
-                    raise MemoryError
+                if status := os.waitpid(of.pop(pipe), 0)[1]:
+                    # The system ended it, for lack of memory, or it has told of its exception.
+                    raise MemoryError() if os.WIFSIGNALED(status) else RuntimeError("a process has failed")
 
 
 def _work(names: int, todo: int, done: int, call: Callable[[list[str]], Iterable[Any]]) -> NoReturn:
@@ -60,6 +62,10 @@ def _work(names: int, todo: int, done: int, call: Callable[[list[str]], Iterable
                     pipe.write(len(data).to_bytes(8, "little") + data)
                     pipe.flush()
         status = 0
+    except BrokenPipeError:  # The first process has ended.
+        pass
+    except Exception:
+        sys.excepthook(*sys.exc_info())
     finally:
         os._exit(status)
 
