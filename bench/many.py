@@ -5,7 +5,7 @@ this machine, and `capdiag run` by xargs.
     python3 bench/many.py PREFIX [COUNT]
 
 PREFIX is the folder that install.sh installed below. The COUNT logs, or 100,000, have 300 lines each. It prints for each how many logs a second
-of time and of processor time there are: the least time of three rounds counts. Before that it prints the work for a log, by the least time of
+of time and of processor time there are: the least time of five rounds counts. Before that it prints the work for a log, by the least time of
 many short runs, which other load changes least: by a job; to list it; by `capdiag run`."""
 import importlib.util
 import json
@@ -17,28 +17,25 @@ import time
 from pathlib import Path
 
 PREFIX, COUNT = Path(sys.argv[1]), int(sys.argv[2]) if len(sys.argv) > 2 else 100_000
+ROUNDS = 5
 ROOT = "run 1\nmode clear\nroot c1 ffff1ffffc0180040000000000000000\n"
 MOVE = "move c2 c1 = 1 ffff1ffffc0180040000000000000000\n"
 ENVIRONMENT = {**os.environ, "PYTHONPATH": str(PREFIX / "share/capcheck"), "CAPCHECK_LIB": str(PREFIX / "lib")}
 ENVIRONMENT.pop("PYTHONDONTWRITEBYTECODE", None)  # Python keeps the package compiled, as it does elsewhere.
 
 
-def timed(command, folder):
-    """The least time of three rounds, and the least processor time."""
-    times, spent = [], []
-    for _ in range(3):
+def timed(commands, folder):
+    """The least time of each command, and its least processor time. They take turns, so that other load meets all."""
+    times, spent = {it: [] for it in commands}, {it: [] for it in commands}
+    for name, command in [*commands.items()] * ROUNDS:
         Path(f"{folder}/results.jsonl").unlink(missing_ok=True)
         before, begun = os.times(), time.monotonic()
-        subprocess.run(command, cwd=folder, env=ENVIRONMENT, stdout=subprocess.DEVNULL, check=True)
-        times.append(time.monotonic() - begun)
+        subprocess.run(command, cwd=folder, env=ENVIRONMENT, stdout=subprocess.DEVNULL, stderr=subprocess.DEVNULL, check=True)
+        times[name].append(time.monotonic() - begun)
         after = os.times()
-        spent.append(after.children_user + after.children_system - before.children_user - before.children_system)
-    return min(times), min(spent)
-
-
-def said(what, command, folder):
-    took, spent = timed(command, folder)
-    print(f"{what:28} {COUNT / took:8.0f} a second, {COUNT / spent:8.0f} a second of processor time", flush=True)
+        spent[name].append(after.children_user + after.children_system - before.children_user - before.children_system)
+    for name in commands:
+        print(f"{name:32} {COUNT / min(times[name]):8.0f} a second, {COUNT / min(spent[name]):8.0f} a second of processor time", flush=True)
 
 
 def least(call, count, rounds):
@@ -74,8 +71,7 @@ def by_cluster(folder, many):
     start = [sys.executable, "-m", "distributed.cli.dask_worker", address, "--nthreads", "1", "--no-nanny", "--no-dashboard"]
     running += [subprocess.Popen(start, **quiet) for _ in range(4)]
     time.sleep(3)
-    took, _ = timed([*many, "--scheduler", address], folder)
-    print(f"{'many, a cluster of 4 workers':28} {COUNT / took:8.0f} a second", flush=True)
+    timed({"many, a cluster of 4 workers": [*many, "--scheduler", address]}, folder)
     for it in running:
         it.kill()
         it.wait()
@@ -89,10 +85,12 @@ def main():
             Path(f"{at}/{number:06}.log").write_text(f"{ROOT}{MOVE * 296}end 296\n")
         work(folder)
         many = [sys.executable, "-m", "capcheck", "many", f"{folder}/logs"]
+        commands = {}
         for jobs in (1, 2, 4):
-            said(f"many, {jobs} job{'s' * (jobs > 1)}", [*many, "--jobs", str(jobs)], folder)
-            said("  with their results", [*many, "--jobs", str(jobs), "--results", "results.jsonl"], folder)
-        said("xargs -P4 capdiag run", ["sh", "-c", f"find logs -name '*.log' -print0 | xargs -0 -P4 {PREFIX}/bin/capdiag run"], folder)
+            commands[f"many, {jobs} job{'s' * (jobs > 1)}"] = [*many, "--jobs", str(jobs)]
+            commands[f"many, {jobs} job{'s' * (jobs > 1)}, with results"] = [*many, "--jobs", str(jobs), "--results", "results.jsonl"]
+        commands["xargs -P4 capdiag run"] = ["sh", "-c", f"find logs -name '*.log' -print0 | xargs -0 -P4 {PREFIX}/bin/capdiag run"]
+        timed(commands, folder)
         if importlib.util.find_spec("distributed"):
             by_cluster(folder, many)
 
