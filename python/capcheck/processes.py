@@ -13,24 +13,26 @@ from typing import Any, NoReturn
 
 def shared(batches: Iterator[list[str]], processes: int, call: Callable[[list[str]], Iterable[Any]]) -> Iterator[Any]:
     """What a call gives of batches of names, as it comes. Each batch goes to the process that is ready first. What passes is what marshal
-    writes. The names lie in a file of the memory, and a pipe, of which each process reads, tells where each batch is."""
+    writes. The names lie in a file, and a pipe, of which each process reads, tells where each batch is."""
     with ExitStack() as stack:
-        names, (todo, tells) = os.memfd_create("names"), os.pipe()
+        names, (todo, tells) = _file(), os.pipe()
         for it in (names, todo):
             stack.callback(os.close, it)
         told = stack.enter_context(open(tells, "wb", buffering=0))
         of = dict[int, int]()  # The process that writes to each pipe.
         stack.callback(_end, of)
         before = signal.pthread_sigmask(signal.SIG_BLOCK, [signal.SIGINT])  # An interrupt ends this process, which ends the others.
-        for _ in range(processes):
-            pipe, done = os.pipe()
-            if not (process := os.fork()):
-                for it in (tells, pipe, *of):
-                    os.close(it)
-                _work(names, todo, done, call)
-            of[pipe] = process
-            os.close(done)
-        signal.pthread_sigmask(signal.SIG_SETMASK, before)
+        try:
+            for _ in range(processes):
+                pipe, done = os.pipe()
+                if not (process := os.fork()):
+                    for it in (tells, pipe, *of):
+                        os.close(it)
+                    _work(names, todo, done, call)
+                of[pipe] = process
+                os.close(done)
+        finally:
+            signal.pthread_sigmask(signal.SIG_SETMASK, before)
         batch, at = next(batches, None), 0
         while of:
             ready, room, _ = select.select(list(of), [told] if batch else [], [])
@@ -48,6 +50,15 @@ def shared(batches: Iterator[list[str]], processes: int, call: Callable[[list[st
                 if status := os.waitpid(of.pop(pipe), 0)[1]:
                     # The system ended it, for lack of memory, or it has told of its exception.
                     raise MemoryError() if os.WIFSIGNALED(status) else RuntimeError("a process has failed")
+
+
+def _file() -> int:
+    """A file without a name."""
+    if hasattr(os, "memfd_create"):  # Not in a Python that was built for a system before glibc 2.27.
+        return os.memfd_create("names")
+    from tempfile import TemporaryFile
+    with TemporaryFile() as file:
+        return os.dup(file.fileno())
 
 
 def _work(names: int, todo: int, done: int, call: Callable[[list[str]], Iterable[Any]]) -> NoReturn:
