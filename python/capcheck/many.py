@@ -212,7 +212,7 @@ def _batch_blocks(names: Sequence[str], *words: Any) -> list[_Block]:
 
 
 def _batches(names: Iterable[str], jobs: int) -> Iterator[list[str]]:
-    """The files for so many jobs. The last batches are small beside what each job has had."""
+    """The files for so many jobs. The last batches are small, compared with what each job has had."""
     left, given = iter(names), 0
     while batch := list(islice(left, min(_BATCH, 1 + given // (4 * jobs)))):
         given += len(batch)
