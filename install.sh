@@ -50,7 +50,7 @@ RT_LIB=true sh judge/build.sh
 sh recorder/build.sh
 
 mkdir -p "$to/bin" "$to/lib/pkgconfig" "$to/include" "$to/share/man/man1" "$to/share/capcheck/capcheck/dialects"
-mkdir -p "$to/share/capcheck/rust/src" "$to/share/capcheck/examples/emulator" "$to/share/capcheck/examples/objects" "$to/share/capcheck/examples/allocator" "$to/share/capcheck/examples/revoker" "$to/share/capcheck/examples/traces"
+mkdir -p "$to/share/capcheck/rust/src" "$to/share/capcheck/examples/emulator" "$to/share/capcheck/examples/objects" "$to/share/capcheck/examples/allocator" "$to/share/capcheck/examples/revoker" "$to/share/capcheck/examples/threads" "$to/share/capcheck/examples/traces"
 cp "$program" "$to/bin/capcheck"
 cp "$diagnosis" "$to/bin/capdiag"
 cp "$library" "$to/lib/libcapcheck_c.a"
@@ -76,6 +76,7 @@ cp examples/emulator/first.c examples/emulator/emulator.c examples/emulator/faul
 cp examples/objects/objects.c examples/objects/overruns.c "$to/share/capcheck/examples/objects/"
 cp examples/allocator/*.c "$to/share/capcheck/examples/allocator/"
 cp examples/revoker/revoker.c "$to/share/capcheck/examples/revoker/"
+cp examples/threads/threads.c "$to/share/capcheck/examples/threads/"
 cp examples/traces/plain.* "$to/share/capcheck/examples/traces/"
 mkdir -p "$to/share/gdb/auto-load$prefix/lib"
 echo "import sys; sys.path.insert(0, '$prefix/share/capcheck'); import capcheck_gdb" > "$to/share/gdb/auto-load$prefix/lib/libcapcheck_c.so.1-gdb.py"

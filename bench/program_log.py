@@ -1,12 +1,14 @@
 #!/usr/bin/env python3
 """Writes the run log of a program with objects to standard output, to measure `capdiag run` with.
 
-    bench/program_log.py STEPS LIVE [--seed N] [--erased]
+    bench/program_log.py STEPS LIVE [--seed N] [--erased] [--harts N]
 
 LIVE objects of 16 to 512 bytes are live at a time. Some 45 per cent of the steps are loads and stores through objects'
 capabilities, 17 change an address, 12 spill and reload a capability, 8 derive, 8 move, 6 are calls and returns, and 4 hand out
-an object, drop what held it and free it. `--erased` leaves out the lines `object` and `free`. The verdict is yes."""
+an object, drop what held it and free it. `--erased` leaves out the lines `object` and `free`. With `--harts` each hart runs such
+a program, with LIVE objects of its own, and another hart goes on every 1,000 steps. The verdict is yes."""
 import argparse
+import itertools
 import random
 import sys
 
@@ -21,17 +23,18 @@ def capability(base, size, address):
 class Program:
     """What the registers, the stack and the memory of the program hold: capabilities as base, size, address, object."""
 
-    def __init__(self, seed, live, is_erased):
+    numbers = itertools.count(1)  # Of the objects of all programs.
+
+    def __init__(self, seed, live, is_erased, hart):
         self.random, self.live, self.is_erased = random.Random(seed), live, is_erased
-        self.lines = ["run 1", "mode strict", f"root c1 {WHOLE:016x}{0:016x}", f"root c2 {WHOLE:016x}{STACK:016x}",
-                      f"root scr0 {WHOLE:016x}{0x2000:016x}"]
-        self.steps = self.count = 0
+        self.stack = STACK + (hart << 16)
+        self.roots = [f"root c1 {WHOLE:016x}{0:016x}", f"root c2 {WHOLE:016x}{self.stack:016x}", f"root scr0 {WHOLE:016x}{0x2000:016x}"]
+        self.lines = []
         self.registers, self.slots, self.memory, self.objects = {}, {}, {}, []
-        self.next_base, self.here, self.link = 0x100000, 0x2000, None
+        self.next_base, self.here, self.link = 0x100000 + (hart << 32), 0x2000, None
 
     def put(self, line):
         self.lines.append(line)
-        self.steps += 1
 
     def hand_out(self):
         base, size = self.next_base, 16 * self.random.randint(1, 32)
@@ -40,17 +43,17 @@ class Program:
         self.put(f"setbounds c3 c3 {size:016x} = {capability(base, size, base)}")
         if not self.is_erased:
             self.put("object c3")
-        self.count += 1
-        self.registers[3] = (base, size, base, self.count)
+        number = next(self.numbers)
+        self.registers[3] = (base, size, base, number)
         self.write("move", self.random.randint(5, 29), 3, self.registers[3])
-        self.objects.append(self.count)
+        self.objects.append(number)
 
     def free(self):
         number = self.objects.pop(self.random.randrange(len(self.objects)))
         for register in [it for it, held in self.registers.items() if held[3] == number]:
             self.put(f"cleartag c{register} c{register} = 0 {capability(*self.registers.pop(register)[:3])[2:]}")
         for slot in [it for it, held in self.slots.items() if held[3] == number]:
-            self.put(f"drop @{STACK + slot:016x}")
+            self.put(f"drop @{self.stack + slot:016x}")
             del self.slots[slot]
         if not self.is_erased:
             self.put(f"free {number}")
@@ -108,6 +111,16 @@ class Program:
         else:
             self.free()
 
+    def turn(self, steps):
+        """The lines of so many steps more, at least."""
+        self.lines = []
+        while len(self.lines) < steps:
+            if len(self.objects) < min(self.live, 20) or not self.registers:
+                self.hand_out()
+            else:
+                self.step()
+        return self.lines
+
 
 def main():
     parser = argparse.ArgumentParser(usage=__doc__)
@@ -115,14 +128,20 @@ def main():
     parser.add_argument("live", type=int)
     parser.add_argument("--seed", type=int, default=7)
     parser.add_argument("--erased", action="store_true")
+    parser.add_argument("--harts", type=int, default=1)
     given = parser.parse_args()
-    program = Program(given.seed, given.live, given.erased)
-    while program.steps < given.steps:
-        if len(program.objects) < min(given.live, 20) or not program.registers:
-            program.hand_out()
-        else:
-            program.step()
-    sys.stdout.write("\n".join([*program.lines, f"end {program.steps}", ""]))
+    programs = [Program(given.seed + hart, given.live, given.erased, hart) for hart in range(given.harts)]
+    names = [f"hart {hart}" for hart in range(given.harts)] if given.harts > 1 else [None]
+    lines, steps = ["run 1", "mode strict"], 0
+    for name, program in zip(names, programs):
+        lines += [name] * (given.harts > 1) + program.roots
+    for name, program in itertools.cycle(zip(names, programs)):
+        made = program.turn(min(given.steps - steps, 1000 if given.harts > 1 else given.steps))
+        lines += [name] * (given.harts > 1) + made
+        steps += len(made)
+        if steps >= given.steps:
+            break
+    sys.stdout.write("\n".join([*lines, f"end {steps}", ""]))
 
 
 main()

@@ -90,17 +90,23 @@ def written_by(words):
 
 
 def context_of(count, log, report):
-    """The lines that --context adds to a report: those before the faulty line, and those that last wrote what it reads."""
+    """The lines that --context adds to a report: those before the faulty line, and those of its hart that last wrote what it reads."""
     verdict, number, *_ = report.split("\n")[0].split(" ")
     if verdict == "yes":
         return ""
     lines = [line.decode("latin-1") for line in log.split(b"\n")]
     at = int(number) - 1
     text = "".join(f"before {n + 1} {lines[n]}\n" for n in range(max(0, at - count), at))
+    harts, hart = [], "0"
+    for line in lines[:at]:
+        hart = line.split(" ")[1] if line.startswith("hart ") else hart
+        harts.append(hart)
     words = lines[at].split(" ") if at < len(lines) else [""]
     reads = words[2:4] if written_by(words) else words[1:4]
     for register in dict.fromkeys(word for word in reads if re.fullmatch("(c|scr)[0-9]{1,2}", word)):
         for n in reversed(range(at)):
+            if harts[n] != hart:
+                continue
             before = lines[n].split(" ")
             written = ["scr0", "c31"] if before[0] == "invoke" else [before[1]] if written_by(before) else []
             if register in written + (before[3:4] if before[0] == "exchange" else []):

@@ -27,8 +27,10 @@ class Drawn:
 
     def __init__(self, rng):
         self.rng, self.run, self.lines = rng, no_run(USUAL_ASKS), [("Version",), ("Mode", rng.choice(["Strict", "Clear"]))]
+        self.switching = rng.choice([0, 0, 0.05, 0.3])  # how often the next line is a hart line
         run_line_after(self.run, self.lines[1])
 
+    def hart(self): return ("Hart", self.rng.choice([0, 1, 2, 65535]) if self.rng.random() < 0.97 else self.rng.randrange(2**16))
     def register(self): return self.rng.choice([1, 2, 3, 4, 5, 6, 31]) if self.rng.random() < 0.97 else self.rng.randrange(32)
     def target(self): return max(1, self.register())
     def special(self): return self.rng.choice([0, 0, 1, 3, 31])
@@ -120,13 +122,13 @@ class Drawn:
         run_line_after(self.run, line)
 
     def draw(self, count):
-        """Draws roots and steps; refused ones stay out, but with a small chance one ends the log."""
-        for _ in range(self.rng.randrange(1, 6)):
-            line = ("Root", self.place(), self.word())
+        """Draws roots, hart lines and steps; refused ones stay out, but with a small chance one ends the log."""
+        for _ in range(self.rng.randrange(1, 12 if self.switching else 6)):
+            line = self.hart() if self.rng.random() < self.switching else ("Root", self.place(), self.word())
             if first_of(run_line_checks(self.run, line)) is None:
                 self.add(line)
         for _ in range(count):
-            line = self.usual() if self.rng.random() < 0.55 else self.own()
+            line = self.hart() if self.rng.random() < self.switching else self.usual() if self.rng.random() < 0.55 else self.own()
             refusal = first_of(run_line_checks(self.run, line))
             if refusal is None:
                 self.add(line)
@@ -141,7 +143,7 @@ def changed(rng, data):
     """The log with a line changed, cut, doubled, moved or left out, or as it is."""
     lines, pick = data.split(b"\n"), rng.random()
     at = rng.randrange(len(lines))
-    if pick < 0.5:
+    if pick < 0.5 or not data:
         return data
     if pick < 0.6:
         return data[: rng.randrange(len(data))]

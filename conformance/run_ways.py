@@ -28,7 +28,7 @@ def by_steps(log, freed, owned):
         try:
             for line in runs.read(log):
                 name = line.kind.name
-                passes = judge.feed(bytes(line)) if name.startswith(("ROOT", "RUN", "MODE", "VERSION", "END")) else judge.step(line)
+                passes = judge.feed(bytes(line)) if name.startswith(("ROOT", "RUN", "MODE", "VERSION", "HART", "END")) else judge.step(line)
                 at = line.at + len(bytes(line))
                 if not passes:
                     return judge.end()

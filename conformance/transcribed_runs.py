@@ -12,7 +12,7 @@ from transcribed import *  # noqa: F403
 
 first_special = 2**60 + 32  # the key of scr0
 unsealed_type, sentry_type = 0x3FFFF, 0x3FFFE
-most = 4294967295  # of roots, of steps, and of granules
+most = 4294967295  # of roots, of steps, of hart lines, and of granules
 RUN_REFUSALS = {number: refusal_names[number] for number in (28, *range(30, 42))}  # those that version 2 doesn't have
 
 
@@ -46,6 +46,8 @@ def run_line_words(form, *parts):
         return ["capcheck", str(parts[0])]
     if form == "Root":
         return ["root", run_place_spelling(parts[0]), hex_digits(32, parts[1])]
+    if form == "Hart":
+        return ["hart", str(parts[0])]
     return run_step_words(*parts[0]) if form == "Run" else line_words(form, *parts)
 
 
@@ -75,6 +77,8 @@ def IsRunLineInRange(form, *parts):
         return form == "Version" or IsVersion(parts[0])
     if form == "Root":
         return IsRunPlace(parts[0]) and IsWord(parts[1])
+    if form == "Hart":
+        return 0 <= parts[0] < 2**16
     return IsRunStepInRange(*parts[0]) if form == "Run" else IsInRange(form, *parts)
 
 
@@ -109,6 +113,8 @@ def run_line_from(data):
         head, *words = data.decode("ascii").split(" ")
         if head == "run":
             line = ("Version",)
+        elif head == "hart":
+            line = ("Hart", int(words[0]))
         elif head == "root":
             line = ("Root", place_from(words[0]), int(words[1], 16))
         elif head in ("derive", "exchange", "invoke", "drop", "fill", "object", "free"):
@@ -123,19 +129,24 @@ def run_line_from(data):
 # The run
 
 
+def away_key(hart, register): return first_special + 64 * (hart + 1) + register
+def near_key(register): return register if register < 32 else first_special + register - 32
+def key_in(run, hart, register): return near_key(register) if hart == run.hart else away_key(hart, register)
+
+
 def place_key(place): return {"General": 0, "Special": first_special, "Granule": 32}[place[0]] + place[1]
-def place_at_key(key): return ("General", key) if key < 32 else ("Special", key - first_special) if key >= first_special else ("Granule", key - 32)
 
 
 class Object(types.SimpleNamespace):
-    """An object: its extent from base to top, the step that handed it out, the step that freed it or None."""
+    """An object: its extent from base to top, the moment when it was handed out, that when it was freed or None."""
 
 
 class Run(types.SimpleNamespace):
     """What places hold, the number of the object that owns each, the present objects, and what the limits are measured by."""
 
 
-def no_run(asks): return Run(asks=asks, rules="TwoStrict", limits=types.SimpleNamespace(roots=most, granules=most), state=State(), owners={}, objects={}, count=0, roots=0, steps=0, named=set())
+def no_run(asks): return Run(asks=asks, rules="TwoStrict", limits=types.SimpleNamespace(roots=most, granules=most), state=State(), owners={}, objects={}, count=0, hart=0, harts={0}, hart_lines=0, roots=0, steps=0, named=set())
+def moment(run): return run.steps + run.hart_lines + 1
 def owned_by(run, number): return sum(owner == number for owner in run.owners.values())
 def is_empty(w): return top_of(w) <= base_of(w)
 def owner_for(cap, owner): return owner if cap.tag and not is_empty(cap.word) else None
@@ -180,7 +191,7 @@ def run_step(run, form, *parts):
     elif form == "Object":
         w = state[parts[0]].word
         run.count += 1
-        run.objects[run.count] = Object(base=base_of(w), top=top_of(w), step=run.steps + 1, freed=None)
+        run.objects[run.count] = Object(base=base_of(w), top=top_of(w), handed=moment(run), freed=None)
         own(run, parts[0], run.count)
     elif form == "Widen":
         w, it = state[parts[0]].word, run.objects[parts[1]]
@@ -188,7 +199,7 @@ def run_step(run, form, *parts):
         own(run, parts[0], parts[1])
     else:
         number = owners[parts[0]] if form == "FreeOwner" else parts[0]
-        run.objects[number].freed = run.steps + 1
+        run.objects[number].freed = moment(run)
     stepped(run)
 
 
@@ -202,6 +213,19 @@ def usual_step(run, step):
     if row.writes:
         put(run, key_of(row.writes[0]), row.writes[1], owner)
     stepped(run)
+
+
+def hart_line(run, hart):
+    """`hart_after`: what the registers of the current hart hold goes to keys of their own, and the next hart's comes from its own."""
+    if hart != run.hart:
+        for table in (run.state, run.owners):
+            for register in range(64):
+                near, away = near_key(register), away_key(run.hart, register)
+                for to, of in ((away, near), (near, away_key(hart, register))):
+                    if of in table:
+                        table[to] = table.pop(of)
+    run.hart, run.hart_lines = hart, run.hart_lines + 1
+    run.harts.add(hart)
 
 
 # Why lines are refused
@@ -308,6 +332,8 @@ def run_line_checks(run, line):
         return root_run_checks(run, *line[1:])
     if line[0] in ("Step", "Run"):
         return usual_checks(run, line[1]) if line[0] == "Step" else run_checks(run, *line[1])
+    if line[0] == "Hart":
+        return [(run.hart_lines >= most, "LimitPassed")]
     return [(line[1] != run.steps, "WrongCount")] if line[0] == "End" else [(True, "Misplaced")]
 
 
@@ -320,6 +346,8 @@ def run_line_after(run, line):
             run.named.add(place[1])
         run.state[place_key(place)] = tagged(word)
         run.roots += 1
+    elif line[0] == "Hart":
+        hart_line(run, line[1])
     elif line[0] == "Step":
         usual_step(run, line[1])
     elif line[0] == "Run":
@@ -355,15 +383,19 @@ def verdict_text(verdict):
     return f"no {verdict[1]} {refusal_number(verdict[2])} {verdict[2]}\n"
 
 
+def register_text(hart, register):
+    """A register of a hart, with the number of the hart before it unless that is 0."""
+    return (f"{hart}." if hart else "") + (f"c{register}" if register < 32 else f"scr{register - 32}")
+
+
 def owners_text(run):
     """The present objects, and the owned places, after a yes."""
     lines = []
     for number, it in sorted(run.objects.items()):
-        lines.append(f"object {number} {2 + run.roots + it.step} {it.base:016x} {it.top:017x} {'live' if it.freed is None else 'freed'} {owned_by(run, number)}\n")
-    order = {"General": 0, "Special": 1, "Granule": 2}
-    places = sorted((order[place_at_key(key)[0]], place_at_key(key)[1], owner) for key, owner in run.owners.items())
-    names = {value: key for key, value in order.items()}
-    return "".join(lines + [f"owner {run_place_spelling((names[kind], n))} {owner}\n" for kind, n, owner in places])
+        lines.append(f"object {number} {2 + run.roots + it.handed} {it.base:016x} {it.top:017x} {'live' if it.freed is None else 'freed'} {owned_by(run, number)}\n")
+    places = [(key_in(run, hart, register), register_text(hart, register)) for hart in sorted(run.harts) for register in range(1, 64)]
+    places += [(key, run_place_spelling(("Granule", key - 32))) for key in sorted(run.owners) if 32 <= key < first_special]
+    return "".join(lines + [f"owner {text} {run.owners[key]}\n" for key, text in places if key in run.owners])
 
 
 def asks_of(words): return types.SimpleNamespace(held="used" not in words, used="used" in words or "both" in words, owned="--owned" in words)

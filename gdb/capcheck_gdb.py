@@ -225,9 +225,10 @@ class Asked:
         with _alone():
             return _call(f"{self.prefix}_{name}", self.at, *numbers) % 2**32
 
-    def owner(self, place):
-        """The number of the object that owns a place, which is passed in two registers; 0 if none does."""
-        return self.number("owner", place.number, place.kind)
+    def owner(self, place, hart=None):
+        """The number of the object that owns a place, which is passed in two registers; 0 if none does. A register is the current
+        hart's, or a given hart's."""
+        return self.number("owner", place.number, place.kind) if hart is None else self.number("owner_in", hart, place.number, place.kind)
 
     def object(self, number, freed=False):
         """An object with its first holder; None if there is none, or if only freed ones are wanted and it is live."""
@@ -237,8 +238,10 @@ class Asked:
         with self._asking():  # A place comes in two registers, as a judge would: that type is there.
             called = "((capcheck_run_judge (*)(unsigned long, unsigned long))capcheck_run_judge_holder)"
             there = gdb.parse_and_eval(f"{called}({self.at}, {number})")
-        holder = _named(Place(int(there["at"]), int(there["held"])))
-        return f"{Object(number, line, base, high << 64 | low, state == _LIVE, held)} {holder or 'no place'}"
+        place = Place(int(there["at"]), int(there["held"]))
+        hart = self.number("holder_hart", number)
+        other = f"{hart}." if place.kind in (_REGISTER, _SPECIAL) and hart != self.number("hart") else ""
+        return f"{Object(number, line, base, high << 64 | low, state == _LIVE, held)} {other}{_named(place) or 'no place'}"
 
     def capability(self, name, number):
         """What a register, a special register or a granule holds."""
@@ -329,24 +332,26 @@ class Owner(gdb.Command):
     """Print the object that owns a place: capcheck-owner JUDGE PLACE
 
 JUDGE is a capcheck_run_judge of the program, or a pointer to one. PLACE is a register such as c3, a special register such as
-scr0, or @ and an address, of which 16 digits are hexadecimal. It prints the object as `capdiag run --owners` does, with the first place that holds it. After a
+scr0, each of the current hart, 2.c3 of hart 2, or @ and an address, of which 16 digits are hexadecimal. It prints the object as `capdiag run --owners` does, with the first place that holds it. After a
 faulty line, all is as before that line."""
 
     def __init__(self):
         super().__init__("capcheck-owner", gdb.COMMAND_DATA, gdb.COMPLETE_EXPRESSION)
 
     def invoke(self, text, from_tty):
-        asked = re.fullmatch(r"(.+?)\s+(?:(c|scr)([0-9]+)|@(.+))", text.strip())
+        asked = re.fullmatch(r"(.+?)\s+(?:(?:([0-9]+)\.)?(c|scr)([0-9]+)|@(.+))", text.strip())
         if not asked:
-            raise gdb.GdbError("capcheck-owner JUDGE c3 | scr0 | @ADDRESS")
+            raise gdb.GdbError("capcheck-owner JUDGE c3 | scr0 | 2.c3 | @ADDRESS")
         with _plain_errors():
-            judge = _run_judge(asked[1])
-            if asked[4]:
-                place = Place(_number(asked[4], True), _GRANULE)
+            judge, hart = _run_judge(asked[1]), asked[2] and int(asked[2])
+            if asked[5]:
+                place = Place(_number(asked[5], True), _GRANULE)
             else:
-                place = Place(int(asked[3]), _REGISTER if asked[2] == "c" else _SPECIAL)
-                _is_register(place.number, 1 if asked[2] == "c" else 0)
-            number = judge.owner(place)
+                place = Place(int(asked[4]), _REGISTER if asked[3] == "c" else _SPECIAL)
+                _is_register(place.number, 1 if asked[3] == "c" else 0)
+                if hart and hart > 65535:
+                    raise gdb.GdbError(f"there is no hart {hart}: they are 0 to 65535")
+            number = judge.owner(place, hart)
             print(judge.object(number) if number else "no object")
 
 

@@ -162,6 +162,7 @@ static inline const char *capcheck_kind_text(uint8_t number) {
     case 70: return "free";
     case 71: return "run";
     case 72: return "root";
+    case 73: return "hart";
     default: return "";
     }
 }
@@ -195,6 +196,7 @@ static inline const char *capcheck_kind_sentence_text(uint8_t number) {
     case 70: return "Frees an object.";
     case 71: return "The first line of a run log: its version.";
     case 72: return "A capability that a special register holds at the start.";
+    case 73: return "Names the hart whose registers the lines after it name.";
     default: return "";
     }
 }

@@ -36,6 +36,15 @@ extern "C" {
 /* Takes a line, which has its line feed. Returns whether it was written. `to` is what the caller of the recorder gave. */
 typedef bool (*capcheck_recorder_write)(void *to, const char *line, size_t length);
 
+/* What the model holds in the registers of a hart. All is private to the library; all bytes are 0 before its first use in a
+ * recording. */
+typedef struct capcheck_recorder_registers {
+    uint64_t integers[32];
+    capcheck_cap logged[64];
+    uint32_t unread;
+    uint8_t begun;
+} capcheck_recorder_registers;
+
 /* A recorder. Set `spare` after capcheck_recorder_start if the program leaves a register alone. The fields from `phase` on
  * are private to the library. */
 typedef struct capcheck_recorder {
@@ -45,10 +54,10 @@ typedef struct capcheck_recorder {
                         offsets of 12 bits; 0 for none */
     uint8_t state;   /* enum capcheck_state: CAPCHECK_GOES_ON, or as above */
     uint8_t phase;
-    uint32_t unread;
     uint64_t steps;
-    uint64_t integers[32];
-    capcheck_cap logged[64];
+    uint64_t hart;
+    capcheck_recorder_registers first;
+    capcheck_recorder_registers *others;
     capcheck_run_judge *judge;
     capcheck_recorder_write write;
     void *to;
@@ -87,6 +96,18 @@ bool capcheck_recorder_end(capcheck_recorder *r);
 /* After CAPCHECK_NO_MEMORY: passes the line again, and what follows it of the same call. */
 CAPCHECK_CHECKED
 bool capcheck_recorder_again(capcheck_recorder *r);
+
+/* ---- Harts ---- */
+
+/* Names the hart, 0 to 65,535, whose registers the calls from now on mean, roots too: at first hart 0. `registers` is memory for
+ * what the model holds in them, the same at each call for this hart, which the recorder uses until the end; for hart 0, whose
+ * registers it holds itself, it isn't looked at. A program's recorder takes a hart for each thread. */
+CAPCHECK_CHECKED
+bool capcheck_recorder_hart(capcheck_recorder *r, uint64_t hart, capcheck_recorder_registers *registers);
+
+/* The current hart's thread ended: a `drop` for each of its registers that holds a tag. Without it, what they hold stays held. */
+CAPCHECK_CHECKED
+bool capcheck_recorder_thread_ended(capcheck_recorder *r);
 
 /* ---- Registers ---- */
 

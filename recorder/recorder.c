@@ -94,9 +94,21 @@ static bool is_place(capcheck_recorder *r, capcheck_place place) {
 
 /* ---- Lines ---- */
 
+/* The registers of the current hart. */
+static capcheck_recorder_registers *registers(capcheck_recorder *r) { return r->others == NULL ? &r->first : r->others; }
+
 /* What the model holds in a register or a special register. */
 static capcheck_cap *logged(capcheck_recorder *r, capcheck_place place) {
-    return &r->logged[(place.number & 31) + (place.kind == CAPCHECK_SPECIAL ? 32 : 0)];
+    return &registers(r)->logged[(place.number & 31) + (place.kind == CAPCHECK_SPECIAL ? 32 : 0)];
+}
+
+/* NULL in each register of a hart that has none yet. */
+static void begin(capcheck_recorder_registers *it) {
+    const capcheck_cap null = CAPCHECK_NULL;
+    size_t index;
+    for (index = 0; it->begun == 0 && index < 64; index++)
+        it->logged[index] = null;
+    it->begun = 1;
 }
 
 /* Notes what a register or a special register holds after a line. c0 stays NULL. */
@@ -105,7 +117,7 @@ static void hold(capcheck_recorder *r, capcheck_place place, capcheck_cap value)
         return;
     *logged(r, place) = value;
     if (place.kind == CAPCHECK_REGISTER)
-        r->unread &= ~(UINT32_C(1) << (place.number & 31));
+        registers(r)->unread &= ~(UINT32_C(1) << (place.number & 31));
 }
 
 /* Queues a line that a call wrote; without one, a number of that call was out of range. */
@@ -120,9 +132,9 @@ static bool queue(capcheck_recorder *r, const char *line, size_t length) {
 static void tell_integer(capcheck_recorder *r, uint64_t number) {
     capcheck_cap integer = CAPCHECK_NULL;
     char line[CAPCHECK_LINE_SIZE];
-    if ((r->unread >> (number & 31) & 1) == 0)
+    if ((registers(r)->unread >> (number & 31) & 1) == 0)
         return;
-    integer.word.low = r->integers[number & 31];
+    integer.word.low = registers(r)->integers[number & 31];
     (void)queue(r, line, capcheck_line_derive(line, capcheck_c(number), capcheck_c(0), integer));
     hold(r, capcheck_c(number), integer);
     r->steps++;
@@ -236,6 +248,7 @@ bool capcheck_recorder_line(capcheck_recorder *r, const char *line, size_t lengt
     case CAPCHECK_KIND_ROOT:
     case CAPCHECK_KIND_ROOT_AT:
     case CAPCHECK_KIND_ROOT_SPECIAL:
+    case CAPCHECK_KIND_HART:
     case CAPCHECK_KIND_END:
         return stop(r, CAPCHECK_NO_LINE, "the line is no step");
     default:
@@ -262,12 +275,9 @@ bool capcheck_recorder_again(capcheck_recorder *r) {
 }
 
 bool capcheck_recorder_start(capcheck_recorder *r, capcheck_run_judge *judge, capcheck_recorder_write write, void *to, uint8_t clear) {
-    const capcheck_cap null = CAPCHECK_NULL;
     char line[CAPCHECK_LINE_SIZE];
-    size_t index;
     memset(r, 0, sizeof *r);
-    for (index = 0; index < 64; index++)
-        r->logged[index] = null;
+    begin(&r->first);
     r->judge = judge;
     r->write = write;
     r->to = to;
@@ -297,6 +307,35 @@ bool capcheck_recorder_end(capcheck_recorder *r) {
         return false;
     r->phase = ENDED;
     return pass(r);
+}
+
+/* ---- Harts ---- */
+
+bool capcheck_recorder_hart(capcheck_recorder *r, uint64_t hart, capcheck_recorder_registers *its) {
+    char line[CAPCHECK_LINE_SIZE];
+    if (!goes_on(r))
+        return false;
+    if (hart > 65535)
+        return stop(r, CAPCHECK_NO_LINE, "the hart is %llu: the harts are 0 to 65535", (unsigned long long)hart);
+    if (hart != 0 && its == NULL)
+        return stop(r, CAPCHECK_NO_LINE, "hart %llu has no memory for its registers", (unsigned long long)hart);
+    if (hart == r->hart)
+        return true;
+    r->hart = hart;
+    r->others = hart == 0 ? NULL : its;
+    begin(registers(r));
+    return queue(r, line, capcheck_line_hart(line, hart)) && pass(r);
+}
+
+bool capcheck_recorder_thread_ended(capcheck_recorder *r) {
+    uint64_t number;
+    if (!goes_on(r))
+        return false;
+    for (number = 0; number < 64; number++)
+        if (registers(r)->logged[number].tag != 0 &&
+            (!drop(r, number < 32 ? capcheck_c(number) : capcheck_scr(number - 32)) || !pass(r)))
+            return false;
+    return true;
 }
 
 /* ---- Registers ---- */
@@ -344,18 +383,19 @@ bool capcheck_recorder_dropped(capcheck_recorder *r, capcheck_place place) { ret
 
 bool capcheck_recorder_overwrote(capcheck_recorder *r, uint64_t target, uint64_t integer) {
     const capcheck_word null = capcheck_null();
-    const capcheck_cap *held = &r->logged[target & 31];
+    capcheck_recorder_registers *now = registers(r);
+    const capcheck_cap *held = &now->logged[target & 31];
     if (!is_register(r, "target", target, 0))
         return false;
     if (target == 0)
         return true;
     if (held->tag != 0 && !drop(r, capcheck_c(target)))
         return false;
-    r->integers[target] = integer;
+    now->integers[target] = integer;
     if (held->word.high == null.high && held->word.low == integer)
-        r->unread &= ~(UINT32_C(1) << target);
+        now->unread &= ~(UINT32_C(1) << target);
     else
-        r->unread |= UINT32_C(1) << target;
+        now->unread |= UINT32_C(1) << target;
     return pass(r);
 }
 

@@ -87,7 +87,7 @@ kept_code() {
 }
 
 # What the page calls of the judges of run logs and of allocators' logs, without capcheck_.
-calls="$(printf 'run_judge_%s ' open lines end end_report held owner object next_object holder) heap_judge_why"
+calls="$(printf 'run_judge_%s ' open lines end end_report held owner object next_object holder hart next_hart owner_in holder_hart) heap_judge_why"
 
 # module_with_heap CRATE NAME: web/out/NAME.wasm of a library for C that allocates.
 module_with_heap() {

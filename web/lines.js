@@ -19,7 +19,7 @@ const RUN_FORMS = {
     ...FORMS,
     ...worded({
         derive: "target source = tag word", exchange: "target source special = tag1 word1 tag2 word2",
-        invoke: "code data = word1 word2", drop: "place", fill: "place word", object: "source", free: "source",
+        invoke: "code data = word1 word2", drop: "place", fill: "place word", object: "source", free: "source", hart: "hart",
     }),
 };
 

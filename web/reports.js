@@ -53,7 +53,7 @@ function reportOf(text) {
             report.object = { number: Number(first), line: Number(at), base: BigInt(`0x${base}`), top: BigInt(`0x${top}`), isLive: state === "live", held: Number(held) };
         } else if (name === "freed" && report.object) report.object.freed = Number(first);
         else if (CAPABILITIES.includes(name) && rest.length === 0) report.values[name] = first;
-        else if (CAPABILITIES.includes(name) && /^(c|scr)\d|^@/.test(first)) report.caps[name] = { place: first, tag: rest[0], word: rest[1] };
+        else if (CAPABILITIES.includes(name) && /^(\d+\.)?(c|scr)\d|^@/.test(first)) report.caps[name] = { place: first, tag: rest[0], word: rest[1] };
         else if (CAPABILITIES.includes(name)) report.caps[name][first] = first === "bounds" ? rest.map((it) => BigInt(`0x${it}`)) : rest;
         else report.more.push([name, first ?? "", ...rest]);
     }

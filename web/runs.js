@@ -3,6 +3,7 @@
 // the machine holds before a line. It has no rule of the machine: what it says is the module's.
 
 const PLACE_KINDS = { c: 1, "@": 2, scr: 3 };
+const HARTS = 65536; // they are the numbers below it
 const LOOKED_UP = 10000; // objects of which it is asked where they lie
 const MOST_OBJECTS = 1000; // as many of them are told
 
@@ -111,6 +112,32 @@ class RunJudge {
         return this.call("owner", this.stepped, number, BigInt(kind)) >>> 0;
     }
 
+    /** The hart whose registers the next line names. */
+    hart() {
+        return this.call("hart", this.stepped) >>> 0;
+    }
+
+    /** The harts that were named so far, and hart 0. */
+    harts() {
+        const found = [];
+        for (let hart = 0; (hart = this.call("next_hart", this.stepped, hart) >>> 0) < HARTS; hart++) found.push(hart);
+        return found;
+    }
+
+    /** The registers of all harts that an object owns: another hart's have its number and a dot before them. */
+    registersOf(number) {
+        const names = ["c", "scr"].flatMap((kind) => [...Array(32).keys()].map((at) => `${kind}${at}`)).slice(1);
+        return this.harts().flatMap((hart) => names.filter((name) => {
+            const place = placeNamed(name);
+            return this.call("owner_in", this.stepped, hart, place.number, BigInt(place.kind)) >>> 0 === number;
+        }).map((name) => this.named(hart, name)));
+    }
+
+    /** A register as reports name it beside the current hart. */
+    named(hart, name) {
+        return hart === this.hart() ? name : `${hart}.${name}`;
+    }
+
     /** The objects that are live or held, from a number on, at most so many. */
     objectsFrom(first, most) {
         const found = [];
@@ -133,7 +160,8 @@ class RunJudge {
 
     /** The first place that an object owns: it costs a look at all places. */
     holder(number) {
-        return nameOf(this.asked("place", "holder", this.stepped, number));
+        const name = nameOf(this.asked("place", "holder", this.stepped, number));
+        return /^(c|scr)/.test(name) ? this.named(this.call("holder_hart", this.stepped, number) >>> 0, name) : name;
     }
 }
 
@@ -147,7 +175,13 @@ class RunLines extends Lines {
         this.judge.before(this.starts[line - 1] ?? this.judge.size);
     }
 
-    /** What the registers and the special registers hold before a line, but those that hold untagged NULL. */
+    /** The hart of a line, if more than hart 0 were named so far; nothing otherwise. */
+    hart(line) {
+        this.before(line);
+        return this.judge.harts().length > 1 ? this.judge.hart() : null;
+    }
+
+    /** What the registers and the special registers of its hart hold before a line, but those that hold untagged NULL. */
     registers(line) {
         this.before(line);
         const names = ["c", "scr"].flatMap((kind) => [...Array(32).keys()].map((number) => `${kind}${number}`)).slice(1);
@@ -197,9 +231,16 @@ class RunLines extends Lines {
         return { line, here, isAll: found.length === objects.length, objects };
     }
 
-    /** The next line that names a place. */
+    /** The next line that names a place: of a register, a line of the same hart. */
     nextUse(line, name) {
-        for (let k = line + 1; k <= this.count; k++) if (this.text(k).split(" ").includes(name)) return k;
+        this.before(line);
+        const own = this.judge.hart();
+        let hart = own;
+        for (let k = line; k <= this.count; k++) {
+            const words = this.text(k).split(" ");
+            if (words[0] === "hart") hart = Number(words[1]);
+            else if (k > line && words.includes(name) && (hart === own || name.startsWith("@"))) return k;
+        }
         return 0;
     }
 }

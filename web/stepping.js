@@ -41,8 +41,8 @@ function showStep() {
     const parts = judged.isHeap ? null : partsOf(at.texts[line - at.from] ?? "", RUN_FORMS);
     byId("before-says").textContent = registers === null
         ? `The judge stopped at line ${decimal(judged.line)}: nothing is known of the lines after it.`
-        : registers.length === 0 ? "No register was written so far."
-            : `What the step reads comes first. ${judged.isRun ? "An object's number is that of the owner."
+        : registers.length === 0 ? `No register ${whose(at)}was written so far.`
+            : `What the step reads comes first. ${judged.isRun ? `An object's number is that of the owner.${whose(at) && ` The registers are those ${whose(at).trim()}.`}`
                 : "Each register is as the line beside it made it; the judge found that line right."}`;
     byId("step-link").replaceChildren(...stepLink(parts, registers));
     const rows = (registers ?? []).map((it) => heldRow(it, parts));
@@ -58,6 +58,9 @@ function showStep() {
     const [left, right] = [mark.offsetLeft - 80, mark.offsetLeft + mark.offsetWidth + 16];
     code.scrollLeft = right > code.clientWidth ? Math.min(left, right - code.clientWidth) : 0;
 }
+
+/** Of which hart the registers are, if several were named. */
+const whose = ({ hart }) => (Number.isInteger(hart) ? `of hart ${hart} ` : "");
 
 function codeLine(line, text) {
     const fault = line === log.judged.line;

@@ -97,13 +97,12 @@ class Timeline {
         return { last, objects: this.objects, samples: this.samples, holders: this.holders() };
     }
 
-    /** The places that hold the object which the refused line meets: registers, special registers, and the first granule. */
+    /** The places that hold the object which the refused line meets: registers of all harts, and the first granule. */
     holders() {
         const { said } = this.lines;
         const number = said.state === 2 ? Number(said.text.match(/^object (\d+) /m)?.[1] ?? 0) : 0;
         if (!number) return [];
-        const registers = ["c", "scr"].flatMap((kind) => [...Array(32).keys()].map((at) => `${kind}${at}`)).slice(1);
-        const found = registers.filter((name) => this.judge.owner(name) === number);
+        const found = this.judge.registersOf(number);
         const first = this.judge.holder(number);
         return first && !found.includes(first) ? [...found, first] : found;
     }

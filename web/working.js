@@ -93,7 +93,8 @@ const ANSWERS = {
         const { lines, said } = held;
         const texts = [];
         for (let k = from; k <= Math.min(to, lines.count); k++) texts.push(lines.text(k));
-        return { line, from, texts, registers: said.line && line > said.line ? null : lines.registers(line) };
+        if (said.line && line > said.line) return { line, from, texts, registers: null };
+        return { line, from, texts, registers: lines.registers(line), hart: said.isRun ? lines.hart(line) : null };
     },
     granule: ({ line }) => (isPast(held, line) ? null : held.lines.granule(line)),
     evened: () => evened(held),

@@ -194,7 +194,7 @@ for compiler in "${CC:-cc} -std=c99" "${CXX:-c++} -std=c++11 -x c++"; do
     command -v "${compiler%% *}" > "$work/found" || continue
     quietly $compiler $strict -Wconversion -Wshadow examples/emulator/hooks.c -x none $recorder -o "$work/hooks"
     "$work/hooks" > "$work/log"
-    [ "$("$diagnosis" run "$work/log")" = 'yes 80 4 2' ] || { echo 'check.sh: the log of hooks gets another verdict' >&2; exit 1; }
+    [ "$("$diagnosis" run "$work/log")" = 'yes 86 5 2' ] || { echo 'check.sh: the log of hooks gets another verdict' >&2; exit 1; }
     quietly $compiler $strict -Wconversion -Wshadow examples/emulator/faults.c -x none $recorder -o "$work/faults"
     quietly "$work/faults"
     quietly $compiler $strict -Wconversion -Wshadow examples/emulator/run_memory.c -x none $recorder -o "$work/run_memory"

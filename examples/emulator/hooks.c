@@ -193,6 +193,30 @@ static void objects(capcheck_cap all) {
     WRITES(capcheck_recorder_freed(&recorder, 0, 2), "free");
 }
 
+static capcheck_recorder_registers two; /* of hart 2 */
+
+static void root_of_two(capcheck_cap all) {
+    memset(&two, 0, sizeof two);
+    WRITES(capcheck_recorder_hart(&recorder, 2, &two), "hart");
+    WRITES(capcheck_recorder_root(&recorder, capcheck_c(1), all.word), "root");
+    WRITES(capcheck_recorder_hart(&recorder, 0, NULL), "hart");
+}
+
+static void harts(capcheck_cap all) {
+    capcheck_cap seven = CAPCHECK_NULL;
+    seven.word.low = 7;
+    WRITES(capcheck_recorder_hart(&recorder, 2, &two), "hart");
+    WRITES(capcheck_recorder_hart(&recorder, 2, &two), "");
+    WRITES(wrote(2, 1, bounded(moved(all, 0x40000), 64)), "derive");
+    WRITES(capcheck_recorder_overwrote(&recorder, 3, 7), "");
+    WRITES(capcheck_recorder_hart(&recorder, 0, NULL), "hart");
+    WRITES(did(CAPCHECK_KIND_MOVE, 3, 1, 0, 0, all), "move");
+    WRITES(capcheck_recorder_hart(&recorder, 2, &two), "hart");
+    WRITES(did(CAPCHECK_KIND_MOVE, 4, 3, 0, 0, seven), "derive move");
+    WRITES(capcheck_recorder_thread_ended(&recorder), "drop drop");
+    WRITES(capcheck_recorder_thread_ended(&recorder), "");
+}
+
 static void begin(capcheck_run_judge *judge, capcheck_cap all) {
     filled = 0;
     WRITES(capcheck_recorder_start(&recorder, judge, keep, stdout, 0), "run mode");
@@ -204,12 +228,14 @@ static void begin(capcheck_run_judge *judge, capcheck_cap all) {
 
 static void program(capcheck_run_judge *judge, capcheck_cap all) {
     begin(judge, all);
+    root_of_two(all);
     steps(all);
     derivations(all);
     integers(all);
     calls(all);
     memory(all);
     objects(all);
+    harts(all);
     WRITES(capcheck_recorder_end(&recorder), "end");
 }
 
@@ -232,6 +258,8 @@ static void out_of_range(capcheck_cap all) {
     shows = false;
     begin(NULL, all);
     recorder.spare = 30;
+    FAILS(capcheck_recorder_hart(&recorder, 65536, &two), "the hart is 65536: the harts are 0 to 65535");
+    FAILS(capcheck_recorder_hart(&recorder, 2, NULL), "hart 2 has no memory for its registers");
     FAILS(did(CAPCHECK_KIND_MOVE, 40, 1, 0, 0, all), "the target is c40: the registers are c0 to c31");
     FAILS(did(CAPCHECK_KIND_MOVE, 0, 40, 0, 0, all), "the source is c40: the registers are c0 to c31");
     FAILS(did(CAPCHECK_KIND_SEAL, 2, 1, 32, 0, all), "the authority is c32: the registers are c0 to c31");

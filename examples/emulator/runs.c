@@ -82,20 +82,34 @@ static capcheck_place at(uint8_t kind, uint64_t number) {
     return made;
 }
 
-static void print_owner(const capcheck_run_judge *judge, uint8_t kind, uint64_t number) {
-    uint32_t owner = capcheck_run_judge_owner(judge, at(kind, number));
+static void print_owner(const capcheck_run_judge *judge, uint32_t hart, uint8_t kind, uint64_t number) {
+    uint32_t owner = capcheck_run_judge_owner_in(judge, hart, at(kind, number));
     unsigned long long shown = number;
+    EXPECT(hart != capcheck_run_judge_hart(judge) || capcheck_run_judge_owner(judge, at(kind, number)) == owner);
+    EXPECT(owner == 0 || capcheck_run_judge_held_in(judge, hart, at(kind, number)).cap.tag == 1);
     if (owner == 0)
         return;
+    printf("owner ");
+    if (kind != CAPCHECK_GRANULE && hart != 0)
+        printf("%u.", (unsigned)hart);
     if (kind == CAPCHECK_GRANULE)
-        printf("owner @%016llx %u\n", shown, (unsigned)owner);
+        printf("@%016llx %u\n", shown, (unsigned)owner);
     else
-        printf("owner %s%llu %u\n", kind == CAPCHECK_REGISTER ? "c" : "scr", shown, (unsigned)owner);
+        printf("%s%llu %u\n", kind == CAPCHECK_REGISTER ? "c" : "scr", shown, (unsigned)owner);
+}
+
+/* The owners of a hart's registers. */
+static void print_hart(const capcheck_run_judge *judge, uint32_t hart) {
+    uint64_t place;
+    for (place = 1; place < 32; place++)
+        print_owner(judge, hart, CAPCHECK_REGISTER, place);
+    for (place = 0; place < 32; place++)
+        print_owner(judge, hart, CAPCHECK_SPECIAL, place);
 }
 
 /* Prints what `capdiag run --owners` prints after the verdict. */
 static void print_owners(const capcheck_run_judge *judge, uint32_t objects) {
-    uint32_t number;
+    uint32_t number, hart;
     uint64_t place;
     for (number = 1; number <= objects; number++) {
         capcheck_object object = capcheck_run_judge_object(judge, number);
@@ -104,13 +118,11 @@ static void print_owners(const capcheck_run_judge *judge, uint32_t objects) {
                    (unsigned long long)object.base, (unsigned long long)object.top.high, (unsigned long long)object.top.low,
                    object.state == CAPCHECK_LIVE ? "live" : "freed", (unsigned long long)object.held);
     }
-    for (place = 1; place < 32; place++)
-        print_owner(judge, CAPCHECK_REGISTER, place);
-    for (place = 0; place < 32; place++)
-        print_owner(judge, CAPCHECK_SPECIAL, place);
+    for (hart = capcheck_run_judge_next_hart(judge, 0); hart < CAPCHECK_HARTS; hart = capcheck_run_judge_next_hart(judge, hart + 1))
+        print_hart(judge, hart);
     for (place = 0; place < 0x20000; place += 16)
-        print_owner(judge, CAPCHECK_GRANULE, place);
-    print_owner(judge, CAPCHECK_GRANULE, UINT64_MAX - 15);
+        print_owner(judge, 0, CAPCHECK_GRANULE, place);
+    print_owner(judge, 0, CAPCHECK_GRANULE, UINT64_MAX - 15);
 }
 
 /* Passes a log in one piece, and prints the owners at its end. */
@@ -342,6 +354,34 @@ static void holders(void) {
     capcheck_run_judge_close(&judge);
 }
 
+/* What the registers of each hart hold, and who owns it. */
+static void harts(void) {
+    capcheck_run_judge judge = CAPCHECK_NO_RUN_JUDGE_YET;
+    capcheck_place c1 = at(CAPCHECK_REGISTER, 1), c2 = at(CAPCHECK_REGISTER, 2), there = at(CAPCHECK_GRANULE, 16);
+    char lines[512];
+    EXPECT(capcheck_run_judge_hart(&judge) == 0 && capcheck_run_judge_next_hart(&judge, 0) == CAPCHECK_HARTS);
+    EXPECT(capcheck_run_judge_held_in(&judge, 0, c1).present == 0 && capcheck_run_judge_owner_in(&judge, 0, c1) == 0);
+    EXPECT(capcheck_run_judge_open(&judge, usual) == CAPCHECK_GOES_ON && capcheck_run_judge_next_hart(&judge, 0) == 0);
+    EXPECT(capcheck_run_judge_next_hart(&judge, 1) == CAPCHECK_HARTS);
+    narrowed(lines, sizeof lines);
+    EXPECT(pass(&judge, lines) == CAPCHECK_GOES_ON && pass(&judge, "sc c2 c1 16\nhart 65535\n") == CAPCHECK_GOES_ON);
+    EXPECT(capcheck_run_judge_hart(&judge) == 65535 && capcheck_run_judge_next_hart(&judge, 1) == 65535);
+    EXPECT(capcheck_run_judge_next_hart(&judge, CAPCHECK_HARTS) == CAPCHECK_HARTS);
+    EXPECT(capcheck_run_judge_held(&judge, c1).cap.tag == 0 && capcheck_run_judge_owner(&judge, c2) == 0);
+    EXPECT(capcheck_run_judge_held_in(&judge, 0, c1).cap.tag == 1 && capcheck_run_judge_owner_in(&judge, 0, c2) == 1);
+    EXPECT(capcheck_run_judge_held_in(&judge, 7, c1).present == 1 && capcheck_run_judge_held_in(&judge, 7, c1).cap.tag == 0);
+    EXPECT(capcheck_run_judge_owner(&judge, there) == 1 && capcheck_run_judge_owner_in(&judge, 7, there) == 1);
+    EXPECT(capcheck_run_judge_held_in(&judge, CAPCHECK_HARTS, c1).present == 0);
+    EXPECT(capcheck_run_judge_owner_in(&judge, CAPCHECK_HARTS, there) == 0 && capcheck_run_judge_object(&judge, 1).held == 2);
+    EXPECT(is_place(capcheck_run_judge_holder(&judge, 1), CAPCHECK_REGISTER, 2) && capcheck_run_judge_holder_hart(&judge, 1) == 0);
+    EXPECT(pass(&judge, "hart 0\ndrop c2\nhart 65535\n") == CAPCHECK_GOES_ON);
+    EXPECT(is_place(capcheck_run_judge_holder(&judge, 1), CAPCHECK_GRANULE, 16) && capcheck_run_judge_holder_hart(&judge, 1) == 0);
+    EXPECT(capcheck_run_judge_line(&judge, "root c1 " ALL "0000000000000000\n", 41) == CAPCHECK_NO);
+    EXPECT(capcheck_run_judge_hart(&judge) == 65535 && capcheck_run_judge_answer(&judge).refusal == CAPCHECK_MISPLACED);
+    capcheck_run_judge_close(&judge);
+    EXPECT(capcheck_run_judge_holder_hart(&judge, 1) == 0);
+}
+
 /* Passes a step whose kind has these registers and this number. All else has numbers that no line has. */
 static uint8_t step(capcheck_run_judge *judge, uint8_t kind, uint8_t target, uint8_t source, uint8_t authority, uint64_t number) {
     capcheck_run_line it;
@@ -481,15 +521,16 @@ static void asked(void) {
 /* One allocation fails and all later ones, each in turn, while lines are handed over at once: they are taken up to a line
  * that wants memory, and no fault is told. With memory again the others get the verdict. A closed judge holds no memory. */
 static void refused_in_turn(void) {
-    static const char rest[] = "sc c2 c1 16\nsetaddr c3 c1 0000000010000000 = 1 ffff1ffffc0180040000000010000000\n"
+    static const char rest[] = "sc c2 c1 16\nhart 3\nhart 0\nsetaddr c3 c1 0000000010000000 = 1 ffff1ffffc0180040000000010000000\n"
                                "store c3 0 1 12\nload c3 0 1 = 12\nload c3 0 1 = 13\n";
     char lines[600];
     long turn = 0;
-    bool is_refused = true, stops[3] = {false, false, false};
+    bool is_refused = true, stops[4] = {false, false, false, false};
     narrowed(lines, sizeof lines - sizeof rest);
     strcat(lines, rest);
     for (; is_refused && turn < 1000; turn++) {
         const char *const object = strstr(lines, "object"), *const stored = strstr(lines, "sc c2"), *const named = strstr(lines, "store");
+        const char *const hart = strstr(lines, "hart 3");
         capcheck_run_judge judge = CAPCHECK_NO_RUN_JUDGE_YET;
         capcheck_taken taken;
         capcheck_run_answer answer;
@@ -500,20 +541,21 @@ static void refused_in_turn(void) {
         until_refused = -1;
         if (taken.state == CAPCHECK_NO_MEMORY) {
             const char *stop = lines + taken.bytes;
-            EXPECT(is_refused && (stop == object || stop == stored || stop == named));
+            EXPECT(is_refused && (stop == object || stop == stored || stop == named || stop == hart));
             EXPECT(capcheck_run_judge_answer(&judge).state == CAPCHECK_GOES_ON);
             stops[0] = stops[0] || stop == object;
             stops[1] = stops[1] || stop == stored;
             stops[2] = stops[2] || stop == named;
+            stops[3] = stops[3] || stop == hart;
             taken = capcheck_run_judge_lines(&judge, stop, strlen(stop));
             EXPECT(stop + taken.bytes == strstr(lines, "load c3 0 1 = 13"));
         }
         answer = capcheck_run_judge_answer(&judge);
-        EXPECT(taken.state == CAPCHECK_NO && answer.line == 11 && answer.refusal == CAPCHECK_WRONG_RESULT);
+        EXPECT(taken.state == CAPCHECK_NO && answer.line == 13 && answer.refusal == CAPCHECK_WRONG_RESULT);
         capcheck_run_judge_close(&judge);
         EXPECT(blocks == 0 && bytes == 0);
     }
-    EXPECT(!is_refused && stops[0] && stops[1] && stops[2]);
+    EXPECT(!is_refused && stops[0] && stops[1] && stops[2] && stops[3]);
 }
 
 /* Thousands of objects, each gone before the next is handed out, want no more memory than a hundred. */
@@ -543,6 +585,7 @@ int main(int count, char **words) {
     no_places();
     objects();
     holders();
+    harts();
     out_of_range();
     expected();
     reports();

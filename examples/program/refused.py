@@ -89,9 +89,9 @@ def each_object(room):
 
 
 def run_log(objects):
-    """The lines of a run log that hands out objects of 64 bytes, each with a copy in a page of its own; each second one is freed,
+    """The lines of a run log of two harts that hands out objects of 64 bytes, each with a copy in a page of its own; each second one is freed,
     and its copies lose their tags."""
-    lines = ["run 1\n", "mode strict\n", f"root c1 {ROOT}\n"]
+    lines = ["run 1\n", "mode strict\n", f"root c1 {ROOT}\n", "hart 1\n", f"root c1 {ROOT}\n", "hart 0\n"]
     for number in range(1, objects + 1):
         address, there = 0x1000 + 0x100 * number, f"{0x100000 * number:016x}"
         word = f"{0xffff << 48 | 0x3ffff << 27 | (address + 64) % 2**12 << 14 | address % 2**14:016x}{address:016x}"
@@ -105,7 +105,7 @@ def run_log(objects):
 def each_run(room):
     """Each request of the judge of run logs is refused in turn: of an accepted log, of a rejected one, and of several files."""
     lines = run_log(9)
-    accepted, rejected = [*lines, f"end {len(lines) - 3}\n"], [*lines, "object c1\n", "object c3\n"]
+    accepted, rejected = [*lines, f"end {len(lines) - 6}\n"], [*lines, "object c1\n", "object c3\n"]
     for log, orders in (accepted, (["run"], ["run", "log"], ["run", "--owners"], ["run", "--freed", "both", "--owned"], ["why"], ["why", "log"])), \
                        (rejected, (["run"], ["run", "--why"], ["run", "--why", "--json"], ["run", "--why", "--context", "3"], ["why"],
                                    ["why", "--json", "--context", "3", "log"])):

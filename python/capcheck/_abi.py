@@ -126,10 +126,14 @@ class HeapWhy(c.Structure):
 RecorderWrite = c.PYFUNCTYPE(flag, pointer, pointer, size)
 
 
+class RecorderRegisters(c.Structure):
+    _fields_ = [("integers", u64 * 32), ("logged", Cap * 64), ("unread", u32), ("begun", u8)]
+
+
 class Recorder(c.Structure):
-    _fields_ = [("error", c.c_char * 192), ("lines", u64), ("spare", u64), ("state", u8), ("phase", u8), ("unread", u32), ("steps", u64),
-                ("integers", u64 * 32), ("logged", Cap * 64), ("judge", c.POINTER(RunJudge)), ("write", RecorderWrite), ("to", pointer),
-                ("waiting", size), ("queue", c.c_char * 96 * 7)]
+    _fields_ = [("error", c.c_char * 192), ("lines", u64), ("spare", u64), ("state", u8), ("phase", u8), ("steps", u64), ("hart", u64),
+                ("first", RecorderRegisters), ("others", c.POINTER(RecorderRegisters)), ("judge", c.POINTER(RunJudge)),
+                ("write", RecorderWrite), ("to", pointer), ("waiting", size), ("queue", c.c_char * 96 * 7)]
 
 
 class Slot(c.Structure):
@@ -166,7 +170,7 @@ LINES["root_at"] += (Wide,)
 # The same of the lines that only run logs have, in which capabilities, words and places come after the numbers or are all.
 _SPECIAL, _OBJECT = ("special", u64, 0, 32), ("object", u64, 0, 2**32)
 _RUN_NUMBERS: dict[str, tuple] = {
-    "run_version": (), "root_special": (_SPECIAL,), "derive": (), "exchange": (_TARGET, _SOURCE, _SPECIAL),
+    "run_version": (), "root_special": (_SPECIAL,), "hart": (("hart", u64, 0, 2**16),), "derive": (), "exchange": (_TARGET, _SOURCE, _SPECIAL),
     "invoke": (("code", u64, 0, 32), ("datum", u64, 0, 32)), "drop": (), "fill": (("address", u64, 0, 2**64),),
     "object": (("source", u64, 1, 32), _OBJECT), "free": (_SOURCE, _OBJECT),
 }
@@ -175,7 +179,7 @@ _REST = {"root_special": (Wide,), "derive": (Place, Place, Cap), "exchange": (Ca
          "fill": (Wide,)}
 RUN_LINES: dict[str, tuple] = {name: (*(kind for _, kind, _, _ in numbers), *_REST.get(name, ()))
                                for name, numbers in _RUN_NUMBERS.items()}
-RUN_STEPS = {name: types for name, types in RUN_LINES.items() if name not in ("run_version", "root_special")}
+RUN_STEPS = {name: types for name, types in RUN_LINES.items() if name not in ("run_version", "root_special", "hart")}
 STEPS = {name: types for name, types in LINES.items() if name not in ("version", "mode", "root", "root_at", "end")}
 # The result and the arguments of each call, by its name without `capcheck_`, `capcheck_line_` or `capcheck_judge_`.
 WORDS: dict[str, tuple] = {
@@ -209,6 +213,8 @@ RUN_JUDGE: dict[str, tuple] = {
     "open": (u8, _run_judge, Asks), "line": (u8, _run_judge, text, size), "lines": (Taken, _run_judge, pointer, size),
     "answer": (RunAnswer, _run_judge), "end": (RunAnswer, _run_judge), "held": (OptionalCap, _run_judge, Place),
     "owner": (u32, _run_judge, Place), "object": (Object, _run_judge, u32), "next_object": (u32, _run_judge, u32),
+    "hart": (u32, _run_judge), "next_hart": (u32, _run_judge, u32), "held_in": (OptionalCap, _run_judge, u32, Place),
+    "owner_in": (u32, _run_judge, u32, Place), "holder_hart": (u32, _run_judge, u32),
     "holder": (Place, _run_judge, u32), "expected": (Expected, _run_judge), "end_report": (u64, _run_judge, text, size),
     "close": (None, _run_judge),
 }
@@ -221,7 +227,8 @@ RECORDER: dict[str, tuple] = {
     "trapped": (flag, _recorder, Place, Cap, u64, Cap), "loaded_cap": (flag, _recorder, u64, Place, i64, Cap),
     "stored_cap": (flag, _recorder, u64, Place, i64), "loaded": (flag, _recorder, Place, i64, u64, u64),
     "stored": (flag, _recorder, Place, i64, u64, u64), "filled": (flag, _recorder, u64, text), "object": (flag, _recorder, u64, u64),
-    "freed": (flag, _recorder, u64, u64), "line": (flag, _recorder, text, size), "to_file": (flag, pointer, text, size),
+    "freed": (flag, _recorder, u64, u64), "hart": (flag, _recorder, u64, c.POINTER(RecorderRegisters)), "thread_ended": (flag, _recorder),
+    "line": (flag, _recorder, text, size), "to_file": (flag, pointer, text, size),
 }
 
 

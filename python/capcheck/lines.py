@@ -43,6 +43,7 @@ class Kind(IntEnum):
     FREE = 70
     RUN_VERSION = 71
     ROOT_SPECIAL = 72
+    HART = 73
 
     @property
     def word(self) -> str:

@@ -76,6 +76,7 @@ class Recorder:
         self._recorder = _abi.Recorder()
         self._pointer = ctypes.byref(self._recorder)
         self._judge, self._fault, self._stream = judge, None, None
+        self._registers: dict[int, _abi.RecorderRegisters] = {}  # Of each hart but 0.
         if judge is not None and judge._rest:
             raise ValueError("the last line that the judge was fed is incomplete")
         if isinstance(file, int):
@@ -163,6 +164,16 @@ class Recorder:
     def again(self) -> None:
         """After MemoryError: passes the line again, and what follows it of the same call."""
         self._done(_c.capcheck_recorder_again(self._pointer))
+
+    def hart(self, number: int) -> None:
+        """Names the hart, 0 to 65535, whose registers the calls from now on mean, roots too: at first hart 0. A program's recorder takes
+        a hart for each thread."""
+        registers = self._registers.setdefault(_number(number, "hart"), _abi.RecorderRegisters())
+        self._done(_c.capcheck_recorder_hart(self._pointer, number, registers))
+
+    def thread_ended(self) -> None:
+        """The current hart's thread ended: a `drop` for each of its registers that holds a tag. Without it, what they hold stays held."""
+        self._done(_c.capcheck_recorder_thread_ended(self._pointer))
 
     def did(self, kind: Kind, target: int, source: int, value: Capability, *, number: int = 0, other: int = 0) -> None:
         """An instruction did a step, Kind.MOVE to Kind.UNSEAL: `number` is its length, address or mask, as the instruction had

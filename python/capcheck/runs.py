@@ -1,5 +1,5 @@
 """Run logs: their lines, their judge, and the objects that own what places hold. Places are written as in a log: c3, scr0,
-@0000000000001000."""
+@0000000000001000. A judge is asked about another hart's register by the hart's number and a dot before it: 2.c3."""
 from __future__ import annotations
 
 import ctypes
@@ -18,6 +18,7 @@ from .words import Capability, Refusal, _address, _capability, _mask, _passed
 
 _NO_PLACE, _REGISTER, _GRANULE, _SPECIAL = 0, 1, 2, 3
 _LIVE, _FREED, _NO_SUCH_OBJECT = 1, 2, 0
+_HARTS = 2**16
 _PLACE = re.compile(r"(c|scr)([0-9]|[12][0-9]|3[01])|@([0-9a-f]{16})", re.A)
 _FREED_CHOICES = {"held": (1, 0), "used": (0, 1), "both": (1, 1)}
 
@@ -30,6 +31,16 @@ def _place(place: str) -> _abi.Place:
     if named[3]:
         return _abi.Place(int(named[3], 16), _GRANULE)
     return _abi.Place(int(named[2]), _REGISTER if named[1] == "c" else _SPECIAL)
+
+
+def _place_in(judge: Any, place: str) -> tuple[int, _abi.Place]:
+    """The hart and the place that a judge is asked about: without a hart's number, the current hart's."""
+    if not isinstance(place, str) or "." not in place:
+        return _c.capcheck_run_judge_hart(judge), _place(place)
+    number, rest = place.split(".", 1)
+    if not re.fullmatch("0|[1-9][0-9]{0,4}", number, re.A) or int(number) >= _HARTS or rest.startswith("@"):
+        raise ValueError(f"{place!r} isn't a register of a hart, such as 2.c3")
+    return int(number), _place(rest)
 
 
 def _name(place: _abi.Place) -> str | None:
@@ -62,6 +73,11 @@ def root(place: str, cap: Capability) -> bytes:
     named = _place(place)
     name = {_REGISTER: "root", _SPECIAL: "root_special", _GRANULE: "root_at"}[named.kind]
     return _write(name, named.number, _passed(cap, "cap").word)
+
+
+def hart(number: int) -> bytes:
+    """The registers of the lines after it are those of the hart with a number."""
+    return _write("hart", number)
 
 
 def derive(target: str, source: str, recorded: Capability) -> bytes:
@@ -99,7 +115,7 @@ def free(source: int, number: int = 0) -> bytes:
     return _write("free", source, number)
 
 
-_LINES = {Kind.RUN_VERSION: version, Kind.DERIVE: derive, Kind.EXCHANGE: exchange, Kind.INVOKE: invoke, Kind.DROP: drop,
+_LINES = {Kind.RUN_VERSION: version, Kind.HART: hart, Kind.DERIVE: derive, Kind.EXCHANGE: exchange, Kind.INVOKE: invoke, Kind.DROP: drop,
           Kind.FILL: fill, Kind.OBJECT: hand_out, Kind.FREE: free}
 _ROOTS = (Kind.ROOT, Kind.ROOT_AT, Kind.ROOT_SPECIAL)
 
@@ -129,6 +145,8 @@ def _operands(found: _abi.RunLine) -> tuple[Any, ...]:
         return line.number, cap
     if kind in (Kind.OBJECT, Kind.FREE):
         return line.source, line.number
+    if kind == Kind.HART:
+        return (line.number,)
     if kind == Kind.RUN_VERSION:
         return ()
     if kind == Kind.MODE:
@@ -287,7 +305,7 @@ class RunJudge(_Steps):
         return self._passes(taken.state)
 
     def step(self, line: RunLine) -> bool:
-        """Passes a step by its numbers: any line of a run log but the header, the roots and the end, which `feed` takes."""
+        """Passes a step by its numbers: any line of a run log but the header, roots, hart lines and the end, which `feed` takes."""
         if not isinstance(line, RunLine):
             raise TypeError(f"a step is a RunLine, and not {type(line).__name__}")
         name = line.kind.name.lower()
@@ -346,13 +364,25 @@ class RunJudge(_Steps):
         return _capability(_c.capcheck_run_judge_held(self._open, _abi.Place(_address(address), _GRANULE)).cap)
 
     def held(self, place: str) -> Capability:
-        """What a place holds, other than c0; after a faulty line, what it held before that line."""
-        found = _c.capcheck_run_judge_held(self._open, _place(place))
-        return _capability(found.cap)
+        """What a place holds, other than c0; after a faulty line, what it held before that line. A register is the current hart's, or
+        that of the hart before its dot, such as 2.c3."""
+        return _capability(_c.capcheck_run_judge_held_in(self._open, *_place_in(self._open, place)).cap)
+
+    @property
+    def hart(self) -> int:
+        """The current hart, whose registers the next line names: that of the last hart line, or 0."""
+        return _c.capcheck_run_judge_hart(self._open)
+
+    def harts(self) -> Iterator[int]:
+        """The harts that hart lines named, and hart 0, by their numbers."""
+        number = _c.capcheck_run_judge_next_hart(self._open, 0)
+        while number < _HARTS:
+            yield number
+            number = _c.capcheck_run_judge_next_hart(self._open, number + 1)
 
     def owner(self, place: str) -> int | None:
-        """The number of the object that owns a place; None if none does."""
-        return _c.capcheck_run_judge_owner(self._open, _place(place)) or None
+        """The number of the object that owns a place, as `held` names it; None if none does."""
+        return _c.capcheck_run_judge_owner_in(self._open, *_place_in(self._open, place)) or None
 
     def object(self, number: int) -> Object | None:
         """The object with a number; None if none was allocated, or if it was freed and no place holds it."""
@@ -371,10 +401,13 @@ class RunJudge(_Steps):
                 yield found
 
     def holder(self, number: int) -> str | None:
-        """The first place that an object owns: registers, special registers, granules by address; None if it owns none."""
+        """The first place that an object owns: by hart registers and special registers, then granules by address; None if it owns
+        none. Another hart's register has its number and a dot before it: 2.c3."""
         if not 0 <= index(number) < 2**32:
             raise ValueError(f"object {number} isn't from 0 to 2**32 - 1")
-        return _name(_c.capcheck_run_judge_holder(self._open, number))
+        place, own = _c.capcheck_run_judge_holder(self._open, number), self.hart
+        hart = own if place.kind == _GRANULE else _c.capcheck_run_judge_holder_hart(self._open, number)
+        return (name := _name(place)) and (name if hart == own else f"{hart}.{name}")
 
 
 def judge_bytes(log: Any, freed: str = "held", owned: bool = False) -> RunVerdict:

@@ -76,12 +76,19 @@ def _needed_of_run(header: list[bytes], before: list[bytes], faulty: bytes, diag
     names, and what these depend on."""
     writers: dict[str, int] = {}
     reads: list[set[int]] = []
-    addresses: dict[str, int] = {}
+    addresses: dict[int, dict[str, int]] = {}  # by hart
+    hart, hart_line = 0, set[int]()
+
+    def of_hart(place: str) -> str:
+        return place if place[0] == "@" or "." in place else f"{hart}.{place}"
+
     with suppress(ValueError):
         for number, line in enumerate(runs.read(b"".join([*before, faulty]))):
-            sources, targets = _places(line, addresses)
-            reads.append({writers[place] for place in sources if place in writers})
-            writers |= dict.fromkeys(targets, number)
+            sources, targets = _places(line, addresses.setdefault(hart, {}))
+            reads.append({writers[place] for place in map(of_hart, sources) if place in writers} | hart_line)
+            writers |= dict.fromkeys(map(of_hart, targets), number)
+            if line.kind == Kind.HART:
+                hart, hart_line = line.operands[0], {number}
     if len(reads) <= len(before):  # The faulty line is none that can be read.
         return []
     found, left = set[int](), [len(before)]
@@ -89,8 +96,8 @@ def _needed_of_run(header: list[bytes], before: list[bytes], faulty: bytes, diag
         name, *words = row.split()
         if name in ("object", "freed"):
             left.append(int(words[name == "object"]) - len(header) - 1)
-        elif name == "holder" and words[0] in writers:
-            left.append(writers[words[0]])
+        elif name == "holder" and of_hart(words[0]) in writers:
+            left.append(writers[of_hart(words[0])])
     left, found = [it for it in left if it <= len(before)], set(left[1:])
     while left:
         left += (new := reads[left.pop()] - found)

@@ -272,11 +272,11 @@ class RunLogs(unittest.TestCase):
                 self.assertEqual(str(judge.end()), verdict, path)
                 if owners and judge.end():
                     told = [str(it) for it in judge.objects()]
-                    places = [f"c{it}" for it in range(1, 32)] + [f"scr{it}" for it in range(32)]
-                    told += [f"owner {it} {judge.owner(it)}" for it in places if judge.owner(it)]
+                    places = [f"{hart}." + it for hart in judge.harts() for it in [*(f"c{it}" for it in range(1, 32)), *(f"scr{it}" for it in range(32))]]
+                    told += [f"owner {it.removeprefix('0.')} {judge.owner(it)}" for it in places if judge.owner(it)]
                     self.assertEqual(told, [it for it in owned_places if " @" not in it], path)
                     for it in owned_places:
-                        if it.startswith("owner "):
+                        if it.startswith("owner @"):
                             self.assertEqual(str(judge.owner(it.split()[1])), it.split()[2], path)
 
     def test_lines(self):
@@ -286,7 +286,7 @@ class RunLogs(unittest.TestCase):
                 read = list(runs.read(log))
                 self.assertEqual(b"".join(map(bytes, read)), log)
                 for line in read:
-                    header = line.kind in (Kind.RUN_VERSION, Kind.MODE, Kind.ROOT, Kind.ROOT_AT, Kind.ROOT_SPECIAL, Kind.END)
+                    header = line.kind in (Kind.RUN_VERSION, Kind.MODE, Kind.ROOT, Kind.ROOT_AT, Kind.ROOT_SPECIAL, Kind.HART, Kind.END)
                     self.assertTrue(judge.feed(bytes(line)) if header else judge.step(line), (path, line))
                 self.assertEqual(str(judge.end()), verdict, path)
         self.assertRaises(ValueError, list, runs.read(b"run 2\n"))
@@ -337,6 +337,26 @@ class RunLogs(unittest.TestCase):
         for wrong in (lambda: runs.fill(8, root), lambda: runs.derive("c0", "c1", root), lambda: runs.drop("c0"), lambda: runs.free(1, 1),
                       lambda: runs.hand_out(0), lambda: runs.exchange(0, 1, 0, root, root), lambda: RunJudge("never")):
             self.assertRaises(ValueError, wrong)
+
+    def test_harts(self):
+        root, part = Capability.root(), Capability.root(0x1000, 64)
+        with RunJudge() as judge:
+            log = runs.version() + lines.mode("strict") + runs.root("c1", root) + runs.hart(9) + runs.root("c2", part)
+            self.assertTrue(judge.feed(log + runs.hand_out(2)))
+            self.assertEqual((judge.hart, list(judge.harts()), judge.register(1), judge.holder(1)), (9, [0, 9], NULL, "c2"))
+            self.assertEqual((judge.held("0.c1"), judge.held("c2"), judge.owner("9.c2"), judge.owner("0.c2")), (root, part, 1, None))
+            self.assertTrue(judge.feed(runs.hart(0)))
+            self.assertEqual((judge.hart, judge.held("c1"), judge.holder(1), judge.owner("c2")), (0, root, "9.c2", None))
+            self.assertEqual((judge.held("8.c1"), judge.owner("@0000000000000000")), (NULL, None))
+            self.assertFalse(judge.feed(runs.hand_out(2)))
+            for place in ("65536.c1", "09.c1", ".c1", "1.@0000000000000000", "1.c32", "1.2.c3"):
+                self.assertRaisesRegex(ValueError, "isn't a ", judge.held, place)
+            self.assertRaisesRegex(ValueError, "hart isn't a step", judge.step, capcheck.RunLine(Kind.HART, (1,)))
+        self.assertRaisesRegex(ValueError, "hart: hart 65536 isn't from 0 to 65535", runs.hart, 65536)
+        # The shortest log names the hart whose register is refused, or holds.
+        log = (TOP / "conformance/runs/hart-held-by-another-hart-s-register.log").read_bytes()
+        short = capcheck.shorten(log).splitlines()
+        self.assertEqual([it for it in short if it.startswith(b"hart ")], [b"hart 2", b"hart 0", b"hart 2", b"hart 0"])
 
     def test_calls_of_a_judge(self):
         root, part = Capability.root(), Capability.root(0x1000, 64)

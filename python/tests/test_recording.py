@@ -124,6 +124,34 @@ class RecorderTest(unittest.TestCase):
         it.end()
         self.assertEqual(str(runs.judge_bytes(file.getvalue())), "yes 6 4 0")
 
+    def test_harts(self):
+        file = io.BytesIO()
+        with RunJudge() as judge:
+            it = begun(file, judge)
+            words_of(file)
+            for call, wanted in (
+                (lambda: it.hart(7), "hart"),
+                (lambda: it.root("c1", ROOT), "root"),
+                (lambda: it.hart(7), ""),
+                (lambda: it.wrote(2, 1, OBJECT), "derive"),
+                (lambda: it.overwrote(3, 5), ""),
+                (lambda: it.hart(0), "hart"),
+                (lambda: it.overwrote(1, 6), "drop"),
+                (lambda: it.hart(7), "hart"),
+                (lambda: it.line(lines.move(4, 3, NULL.set_address(5))), "derive move"),
+                (lambda: it.object(2), "object"),
+                (lambda: it.thread_ended(), "drop drop"),
+                (lambda: it.thread_ended(), ""),
+                (lambda: it.freed(0, 1), "free"),
+                (lambda: it.end(), "end"),
+            ):
+                call()
+                self.assertEqual(words_of(file), wanted)
+            self.assertEqual((str(judge.end()), list(judge.objects())), ("yes 8 5 1", []))
+        for number in (-1, 2**64):
+            self.assertRaises(ValueError, begun(io.BytesIO()).hart, number)
+        self.assertRaisesRegex(ValueError, "the hart is 65536: the harts are 0 to 65535", begun(io.BytesIO()).hart, 65536)
+
     def test_refused(self):
         file = io.BytesIO()
         with RunJudge() as judge:

@@ -285,6 +285,7 @@ extern "C" {
     pub fn capcheck_line_end(buffer: *mut u8, steps: u64) -> usize;
     pub fn capcheck_line_run_version(buffer: *mut u8) -> usize;
     pub fn capcheck_line_root_special(buffer: *mut u8, special: u64, word: Word) -> usize;
+    pub fn capcheck_line_hart(buffer: *mut u8, hart: u64) -> usize;
     pub fn capcheck_line_derive(buffer: *mut u8, target: Place, source: Place, recorded: Cap) -> usize;
     pub fn capcheck_line_exchange(buffer: *mut u8, target: u64, source: u64, special: u64, cap: Cap, other: Cap) -> usize;
     pub fn capcheck_line_invoke(buffer: *mut u8, code: u64, datum: u64, code_word: Word, datum_word: Word) -> usize;
@@ -318,7 +319,12 @@ extern "C" {
     pub fn capcheck_run_judge_owner(judge: *const RunJudge, place: Place) -> u32;
     pub fn capcheck_run_judge_object(judge: *const RunJudge, number: u32) -> Object;
     pub fn capcheck_run_judge_next_object(judge: *const RunJudge, from: u32) -> u32;
+    pub fn capcheck_run_judge_hart(judge: *const RunJudge) -> u32;
+    pub fn capcheck_run_judge_next_hart(judge: *const RunJudge, from: u32) -> u32;
+    pub fn capcheck_run_judge_held_in(judge: *const RunJudge, hart: u32, place: Place) -> OptionalCap;
+    pub fn capcheck_run_judge_owner_in(judge: *const RunJudge, hart: u32, place: Place) -> u32;
     pub fn capcheck_run_judge_holder(judge: *const RunJudge, number: u32) -> Place;
+    pub fn capcheck_run_judge_holder_hart(judge: *const RunJudge, number: u32) -> u32;
     pub fn capcheck_run_judge_expected(judge: *const RunJudge) -> Expected;
     pub fn capcheck_run_judge_end_report(judge: *const RunJudge, text: *mut u8, room: usize) -> u64;
     pub fn capcheck_run_judge_close(judge: *mut RunJudge);

@@ -8,6 +8,9 @@ use std::cell::UnsafeCell;
 use std::ffi::c_void;
 use std::{fmt, ptr};
 
+/// The harts of a log are 0 to 65,535.
+const HARTS: u32 = 65536;
+
 /// A place that a run's machine has. It is displayed as a log writes it.
 #[derive(Clone, Copy, Debug, PartialEq, Eq, Hash)]
 pub enum RunPlace {
@@ -64,6 +67,8 @@ pub enum RunLine {
         /// The root.
         word: u128,
     },
+    /// The registers of the lines after it are those of the hart with this number, 0 to 65,535.
+    Hart(u64),
     /// A register, special or not, gets what is derived from another one.
     Derive {
         /// The register that is written.
@@ -136,6 +141,7 @@ impl RunLine {
                 RunLine::Usual(line) => line.write_to(to),
                 RunLine::Version => abi::capcheck_line_run_version(to),
                 RunLine::RootSpecial { special, word } => abi::capcheck_line_root_special(to, special, to_word(word)),
+                RunLine::Hart(hart) => abi::capcheck_line_hart(to, hart),
                 RunLine::Derive { target, source, recorded } => {
                     abi::capcheck_line_derive(to, target.into(), source.into(), recorded.into())
                 }
@@ -174,7 +180,7 @@ impl RunLine {
             RunLine::Fill { address, word } => alone(recording(68, 0, 0, address, Capability::new(word, false))),
             RunLine::Object { source, object } => alone(recording(69, 0, source, object, null)),
             RunLine::Free { source, object } => alone(recording(70, 0, source, object, null)),
-            RunLine::Version | RunLine::RootSpecial { .. } => return None,
+            RunLine::Version | RunLine::RootSpecial { .. } | RunLine::Hart(_) => return None,
         })
     }
 
@@ -197,6 +203,7 @@ impl RunLine {
             70 => RunLine::Free { source, object: it.number },
             71 => RunLine::Version,
             72 => RunLine::RootSpecial { special: target, word: recorded.word() },
+            73 => RunLine::Hart(it.number),
             _ => RunLine::Usual(Line::of(it)?),
         };
         Some((line, it.length))
@@ -372,8 +379,35 @@ impl RunJudge {
         Expected::of(unsafe { abi::capcheck_run_judge_expected(self.judge.get()) })
     }
 
-    /// What the model holds in a place; after a faulty line, what it held before that line. None if there is no such
-    /// place.
+    /// The current hart, whose registers the next line names: that of the last hart line, or 0.
+    pub fn hart(&self) -> u32 {
+        unsafe { abi::capcheck_run_judge_hart(self.judge.get()) }
+    }
+
+    /// The harts that hart lines named, and hart 0, by their numbers.
+    pub fn harts(&self) -> impl Iterator<Item = u32> + '_ {
+        let mut from = 0;
+        std::iter::from_fn(move || {
+            let hart = unsafe { abi::capcheck_run_judge_next_hart(self.judge.get(), from) };
+            from = hart + 1;
+            (hart < HARTS).then_some(hart)
+        })
+    }
+
+    /// What [`RunJudge::held`] is, where a register is that of a hart.
+    pub fn held_in(&self, hart: u32, place: RunPlace) -> Option<Capability> {
+        let found = unsafe { abi::capcheck_run_judge_held_in(self.judge.get(), hart, place.into()) };
+        (found.present != 0).then(|| found.cap.into())
+    }
+
+    /// What [`RunJudge::owner`] is, where a register is that of a hart.
+    pub fn owner_in(&self, hart: u32, place: RunPlace) -> Option<u32> {
+        let number = unsafe { abi::capcheck_run_judge_owner_in(self.judge.get(), hart, place.into()) };
+        (number != 0).then_some(number)
+    }
+
+    /// What the model holds in a place, a register of the current hart; after a faulty line, what it held before that line. None
+    /// if there is no such place.
     pub fn held(&self, place: RunPlace) -> Option<Capability> {
         let found = unsafe { abi::capcheck_run_judge_held(self.judge.get(), place.into()) };
         (found.present != 0).then(|| found.cap.into())
@@ -403,9 +437,15 @@ impl RunJudge {
         })
     }
 
-    /// The first place that an object owns: c1 to c31, then the special registers, then granules by address.
+    /// The first place that an object owns: by hart c1 to c31 and the special registers, then granules by address.
+    /// [`RunJudge::holder_hart`] is that register's hart.
     pub fn holder(&self, number: u32) -> Option<RunPlace> {
         place_of(unsafe { abi::capcheck_run_judge_holder(self.judge.get(), number) })
+    }
+
+    /// Of which hart the register is that [`RunJudge::holder`] names; 0 for a granule, and for none.
+    pub fn holder_hart(&self, number: u32) -> u32 {
+        unsafe { abi::capcheck_run_judge_holder_hart(self.judge.get(), number) }
     }
 
     /// What `capdiag run --why` prints of the lines so far as a whole log: the verdict, and after a `no` the diagnosis; after a

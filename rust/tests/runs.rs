@@ -28,11 +28,18 @@ fn judges(log: &[u8], asks: Asks) -> [RunJudge; 3] {
     all
 }
 
-/// The objects that a judge has, and the registers that have an owner.
+/// The objects that a judge has, and the registers of each hart that have an owner.
 fn owners(judge: &RunJudge) -> Vec<String> {
-    let registers = (1..32).map(RunPlace::Register).chain((0..32).map(RunPlace::Special));
-    let owned = registers.filter_map(|it| judge.owner(it).map(|owner| format!("owner {it} {owner}")));
-    judge.objects().map(|it| it.to_string()).chain(owned).collect()
+    let mut told: Vec<String> = judge.objects().map(|it| it.to_string()).collect();
+    for hart in judge.harts() {
+        let before = if hart == 0 { String::new() } else { format!("{hart}.") };
+        for place in (1..32).map(RunPlace::Register).chain((0..32).map(RunPlace::Special)) {
+            let owner = judge.owner_in(hart, place);
+            assert!(hart != judge.hart() || owner == judge.owner(place));
+            told.extend(owner.map(|owner| format!("owner {before}{place} {owner}")));
+        }
+    }
+    told
 }
 
 #[test]
@@ -85,6 +92,27 @@ fn an_object_is_told_until_no_place_holds_it() -> Result<(), Box<dyn std::error:
     assert!(judge.diagnosis().starts_with("no 10 36 StillHeld\n"));
     assert_eq!(judge.pass(RunLine::Drop(RunPlace::Granule(8))), Err(Fault::NoLine));
     assert!(RunLine::Free { source: 1, object: 1 }.write().is_err());
+    Ok(())
+}
+
+#[test]
+fn each_hart_has_registers_of_its_own() -> Result<(), Box<dyn std::error::Error>> {
+    let root = Capability::root(0, 1 << 64, permissions::ALL_PERMISSIONS).unwrap();
+    let (one, two) = (RunPlace::Register(1), RunPlace::Register(2));
+    let mut judge = RunJudge::new(Asks::default())?;
+    judge.pass(RunLine::Version)?;
+    judge.pass(Line::Mode { clear: false })?;
+    judge.pass(Line::Root { target: 1, word: root.word() })?;
+    judge.pass(RunLine::Hart(9))?;
+    judge.pass(Line::Root { target: 2, word: root.word() })?;
+    judge.pass(RunLine::Object { source: 2, object: 0 })?;
+    assert_eq!((judge.hart(), judge.harts().collect::<Vec<_>>()), (9, vec![0, 9]));
+    assert_eq!((judge.held(one), judge.held_in(0, one), judge.held_in(65536, one)), (Some(Capability::NULL), Some(root), None));
+    assert_eq!((judge.holder(1), judge.holder_hart(1), judge.owner_in(9, two), judge.owner_in(0, two)), (Some(two), 9, Some(1), None));
+    judge.pass(RunLine::Hart(0))?;
+    assert_eq!((judge.hart(), judge.owner(two), judge.holder_hart(1)), (0, None, 9));
+    assert_eq!(judge.pass(RunLine::Hart(65536)), Err(Fault::NoLine));
+    assert_eq!(RunLine::read(b"hart 65535\n"), Some((RunLine::Hart(65535), 11)));
     Ok(())
 }
 

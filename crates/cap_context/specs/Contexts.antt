@@ -2,7 +2,7 @@
 use Rattle.std.specs.Prelude.{ℕ, ◌+◌, ◌-◌, ◌*◌, ◌^◌, min, ◌&&◌, ◌||◌, ◌==◌, nat_le, nat_lt, if◌then◌else◌}
 use Rattle.std.specs.Prelude.{List, [], ◌∷◌, ◌++◌, codes, decimal, drop, flat_map, fold, bytes_eq, Option, None, Some}
 use Rattle.cap_json.specs.Words.{begins, lines_of, upto}
-use Rattle.cap_context.specs.Registers.{first_read, is_register, word_at, writes}
+use Rattle.cap_context.specs.Registers.{HartRegister, first_hart, first_read, hart_after, is_register, word_at, writes_of}
 
 -- a line with its number
 abbrev pub Entry : Type 0
@@ -30,12 +30,24 @@ text_step line text entry = if entry.0 == line then entry.1 else text
 abbrev pub text_at : ℕ → List ℕ → List Entry → List ℕ
 text_at line found entries = fold (text_step line) found entries
 
--- the last line before a line that writes a register, after one that has been found
-abbrev pub last_step : List ℕ → ℕ → Option Entry → Entry → Option Entry
-last_step register line last entry = if nat_lt entry.0 line && writes register entry.1 then Some entry else last
+-- the hart of a line, by the lines before it, after the hart before these
+abbrev pub hart_step : ℕ → List ℕ → Entry → List ℕ
+hart_step line hart entry = if nat_lt entry.0 line then hart_after hart entry.1 else hart
 
-abbrev pub last_writer : List ℕ → ℕ → Option Entry → List Entry → Option Entry
-last_writer register line found entries = fold (last_step register line) found entries
+abbrev pub hart_at : ℕ → List ℕ → List Entry → List ℕ
+hart_at line hart entries = fold (hart_step line) hart entries
+
+-- the hart after some lines, and the last of them that writes a register of a hart
+abbrev pub Last : Type 0
+Last = List ℕ × Option Entry
+
+-- the last line before a line that writes a register of a hart, after one that has been found
+abbrev pub last_step : HartRegister → ℕ → Last → Entry → Last
+last_step register line last entry =
+    (hart_after last.0 entry.1, if nat_lt entry.0 line && writes_of register last.0 entry.1 then Some entry else last.1)
+
+abbrev pub last_writer : HartRegister → ℕ → Last → List Entry → Last
+last_writer register line last entries = fold (last_step register line) last entries
 
 -- the line of a report for the line that last wrote a register
 abbrev pub wrote_line : List ℕ → Option Entry → List ℕ
@@ -43,9 +55,11 @@ wrote_line register None = []
 wrote_line register (Some entry) =
     codes "wrote " ++ register ++ codes " " ++ decimal entry.0 ++ codes " " ++ entry.1 ++ codes "\n"
 
--- that line for an operand of a line, if it is a register
+-- that line for an operand of a line, if it is a register: one of the line's own hart
 abbrev pub wrote_text : List ℕ → ℕ → List Entry → List ℕ
-wrote_text word line entries = if is_register word then wrote_line word (last_writer word line None entries) else []
+wrote_text word line entries =
+    let hart = hart_at line first_hart entries in
+    if is_register word then wrote_line word (last_writer (word, hart) line (first_hart, None) entries).1 else []
 
 -- those lines for the registers that a line reads, in the order of its operands, each once
 abbrev pub wrote_lines : ℕ → List Entry → List ℕ

@@ -30,6 +30,22 @@ writes register line =
     then bytes_eq register (word_at 1 line) || (bytes_eq kind (codes "exchange") && bytes_eq register (word_at 3 line))
     else false
 
+-- the hart of the lines before any hart line
+abbrev pub first_hart : List ℕ
+first_hart = codes "0"
+
+-- the hart after a line: the one that a hart line names, or else the hart before it
+abbrev pub hart_after : List ℕ → List ℕ → List ℕ
+hart_after hart line = if bytes_eq (word_at 0 line) (codes "hart") then word_at 1 line else hart
+
+-- a register, and the hart whose it is
+abbrev pub HartRegister : Type 0
+HartRegister = List ℕ × List ℕ
+
+-- a line of a hart writes a register of a hart
+abbrev pub writes_of : HartRegister → List ℕ → List ℕ → Bool
+writes_of register hart line = writes register.0 line && bytes_eq register.1 hart
+
 -- the first operand of a line, if the line doesn't write it
 abbrev pub first_read : List ℕ → List ℕ
 first_read line = if writes_first line then [] else word_at 1 line

@@ -3,38 +3,16 @@
 ghost use Rattle.std.specs.Prelude.{◌≡◌, ◌⊎◌, ◌++◌, ◌+◌, ◌<◌, ◌^◌, [], List, ℕ, codes, decimal, if◌then◌else◌, length, nat_lt, ◌&&◌};
 ghost use Rattle.std.specs.Prelude.{IsTrue, OnOk, Some, option_map, true};
 ghost use Rattle.cap_json.specs.Words.{lines_of};
-ghost use Rattle.cap_context.specs.Contexts.{before_lines, before_text, context_of, last_writer, number_of, numbered};
+ghost use Rattle.cap_context.specs.Contexts.{before_lines, before_text, context_of, hart_at, hart_step, last_writer, numbered};
 ghost use Rattle.cap_context.specs.Contexts.{refused_line, text_at};
-ghost use Rattle.cap_context.specs.{Keepings.IsKept, Readings.entry_of, Registers.writes, Writers.slots_of};
-ghost use Rattle.cap_context.specs.{Contexts.{with_digit, wrote_line}, KeptContexts.{kept_wrote, kept_wrote_lines}};
+ghost use Rattle.cap_context.specs.{Keepings.{IsKept, hart_kept}, Readings.entry_of, Registers.writes_of, Writers.written};
+ghost use Rattle.cap_context.specs.{Contexts.wrote_line, KeptContexts.{kept_wrote, kept_wrote_lines}};
 
-use crate::keepings::Kept;
-use crate::registers::{first_read, is_register, word_at, writes};
-use crate::writers::found;
+use crate::keepings::{Kept, hart_kept};
+use crate::registers::{first_read, hart_after, is_register, number_of, word_at, writes_of};
+use crate::writers::written;
 use cap_json::{begins, cut};
 use std::alloc::AllocError;
-
-// A number with one digit more.
-fn with_digit(number: u64, digit: u8) -> u64
-    ensures value { result ≡ with_digit number digit }
-{
-    number
-        .saturating_mul(10)
-        .saturating_add(u64::from(digit.saturating_sub(b'0')))
-}
-
-// The number that digits spell.
-fn number_of(digits: &[u8]) -> u64
-    ensures value { result ≡ number_of digits.now }
-{
-    let mut number = 0u64;
-    let mut rest = digits;
-    while let Some((digit, more)) = rest.split_first() {
-        number = with_digit(number, *digit);
-        rest = more;
-    }
-    number
-}
 
 // Appends a number and a line after a name.
 fn push_entry(report: &mut Vec<u8>, name: &[u8], number: u64, text: &[u8]) -> Result<(), AllocError>
@@ -112,11 +90,46 @@ fn text_at(line: u64, from: u64, bytes: &[u8]) -> &[u8]
     found
 }
 
-// Whether a line is before another and writes a register.
-fn writes_before(register: &[u8], line: u64, at: u64, text: &[u8]) -> bool
-    ensures value { result ≡ (nat_lt at line && writes register.now text.now) }
+// The hart after a line if it is before another, or else the hart before it.
+fn hart_step<'a>(line: u64, hart: &'a [u8], at: u64, text: &'a [u8]) -> &'a [u8]
+    ensures value { result.now ≡ hart_step line hart.now (at, text.now) }
 {
-    at < line && writes(register, text)
+    if at < line {
+        hart_after(hart, text)
+    } else {
+        hart
+    }
+}
+
+// The hart of a line, after the hart before the lines from a number on.
+fn hart_at<'a>(line: u64, before: &'a [u8], from: u64, bytes: &'a [u8]) -> &'a [u8]
+    requires { from + length bytes.now < 2 ^ 64 }
+    ensures value { result.now ≡ hart_at line before.now (numbered from (lines_of bytes.now)) }
+{
+    let mut hart = before;
+    let mut at = from;
+    let mut rest = bytes;
+    while !rest.is_empty() {
+        let (text, more) = cut(b'\n', rest);
+        hart = hart_step(line, hart, at, text);
+        at += 1;
+        rest = more;
+    }
+    hart
+}
+
+// Whether a line of a hart is before another and writes a register of a hart.
+fn writes_before(
+    register: &[u8],
+    whose: &[u8],
+    line: u64,
+    hart: &[u8],
+    at: u64,
+    text: &[u8],
+) -> bool
+    ensures value { result ≡ (nat_lt at line && writes_of (register.now, whose.now) hart.now text.now) }
+{
+    at < line && writes_of(register, whose, hart, text)
 }
 
 // An entry if it is one, or else the last before it.
@@ -130,24 +143,30 @@ fn last_if<'a>(
     if is_one { Some(entry) } else { last }
 }
 
-// The last line before a line that writes a register, after one that has been found, of those from a number on.
+// The last line before a line that writes a register of a hart, after one that has been found and the hart before the lines
+// from a number on.
 fn last_writer<'a>(
     register: &[u8],
+    whose: &[u8],
     line: u64,
+    before: &'a [u8],
     found: Option<(u64, &'a [u8])>,
     from: u64,
     bytes: &'a [u8],
 ) -> Option<(u64, &'a [u8])>
     requires { from + length bytes.now < 2 ^ 64 }
-    ensures value { option_map entry_of result ≡ last_writer register.now line (option_map entry_of found.entry) (numbered from (lines_of bytes.now)) }
+    ensures value { option_map entry_of result
+        ≡ (last_writer (register.now, whose.now) line (before.now, option_map entry_of found.entry) (numbered from (lines_of bytes.now))).1 }
 {
     let mut last = found;
+    let mut hart = before;
     let mut at = from;
     let mut rest = bytes;
     while !rest.is_empty() {
         let (text, more) = cut(b'\n', rest);
-        let is_one = writes_before(register, line, at, text);
+        let is_one = writes_before(register, whose, line, hart, at, text);
         last = last_if(is_one, (at, text), last);
+        hart = hart_after(hart, text);
         at += 1;
         rest = more;
     }
@@ -181,13 +200,16 @@ fn push_wrote(
 ) -> Result<(), AllocError>
     requires { from + length kept.now.bytes.items < 2 ^ 64 }
     ensures ok { OnOk result (report.new.items ≡ report.old.items
-        ++ (if is_shown then [] else kept_wrote word.now line (slots_of kept.now.writers.items) (numbered from (lines_of kept.now.bytes.items)))) }
+        ++ (if is_shown then [] else kept_wrote word.now line (hart_kept kept.now.hart) (written kept.now.writers) (numbered from (lines_of kept.now.bytes.items)))) }
 {
     if is_shown || !is_register(word) {
         return Ok(());
     }
-    let dropped = found(word, kept.writers.as_slice());
-    let last = last_writer(word, line, dropped, from, kept.bytes.as_slice());
+    let before = hart_kept(&kept.hart);
+    let bytes = kept.bytes.as_slice();
+    let hart = hart_at(line, before, from, bytes);
+    let dropped = written(word, hart, &kept.writers);
+    let last = last_writer(word, hart, line, before, dropped, from, bytes);
     push_wrote_line(report, word, last)
 }
 
@@ -195,7 +217,7 @@ fn push_wrote(
 fn push_writers(report: &mut Vec<u8>, line: u64, from: u64, kept: &Kept) -> Result<(), AllocError>
     requires { from + length kept.now.bytes.items < 2 ^ 64 }
     ensures ok { OnOk result (report.new.items ≡ report.old.items
-        ++ kept_wrote_lines line (slots_of kept.now.writers.items) (numbered from (lines_of kept.now.bytes.items))) }
+        ++ kept_wrote_lines line (hart_kept kept.now.hart) (written kept.now.writers) (numbered from (lines_of kept.now.bytes.items))) }
 {
     let text = text_at(line, from, kept.bytes.as_slice());
     let first = first_read(text);

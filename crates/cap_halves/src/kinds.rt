@@ -83,3 +83,6 @@ pub const RUN_VERSION: u8 = 71;
 
 /// A root in a special register.
 pub const ROOT_SPECIAL: u8 = 72;
+
+/// A hart line.
+pub const HART: u8 = 73;

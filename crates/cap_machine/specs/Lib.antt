@@ -12,3 +12,5 @@ pub mod Origins
 pub mod Shown
 pub mod Labels
 pub mod Ends
+pub mod RegisterCaps
+pub mod Registers

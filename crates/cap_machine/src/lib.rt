@@ -17,6 +17,7 @@ mod laws;
 mod limits;
 mod machine;
 mod recorded;
+mod registers;
 mod rules;
 mod shown;
 
@@ -32,6 +33,7 @@ pub use crate::laws::{
 pub use crate::limits::Limits;
 pub use crate::machine::{MOST_STEPS, Machine};
 pub use crate::recorded::{Derived, Glanced, glance};
+pub use crate::registers::Registers;
 pub use crate::rules::{MOST_ROOTS, Rules};
 pub use crate::shown::{Given, Reached, Request, Shown};
 pub use cap_ops::Refusal;

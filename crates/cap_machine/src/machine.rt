@@ -16,12 +16,14 @@ ghost use Rattle.cap_machine.specs.Changes.{address_in, is_past_limits, number_a
 ghost use Rattle.cap_machine.specs.{Escapes.{ClearsBeyond, Escapes}, Helds.{AnswersStep, EndsRoot, EndsStep, IsFull, IsKept}};
 ghost use Rattle.cap_machine.specs.Helds.{TakesRoot, account_of, code_in, state_of};
 ghost use Rattle.cap_machine.specs.{Parents.{IsSoundCap, StaysWithinParents}, Places.{IsCoded, place_at}};
+ghost use Rattle.cap_machine.specs.{RegisterCaps.{cap_by, label_by}, Registers.{cap_in, caps_of, label_in, labels_of}};
 ghost use Rattle.cap_machine.specs.{Shown.{IsShown, shown_of}, States.{granule_key, key_of, untagged_null, value_at}};
 ghost use Rattle.cap_machine.specs.{Labels.{filled, labelled, placed_with, with_label, with_labelled_root}, Steps.{address_through, row_of, written_by}};
 
 use crate::ends::StepEnd;
 use crate::instructions::{make, show, written_by};
 use crate::limits::Limits;
+use crate::registers::Registers;
 use crate::rules::Rules;
 use crate::shown::{Reached, Shown};
 use cap_bounds::sound;
@@ -414,6 +416,25 @@ impl<M: TaggedStore> Machine<M> {
         self.put_counted(granule, cap, label)
     }
 
+    /// Keeps what the registers hold, with its labels, apart from the machine.
+    pub fn save_registers(&self, into: &mut Registers)
+        ensures caps { cap_in into.new ≡ cap_by self.now.registers }
+        ensures labels { label_in into.new ≡ label_by self.now.codes }
+    {
+        self.kept();
+        into.set(&self.registers, &self.codes);
+    }
+
+    /// The registers hold what others do, with its labels, of which c0 is NULL without a tag. All else is as before.
+    pub fn load_registers(&mut self, from: &Registers)
+        requires { cap_in from.now 0 ≡ untagged_null }
+        ensures held { self.new ≡ record self.old { registers = caps_of from.now; codes = labels_of from.now } }
+    {
+        self.kept();
+        self.registers = from.caps;
+        self.codes = from.labels;
+    }
+
     /// Counts a step that changes nothing here.
     #[inline(always)]
     pub fn count_step(&mut self)
@@ -636,7 +657,7 @@ impl<M: TaggedStore> Machine<M> {
 
 // Writes a capability over another, field by field: a copy of the whole would move the bytes between the fields too.
 #[inline(always)]
-fn overwrite(place: &mut Cap, cap: Cap)
+pub(crate) fn overwrite(place: &mut Cap, cap: Cap)
     ensures { place.new ≡ cap }
 {
     place.tag = cap.tag;

@@ -63,8 +63,10 @@ pub counts_where : (owners : Owners) (counts : ℕ → ℕ) (key number : ℕ) �
 counts_where owners counts key number are low is =
     subst (λ (n : ℕ). 0 < n) (sym (are number)) (below-where (λ k. is_owner number (owners k)) key most_places low (is_owner-self number (owners key) is))
 
-pub counts_few : (owners : Owners) (counts : ℕ → ℕ) (number : ℕ) → CountsAre owners counts → counts number ≤ 2 ^ 60 + 64
-counts_few owners counts number are = subst (λ (n : ℕ). n ≤ 2 ^ 60 + 64) (sym (are number)) (below-le (λ k. is_owner number (owners k)) most_places)
+pub counts_few : (owners : Owners) (counts : ℕ → ℕ) (number : ℕ) → CountsAre owners counts → counts number ≤ 2 ^ 61
+counts_few owners counts number are =
+    let few = below-le (λ k. is_owner number (owners k)) most_places in
+    subst (λ (n : ℕ). n ≤ 2 ^ 61) (sym (are number)) (omega (arith, few))
 
 -- nothing is owned
 pub below-none : (holds : ℕ → Bool) (n : ℕ) → ((key : ℕ) → holds key ≡ false) → count_below holds n ≡ 0

@@ -3,7 +3,7 @@ use Rattle.std.proofs.Common.{◌≡◌, ◌≢◌, ◌<◌, ◌≤◌, ◌+◌,
 use Rattle.std.proofs.Common.{option_and_then, if◌then◌else◌, refl, sym, ap, subst, ◌∙◌, arith, Result, Ok, Err, OnOk, OnErr, is_err}
 use Rattle.std.proofs.lemmas.{Bool.{cases_Bool, cases_lt, cond-true, cond-false, false≢true, Decides.eqb_tells, and_parts}, Option.{none-some, same_Some}}
 use Rattle.std.proofs.Math.Path.{fun_ext}
-use Rattle.cap_objects.specs.{declared.objects.Object.Object, Extents.{MeetsNone, Objects, Sets, is_compared}}
+use Rattle.cap_objects.specs.{declared.{moments.Moment.Moment, objects.Object.Object}, Extents.{MeetsNone, Objects, Sets, is_compared}}
 use Rattle.cap_objects.specs.{Handed.{AreKept, freed_in, with_held}, Indexes.{Drops, Rekeys, base_key, number_key}}
 use Rattle.cap_objects.proofs.{IndexLemmas.{index-put, rekey-same}}
 
@@ -226,7 +226,7 @@ module _ (keeps : Bool) (count : ℕ) (objects : Objects) (numbers bases : ℕ �
         (subst (λ (was : Option ℕ). Rekeys bases slot was None bases_after) (sym was_base) bases_dropped)
 
     -- it was freed
-    pub kept-marked : (step : ℕ) (bases_after : ℕ → Option ℕ) → x.freed ≡ false → Sets objects slot (Some (freed_in step x)) after
+    pub kept-marked : (step : Moment) (bases_after : ℕ → Option ℕ) → x.freed ≡ false → Sets objects slot (Some (freed_in step x)) after
         → Drops bases (if x.long && not keeps then Some x.base else None) bases_after → AreKept keeps count after numbers bases_after
     kept-marked step bases_after live set dropped =
         let o = freed_in step x in

@@ -1,5 +1,9 @@
 pub mod BelowLemmas
 pub mod KeyLemmas
+mod BlockLemmas
+mod CountLemmas
+mod EditLemmas
+mod EntryLemmas
 mod FreeLemmas
 mod IndexLemmas
 mod KeptLemmas

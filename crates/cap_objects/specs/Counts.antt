@@ -27,9 +27,10 @@ unfoldable pub count_below : (ℕ → Bool) → ℕ → ℕ
 count_below holds zero = 0
 count_below holds (suc key) = count_below holds key + (if holds key then 1 else 0)
 
--- the keys of places are below this number
+-- the keys of places are below this number: those of 2^60 granules and of 64 registers of each of 65,537 harts, one of them
+-- the current one
 abbrev pub most_places : ℕ
-most_places = 2 ^ 60 + 64
+most_places = 2 ^ 60 + 2 ^ 22 + 96
 
 -- how many places an object owns
 abbrev pub owned_by : Owners → ℕ → ℕ

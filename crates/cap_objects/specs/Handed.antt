@@ -4,21 +4,22 @@ use Rattle.std.specs.Prelude.{List, codes}
 use Rattle.cap_objects.specs.declared.{objects.Object.Object, handouts.HandOutFault.{HandOutFault, TheVariants.{Overlaps, StillHeld, NoMemory}}}
 use Rattle.cap_objects.specs.declared.handouts.NumberFault.{NumberFault, TheVariants.{NoObject, AlreadyFreed}}
 use Rattle.cap_objects.specs.Extents.{AreLong, IsFirstMet, MeetsNone, Objects, Sets, is_compared, is_present}
-use Rattle.cap_objects.specs.{Indexes.{IsIndex, base_key, kept, number_key}, Objects.{Share, top_of_extent}}
+use Rattle.cap_objects.specs.declared.moments.Moment.{Moment}
+use Rattle.cap_objects.specs.{Indexes.{IsIndex, base_key, kept, number_key}, Moments.never, Objects.{Share, top_of_extent}}
 
 -- the last address below a top
 abbrev pub last_below : ℕ → ℕ → ℕ
 last_below base top = if nat_lt base top then top - 1 else base
 
 -- a new object, which no place holds
-abbrev pub handed_out : ℕ → ℕ → ℕ → ℕ → Object
-handed_out number_is step base_is top = record {
+abbrev pub handed_out : ℕ → Moment → ℕ → ℕ → Object
+handed_out number_is moment base_is top = record {
   base = base_is;
   last = last_below base_is top;
   held = 0;
   number = number_is;
-  handed_at = step;
-  freed_at = 0;
+  handed_at = moment;
+  freed_at = never;
   long = nat_lt base_is top;
   freed = false;
 }
@@ -30,9 +31,9 @@ widened object base_is top =
     let high = max (top_of_extent object) top in
     if nat_lt low high then record object { base = low; last = high - 1; long = true } else object
 
--- an object that was freed in a step
-abbrev pub freed_in : ℕ → Object → Object
-freed_in step object = record object { freed = true; freed_at = step }
+-- an object that was freed at a moment
+abbrev pub freed_in : Moment → Object → Object
+freed_in moment object = record object { freed = true; freed_at = moment }
 
 -- an object that so many places hold
 abbrev pub with_held : Object → ℕ → Object

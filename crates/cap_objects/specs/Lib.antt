@@ -1,8 +1,11 @@
+pub mod Blocks
 pub mod Counts
 pub mod Extents
 pub mod FreeSlots
 pub mod Handed
 pub mod HandoutsIn
+pub mod IndexIn
 pub mod Indexes
+pub mod Moments
 pub mod Objects
 pub mod SlotsIn

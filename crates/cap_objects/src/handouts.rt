@@ -2,24 +2,28 @@
 
 ghost use Rattle.std.specs.Prelude.{◌≡◌, ◌≢◌, ◌<◌, ◌≤◌, ◌+◌, ◌-◌, ◌^◌, ◌&&◌, not, ℕ, Bool, Option, Some, None, true, false, min, max, IsSome, IsSomeAnd, OnOk};
 ghost use Rattle.std.specs.Prelude.{OnErr, IfOk, IfErr, IfSome, IfNone, MatchOption};
-ghost use Rattle.std.specs.Ordering.{nat_cmp};
-ghost use Rattle.std.specs.BTreeMap as tree;
 ghost use Rattle.cap_objects.specs.{Extents.{IsFirstMet, MeetsNone, Sets, is_compared}, FreeSlots.UsesSlots};
 ghost use Rattle.cap_objects.specs.Handed.{AddsObject, AreKept, ArePresent, HasNoLive, HasRoom, IsLive, IsNextNumber, RefusesExtent};
 ghost use Rattle.cap_objects.specs.Handed.{freed_in, hand_out_fault_text, handed_out, widened, with_held};
-ghost use Rattle.cap_objects.specs.{Counts.is_owner, Indexes.kept, Objects.top_of_extent, SlotsIn.present_in};
+ghost use Rattle.cap_objects.specs.{Counts.is_owner, IndexIn.at, Indexes.kept, Objects.top_of_extent, SlotsIn.present_in};
 ghost use Rattle.cap_objects.specs.declared.objects.Object.{Object as ObjectIn};
 ghost use Rattle.cap_objects.specs.declared.handouts.HandOutFault.TheVariants.{NoMemory};
 
 use crate::bases::{
-    first_from, first_within, insert_keys, last_at_or_below, remove_freed, remove_keys,
-    replace_key, slot_by,
+    first_from, first_within, insert_keys, remove_freed, remove_keys, replace_key, slot_by,
 };
+use crate::index::Index;
+use crate::moments::Moment;
 use crate::objects::Object;
 use crate::slots::Slots;
 use std::alloc::{AllocError, Global};
-use std::collections::BTreeMap;
 use std::{error, fmt};
+
+// Before any step.
+const NEVER: Moment = Moment {
+    steps: 0,
+    hart_lines: 0,
+};
 
 /// Why an interval becomes no object's extent.
 #[derive(Debug, Clone, Copy, PartialEq, Eq)]
@@ -62,12 +66,12 @@ pub enum NumberFault {
 pub struct Handouts {
     slots: Slots,
     // The slots by the objects' numbers.
-    numbers: BTreeMap<u32, u32>,
+    numbers: Index,
     // The slots by the bases of the extents that new ones are compared with.
-    bases: BTreeMap<u64, u32>,
+    bases: Index,
     count: u32,
     keeps: bool,
-    ghost kept: { AreKept keeps count (present_in slots) (tree.get nat_cmp numbers) (tree.get nat_cmp bases) },
+    ghost kept: { AreKept keeps count (present_in slots) (at numbers) (at bases) },
 }
 
 impl Handouts {
@@ -82,8 +86,8 @@ impl Handouts {
     {
         Handouts {
             slots: Slots::new(alloc),
-            numbers: BTreeMap::new(alloc),
-            bases: BTreeMap::new(alloc),
+            numbers: Index::new(alloc),
+            bases: Index::new(alloc),
             count: 0,
             keeps,
         }
@@ -137,7 +141,7 @@ impl Handouts {
     pub fn next_number(&self, from: u32) -> Option<(u32, usize)>
         ensures next { IsNextNumber (objects_of self.now) from result }
     {
-        first_from(&self.numbers, from)
+        first_from(&self.numbers, from, self.count)
     }
 
     // The object of least base among those that are compared and share an address with the addresses from a base to a
@@ -169,7 +173,7 @@ impl Handouts {
     fn is_clear(&self, base: u64, last: u64) -> bool
         ensures { result ≡ true → (left_out : Option ℕ) (live : Bool) → MeetsNone self.now.keeps left_out live (objects_of self.now) base last }
     {
-        match last_at_or_below(&self.bases, last) {
+        match self.bases.last_to(last) {
             Some((_, slot)) if base <= self.slots.get(slot as usize).last => false,
             _ => true,
         }
@@ -183,7 +187,7 @@ impl Handouts {
         ensures all { (slot : ℕ) (object : ObjectIn) → objects_of self.now slot ≡ Some object → is_compared self.now.keeps object ≡ true
             → base ≤ object.last → result ≤ object.base }
     {
-        match last_at_or_below(&self.bases, base) {
+        match self.bases.last_to(base) {
             Some((other, slot)) if base <= self.slots.get(slot as usize).last => other,
             _ => base,
         }
@@ -228,12 +232,12 @@ impl Handouts {
     /// An interval becomes the extent of a new object, in the slot that is the answer, which no place holds. Or it shares
     /// an address with the extent of a live object, or else with that of a freed one that is held, if those are compared;
     /// or there is no memory. Then nothing changes. The interval may be empty: it shares no address.
-    pub fn hand_out(&mut self, base: u64, top: u128, step: u32) -> Result<usize, HandOutFault>
+    pub fn hand_out(&mut self, base: u64, top: u128, moment: Moment) -> Result<usize, HandOutFault>
         requires long { base ≤ top }
         requires in_memory { top ≤ 2 ^ 64 }
         requires few { self.old.count < 2 ^ 32 - 1 }
         ensures room { OnOk result (HasRoom self.old.keeps None (objects_of self.old) base top) }
-        ensures ok { IfOk result (λ slot. AddsObject (objects_of self.old) slot (handed_out (self.old.count + 1) step base top) (objects_of self.new)) }
+        ensures ok { IfOk result (λ slot. AddsObject (objects_of self.old) slot (handed_out (self.old.count + 1) moment base top) (objects_of self.new)) }
         ensures low { IfOk result (λ slot. slot < 2 ^ 32) }
         ensures count { OnOk result (self.new.count ≡ self.old.count + 1) }
         ensures fault { IfErr result (RefusesExtent self.old.keeps None (objects_of self.old) base top) }
@@ -251,8 +255,8 @@ impl Handouts {
             last: if long { (top - 1) as u64 } else { base },
             held: 0,
             number: self.count + 1,
-            handed_at: step,
-            freed_at: 0,
+            handed_at: moment,
+            freed_at: NEVER,
             long,
             freed: false,
         };
@@ -356,17 +360,17 @@ impl Handouts {
         }
     }
 
-    /// A live object is freed in a step. It is gone where no place holds it. This takes no memory.
-    pub fn free(&mut self, slot: usize, step: u32)
+    /// A live object is freed at a moment. It is gone where no place holds it. This takes no memory.
+    pub fn free(&mut self, slot: usize, moment: Moment)
         requires { IsSomeAnd (objects_of self.old slot) (λ object. object.freed ≡ false) }
         ensures set { (object : ObjectIn) → objects_of self.old slot ≡ Some object
-            → Sets (objects_of self.old) slot (kept (freed_in step object)) (objects_of self.new) }
+            → Sets (objects_of self.old) slot (kept (freed_in moment object)) (objects_of self.new) }
         ensures rest { (self.new.count ≡ self.old.count) × (self.new.keeps ≡ self.old.keeps) }
         ensures slots { slots_of self.new ≡ slots_of self.old }
     {
         let mut object = self.slots.get(slot);
         object.freed = true;
-        object.freed_at = step;
+        object.freed_at = moment;
         if object.is_present() {
             self.slots.set(slot, object);
             remove_freed(&mut self.bases, object, self.keeps);

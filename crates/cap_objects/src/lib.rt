@@ -3,13 +3,17 @@
 #![tactic(auto)]
 
 mod bases;
+mod entries;
 mod handouts;
+mod index;
 mod laws;
+mod moments;
 mod objects;
 mod recounting;
 mod slots;
 
 pub use crate::handouts::{HandOutFault, Handouts, NumberFault};
 pub use crate::laws::{counts_move, meeting_is_sharing};
+pub use crate::moments::Moment;
 pub use crate::objects::Object;
 pub use crate::recounting::{recount, recount_both};

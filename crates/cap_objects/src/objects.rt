@@ -3,6 +3,8 @@
 ghost use Rattle.std.specs.Prelude.{◌≡◌, ◌&&◌, ◌||◌, ◌+◌, not, if◌then◌else◌};
 ghost use Rattle.cap_objects.specs.{Extents.{is_compared, is_present}, Objects.top_of_extent};
 
+use crate::moments::Moment;
+
 /// An object that was handed out, whose extent is an interval of addresses. It is live until it is freed, and present
 /// where it is live or a place holds it.
 #[derive(Clone, Copy, Debug, PartialEq, Eq)]
@@ -13,12 +15,12 @@ pub struct Object {
     pub last: u64,
     /// How many places hold it.
     pub held: u64,
+    /// When it was handed out.
+    pub handed_at: Moment,
+    /// When it was freed, and before any step where it is live.
+    pub freed_at: Moment,
     /// Its number: objects are numbered from 1 in the order in which they are handed out.
     pub number: u32,
-    /// The step that handed it out.
-    pub handed_at: u32,
-    /// The step that freed it, and 0 where it is live.
-    pub freed_at: u32,
     /// Whether its extent has an address.
     pub long: bool,
     /// Whether it was freed.

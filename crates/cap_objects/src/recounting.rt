@@ -11,7 +11,7 @@ use crate::handouts::Handouts;
 pub fn recount(objects: &mut Handouts, from: Option<usize>, to: Option<usize>)
     requires from { (slot : ℕ) → from ≡ Some slot → 0 < held_of (objects_of objects.old slot) }
     requires to { (slot : ℕ) → to ≡ Some slot → 0 < held_of (objects_of objects.old slot) }
-    requires few { (slot : ℕ) → held_of (objects_of objects.old slot) ≤ 2 ^ 60 + 64 }
+    requires few { (slot : ℕ) → held_of (objects_of objects.old slot) ≤ 2 ^ 61 }
     ensures moves { Moves (λ slot. held_of (objects_of objects.old slot)) from to (λ slot. held_of (objects_of objects.new slot)) }
     ensures rest { IsRecounted (objects_of objects.old) (objects_of objects.new) }
     ensures same { (objects.new.count ≡ objects.old.count) × (objects.new.keeps ≡ objects.old.keeps) }
@@ -25,7 +25,7 @@ pub fn recount(objects: &mut Handouts, from: Option<usize>, to: Option<usize>)
 #[inline(always)]
 fn count_up_for(objects: &mut Handouts, to: Option<usize>)
     requires to { (slot : ℕ) → to ≡ Some slot → 0 < held_of (objects_of objects.old slot) }
-    requires few { (slot : ℕ) → held_of (objects_of objects.old slot) ≤ 2 ^ 60 + 65 }
+    requires few { (slot : ℕ) → held_of (objects_of objects.old slot) ≤ 2 ^ 61 + 1 }
     ensures moves { (slot : ℕ) → held_of (objects_of objects.new slot) ≡ held_of (objects_of objects.old slot) + one_for slot to }
     ensures rest { IsRecounted (objects_of objects.old) (objects_of objects.new) }
     ensures same { (objects.new.count ≡ objects.old.count) × (objects.new.keeps ≡ objects.old.keeps) }
@@ -62,7 +62,7 @@ pub fn recount_both(
     requires from { (slot : ℕ) → one_for slot first_from + one_for slot second_from ≤ held_of (objects_of objects.old slot) }
     requires first_to { (slot : ℕ) → first_to ≡ Some slot → 0 < held_of (objects_of objects.old slot) }
     requires second_to { (slot : ℕ) → second_to ≡ Some slot → 0 < held_of (objects_of objects.old slot) }
-    requires few { (slot : ℕ) → held_of (objects_of objects.old slot) ≤ 2 ^ 60 + 64 }
+    requires few { (slot : ℕ) → held_of (objects_of objects.old slot) ≤ 2 ^ 61 }
     ensures moves { (slot : ℕ) → held_of (objects_of objects.new slot) + one_for slot first_from + one_for slot second_from
         ≡ held_of (objects_of objects.old slot) + one_for slot first_to + one_for slot second_to }
     ensures rest { IsRecounted (objects_of objects.old) (objects_of objects.new) }

@@ -21,7 +21,7 @@ pub then_none : (f : ℕ → Option ℕ) (o : Option ℕ) → ((k : ℕ) → f k
 then_none f None none = refl
 then_none f (Some k) none = none k
 
-module _ (held : Held) (specials : Specials) (h : Handouts) (sized : length specials.labels ≡ 32)
+module _ (held : Held) (specials : Specials) (h : Handouts) (sized : length specials.registers.labels ≡ 32)
     (counts : CountsAre (run_owners held specials) (λ n. held_of (objects_of h n))) (alone : h.count ≡ 0) where
   -- no place has an owner
   pub unowned : (key : ℕ) → run_owners held specials key ≡ None
@@ -37,7 +37,7 @@ module _ (held : Held) (specials : Specials) (h : Handouts) (sized : length spec
     | inr far ↦ main-far held key stored far
   ]
 
-module _ (held new : Held) (specials : Specials) (h : Handouts) (step : Step) (sized : length specials.labels ≡ 32)
+module _ (held new : Held) (specials : Specials) (h : Handouts) (step : Step) (sized : length specials.registers.labels ≡ 32)
     (counts : CountsAre (run_owners held specials) (λ n. held_of (objects_of h n))) (stored : AreStored held.memory) (alone : h.count ≡ 0) where
   no-owner : (key : ℕ) → run_owners held specials key ≡ None
   no-owner = unowned held specials h sized counts alone
@@ -115,7 +115,7 @@ none-for cap owner is = choice (cap.tag && not (is_empty cap.word.0)) where
   choice true = is
   choice false = refl
 
-module _ (held new : Held) (specials sp : Specials) (h : Handouts) (sized : length specials.labels ≡ 32)
+module _ (held new : Held) (specials sp : Specials) (h : Handouts) (sized : length specials.registers.labels ≡ 32)
     (counts : CountsAre (run_owners held specials) (λ n. held_of (objects_of h n))) (alone : h.count ≡ 0)
     (none : (key : ℕ) → run_owners new sp key ≡ None) where
   pub counted-alone : CountsAre (run_owners new sp) (λ n. held_of (objects_of h n))

@@ -32,7 +32,7 @@ matched : (o : Option RunRefusal) (N : Type 0) (S : RunRefusal → Type 0) → M
 matched None N S is = inl (refl, is)
 matched (Some refusal) N S is = inr (refusal, refl, is)
 
-module _ (held new : Held) (specials sp : Specials) (h after : Handouts) (sized : length specials.labels ≡ 32) (new_sized : length sp.labels ≡ 32)
+module _ (held new : Held) (specials sp : Specials) (h after : Handouts) (sized : length specials.registers.labels ≡ 32) (new_sized : length sp.registers.labels ≡ 32)
     (counts : CountsAre (run_owners held specials) (λ n. held_of (objects_of h n)))
     (new_counts : CountsAre (run_owners new sp) (λ n. held_of (objects_of after n))) (asks : Asks) (keeps : h.keeps ≡ asks.held) where
   same : run_of new sp after ≡ run_of held specials h → numbered_run new sp after ≡ numbered_run held specials h

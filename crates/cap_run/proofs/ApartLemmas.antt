@@ -19,7 +19,7 @@ use Rattle.cap_run.specs.{Allowed.{AreAllowed, IsLineAllowed}, declared.asks.Ask
 use Rattle.cap_run.specs.{Owned.IsWithin, Run.{Run, first_special, register_key}, Safety.{IsKeptApart, IsSafe}}
 use Rattle.cap_run.specs.RunChanges.{line_after, main_of, no_run, place_key, usual_after}
 use Rattle.cap_run.proofs.DescentLemmas.{along, along-fold, allowed_parts, nothing_tagged, sound_after}
-use Rattle.cap_run.proofs.{ExtentLemmas.{AreApart, AreNumbered, IsMade, line_made}, FollowLemmas.AllReach, HolderLemmas.{OwnerFrom, owner_from, reach_after}}
+use Rattle.cap_run.proofs.{ExtentLemmas.{AreApart, AreNumbered, IsMade, line_made}, FollowLemmas.AllReach, HartLemmas.far-stays, HolderLemmas.{OwnerFrom, owner_from, reach_after}}
 use Rattle.cap_run.proofs.{LineLemmas.{hits_no_special, root_free, stays_within}, PresentLemmas.{AreCounted, line_counted, none_counted}}
 
 -- what an object owns is a place, and lies in the object's extent
@@ -70,6 +70,7 @@ far_parent run (lines.Run (steps.Invoke step)) key range far =
 far_parent run (lines.Run (steps.Drop place)) key range far = one_missed _ _ key (far_hit (place_key place) key (place_low place range) far)
 far_parent run (lines.Run (steps.Fill granule word)) key range far =
     one_missed _ _ key (far_hit (granule + 32) key (omega (arith, range.0)) far)
+far_parent run (lines.Hart hart) key range far = ap Some (far-stays run.harts.current hart key far)
 far_parent run line key range far = refl
 
 -- the register of an `object` line is a place

@@ -1,10 +1,8 @@
 -- Present objects by their numbers after one was handed out, widened or freed.
-use Rattle.std.specs.BTreeMap as tree
-use Rattle.std.specs.Ordering.{nat_cmp}
 use Rattle.std.proofs.{Common.{◌≡◌, ◌≢◌, ◌==◌, ◌⊎◌, ◌||◌, not, nat_lt, ℕ, Bool, true, false, Some, None, Option, inl, inr}, Math.Path.fun_ext}
 use Rattle.std.proofs.Common.{option_and_then, option_map, slice_get, refl, sym, ap, subst, ◌∙◌, ne_eqb}
 use Rattle.std.proofs.lemmas.{Bool.{cases_Bool, cond-true, cond-false, Decides.eqb_tells}, Option.{none-some, same_Some}}
-use Rattle.cap_objects.specs.{Counts.{CountsAre, Owners, owned_by}, declared.{handouts.Handouts.Handouts, objects.Object.Object}, HandoutsIn.objects_of}
+use Rattle.cap_objects.specs.{Counts.{CountsAre, Owners, owned_by}, declared.{handouts.Handouts.Handouts, objects.Object.Object}, HandoutsIn.{objects_of, slot_based, slot_numbered}}
 use Rattle.cap_objects.specs.Extents.{Objects, Sets, is_present}
 use Rattle.cap_objects.specs.{Handed.{AreKept, held_of, with_held}, Indexes.{IsIndex, kept, number_key}}
 use Rattle.cap_run.specs.{Numbers.{by_number, number_at, numbered}, RunChanges.counted}
@@ -12,7 +10,7 @@ use Rattle.cap_machine.specs.States.{put}
 use Rattle.cap_run.proofs.ObjectLemmas.{kept_some}
 use Rattle.cap_run.proofs.{IndexedLemmas.{owned-none, owned-number}, NumberLemmas.{at-number, slot-of}}
 
-pub kept-by : (h : Handouts) → AreKept h.keeps h.count (objects_of h) (tree.get nat_cmp h.numbers) (tree.get nat_cmp h.bases)
+pub kept-by : (h : Handouts) → AreKept h.keeps h.count (objects_of h) (slot_numbered h) (slot_based h)
 kept-by h = h.kept
 
 -- what is in a slot is present

@@ -131,6 +131,7 @@ allowed_by asks run lines.Version free = tt
 allowed_by asks run (lines.Mode mode) free = tt
 allowed_by asks run (lines.Plain version) free = free
 allowed_by asks run (lines.Root place word) free = free
+allowed_by asks run (lines.Hart hart) free = free
 allowed_by asks run (lines.Step step) free = free
 allowed_by asks run (lines.Run step) free = free
 allowed_by asks run (lines.End count) free = free

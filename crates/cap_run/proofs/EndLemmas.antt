@@ -49,7 +49,7 @@ none_live (Some o) none = elim (cases_Bool o.freed) [
   | inr live ↦ absurd (none o refl live)
 ]
 
-module _ (held : Held) (specials : Specials) (h : Handouts) (sized : length specials.labels ≡ 32)
+module _ (held : Held) (specials : Specials) (h : Handouts) (sized : length specials.registers.labels ≡ 32)
     (counts : CountsAre (run_owners held specials) (λ n. held_of (objects_of h n))) (asks : Asks) (keeps : h.keeps ≡ asks.held) where
   there : (key slot : ℕ) → run_owners held specials key ≡ Some slot → (o : Object) × (objects_of h slot ≡ Some o)
   there key slot is = let o = owner-there held specials (objects_of h) sized counts key slot is in (o.0, o.1)

@@ -21,8 +21,8 @@ use Rattle.cap_run_log.specs.RunLines.{IsRunLineInRange}
 use Rattle.cap_run.specs.declared.{asks.Asks.Asks, ends.RunRefusal.RunRefusal}
 use Rattle.cap_run.specs.declared.ends.RunRefusal.TheVariants.{NoCapability, NoOwner, NotOwned, OwnerFreed, Usual}
 use Rattle.cap_run.specs.{Allowed.{AreAllowed, IsLineAllowed}, Descents.run_along, Erasure.{AllowsErased, erased_after, is_of_objects, object_lines}}
-use Rattle.cap_run.specs.{Owned.owner_for, Run.Run, UsualSteps.disowned}
-use Rattle.cap_run.specs.RunChanges.{account_in, granule_in, line_after, no_run, place_key, root_after, run_after, usual_after, with_freed}
+use Rattle.cap_run.specs.{Harts.Harts, Owned.owner_for, Run.Run, UsualSteps.disowned}
+use Rattle.cap_run.specs.RunChanges.{account_in, granule_in, hart_after, line_after, no_run, place_key, root_after, run_after, usual_after, with_freed}
 use Rattle.cap_run.specs.{RunChecks.{asked_checks, is_live, meets, number_end, passes_limit, root_end, run_end, usual_end}, RunSteps.{or_later, step_limit}}
 use Rattle.cap_run.proofs.{ChoiceLemmas.last_checks, DescentLemmas.{along, along-fold}, MeetingLemmas.meets-which}
 
@@ -156,12 +156,13 @@ run_bare asks other run steps_are (steps.Fill granule word) plain less free =
 run_bare asks other run steps_are step plain less free = absurd (false≢true (sym plain))
 
 -- two runs of the same parts
-abbrev run_with : State → Owners → Objects → ℕ → Rules → Limits → ℕ → ℕ → (ℕ → Bool) → ℕ → Run
-run_with state_is owners_are objects_are count_is rules_are limits_are roots_are steps_are named granules_are = record {
+abbrev run_with : State → Owners → Objects → ℕ → Harts → Rules → Limits → ℕ → ℕ → (ℕ → Bool) → ℕ → Run
+run_with state_is owners_are objects_are count_is harts_are rules_are limits_are roots_are steps_are named granules_are = record {
   state = state_is;
   owners = owners_are;
   objects = objects_are;
   count = count_is;
+  harts = harts_are;
   rules = rules_are;
   limits = limits_are;
   roots = roots_are;
@@ -173,29 +174,29 @@ run_with state_is owners_are objects_are count_is rules_are limits_are roots_are
 -- a run is one without objects
 as_bare : (run other : Run) (steps_are : ℕ) → other.state ≡ run.state → ((key : ℕ) → other.owners key ≡ None)
     → ((number : ℕ) → other.objects number ≡ None) → other.count ≡ 0 → other.rules ≡ run.rules → other.limits ≡ run.limits → other.roots ≡ run.roots
-    → other.steps ≡ steps_are → other.is_named ≡ run.is_named → other.granules ≡ run.granules → other ≡ bare run steps_are
-as_bare run other steps_are state owners objects count rules limits roots steps_is named granules =
+    → other.steps ≡ steps_are → other.is_named ≡ run.is_named → other.granules ≡ run.granules → other.harts ≡ run.harts → other ≡ bare run steps_are
+as_bare run other steps_are state owners objects count rules limits roots steps_is named granules harts =
     let no_owners : other.owners ≡ (λ (key : ℕ). None) = fun_ext owners in
     let no_objects : other.objects ≡ (λ (number : ℕ). None) = fun_ext objects in
-    let whole : run_with other.state other.owners other.objects other.count other.rules other.limits other.roots other.steps other.is_named other.granules
-    ≡ run_with run.state (λ key. None) (λ number. None) 0 run.rules run.limits run.roots steps_are run.is_named run.granules = cc in
+    let whole : run_with other.state other.owners other.objects other.count other.harts other.rules other.limits other.roots other.steps other.is_named other.granules
+    ≡ run_with run.state (λ key. None) (λ number. None) 0 run.harts run.rules run.limits run.roots steps_are run.is_named run.granules = cc in
     whole
 
 -- what a step that isn't of objects makes of a run without them
 after_run : (run : Run) (steps_are : ℕ) (step : RunStep) → is_of_objects step ≡ false
     → run_after (bare run steps_are) step ≡ bare (run_after run step) (steps_are + 1)
 after_run run steps_are (steps.Derive step) plain =
-    as_bare (run_after run (steps.Derive step)) _ (steps_are + 1) refl (put_none _ _ _ (λ key. refl) (no_owner _ None refl)) (λ number. refl) refl refl refl refl refl refl refl
+    as_bare (run_after run (steps.Derive step)) _ (steps_are + 1) refl (put_none _ _ _ (λ key. refl) (no_owner _ None refl)) (λ number. refl) refl refl refl refl refl refl refl refl
 after_run run steps_are (steps.Exchange step) plain =
     as_bare (run_after run (steps.Exchange step)) _ (steps_are + 1) refl (put_none _ _ _ (put_none _ _ _ (λ key. refl) (no_owner _ None refl)) (no_owner _ None refl)) (λ number. refl) refl refl refl refl
-    refl refl refl
+    refl refl refl refl
 after_run run steps_are (steps.Invoke step) plain =
     as_bare (run_after run (steps.Invoke step)) _ (steps_are + 1) refl (put_none _ _ _ (put_none _ _ _ (λ key. refl) (no_owner _ None refl)) (no_owner _ None refl)) (λ number. refl) refl refl refl refl
-    refl refl refl
+    refl refl refl refl
 after_run run steps_are (steps.Drop place) plain =
-    as_bare (run_after run (steps.Drop place)) _ (steps_are + 1) refl (put_none _ _ _ (λ key. refl) (no_owner _ None refl)) (λ number. refl) refl refl refl refl refl refl refl
+    as_bare (run_after run (steps.Drop place)) _ (steps_are + 1) refl (put_none _ _ _ (λ key. refl) (no_owner _ None refl)) (λ number. refl) refl refl refl refl refl refl refl refl
 after_run run steps_are (steps.Fill granule word) plain =
-    as_bare (run_after run (steps.Fill granule word)) _ (steps_are + 1) refl (put_none _ _ _ (λ key. refl) (no_owner _ None refl)) (λ number. refl) refl refl refl refl refl refl refl
+    as_bare (run_after run (steps.Fill granule word)) _ (steps_are + 1) refl (put_none _ _ _ (λ key. refl) (no_owner _ None refl)) (λ number. refl) refl refl refl refl refl refl refl refl
 after_run run steps_are step plain = absurd (false≢true (sym plain))
 
 -- naming a granule sees of an account which ones were named
@@ -218,7 +219,7 @@ after_usual run steps_are step =
     as_bare (usual_after run step) (usual_after other step) (steps_are + 1) refl
     (disowned_none _ _ _ (λ key. then_none other.owners (parent_of old.state step (with_step old step).state key) (λ k. refl)))
     (λ number. refl) refl refl refl refl refl (naming_named (account_in other) (account_in run) (named_by row) refl)
-    (naming_granules (account_in other) (account_in run) (named_by row) refl refl)
+    (naming_granules (account_in other) (account_in run) (named_by row) refl refl) refl
 
 after_root : (run : Run) (steps_are : ℕ) (place : RunPlace) (word : Word)
     → root_after (bare run steps_are) place word ≡ bare (root_after run place word) steps_are
@@ -297,6 +298,9 @@ lead_bare asks other run steps_are gone (lines.Step step ∷ rest) sums allowed 
     one_more other run (usual_after run step) _ steps_are (steps_are + 1) _ (lines.Step step) _ allowed.0
     (usual_bare asks other run steps_are step (omega (arith, sums)) allowed.1) (after_usual run steps_are step)
     (lead_bare asks other (usual_after run step) (steps_are + 1) gone rest (omega (arith, sums)) allowed.2)
+lead_bare asks other run steps_are gone (lines.Hart hart ∷ rest) sums allowed =
+    one_more other run (hart_after run hart) _ steps_are steps_are _ (lines.Hart hart) _ allowed.0 allowed.1 refl
+    (lead_bare asks other (hart_after run hart) steps_are gone rest sums allowed.2)
 lead_bare asks other run steps_are gone (lines.End count ∷ rest) sums allowed =
     one_more other run run _ steps_are steps_are _ (lines.End (count - gone)) _ (let range = allowed.0 in omega (arith, range))
     (end_counts count steps_are gone run.steps sums allowed.1) refl

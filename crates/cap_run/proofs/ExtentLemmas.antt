@@ -7,17 +7,17 @@ use Rattle.cap_bounds.specs.Bounds.{base_of, top_of}
 use Rattle.cap_ops.specs.{Checks.first_of}
 use Rattle.cap_ops.proofs.TestLemmas.{none_hold}
 use Rattle.cap_machine.specs.States.{put}
-use Rattle.cap_objects.specs.{Counts.{is_owner, owned_by}, declared.objects.Object.Object, Extents.{Objects, is_present}}
+use Rattle.cap_objects.specs.{Counts.{is_owner, owned_by}, declared.{moments.Moment.Moment, objects.Object.Object}, Extents.{Objects, is_present}}
 use Rattle.cap_objects.specs.{Handed.{freed_in, handed_out, widened, with_held}, Indexes.kept, Objects.{Share, top_of_extent}}
 use Rattle.cap_run_log.specs.declared.lines.{RunLine.RunLine}
 use Rattle.cap_run_log.specs.declared.lines.RunLine.TheVariants as lines
 use Rattle.cap_run_log.specs.declared.lines.RunStep.TheVariants as steps
 use Rattle.cap_run.specs.declared.{asks.Asks.Asks}
 use Rattle.cap_run.specs.declared.ends.RunRefusal.TheVariants.{AlreadyFreed, NoObject, Overlaps, StillHeld}
-use Rattle.cap_run.specs.{Allowed.IsLineAllowed, Holders.{ReachesSome, handed_by}, ObjectSteps.object_refusal, Owned.IsWithin, Run.Run}
+use Rattle.cap_run.specs.{Allowed.IsLineAllowed, Holders.{ReachesSome, handed_by}, ObjectSteps.object_refusal, Owned.IsWithin, Run.{Run, moment}}
 use Rattle.cap_run.specs.{RunChanges.{counted, line_after, with_freed}, RunChecks.{extent_end, growth_end, is_freed, is_live, meets, number_end}}
 use Rattle.cap_run.specs.{RunSteps.{or_later, step_limit}, Safety.IsKeptApart}
-use Rattle.cap_run.proofs.{LineLemmas.later_none, MeetingLemmas.{meets-where}, ObjectLemmas.widened-grows, OwnerLemmas.either-key}
+use Rattle.cap_run.proofs.{HartLemmas.owned-moved, LineLemmas.later_none, MeetingLemmas.{meets-where}, ObjectLemmas.widened-grows, OwnerLemmas.either-key}
 use Rattle.cap_run.proofs.{PresentLemmas.{AreCounted, AreFew, few_of}, WideningLemmas.{widened-base, widened-top}}
 
 -- the extents of two guarded objects share no address
@@ -73,7 +73,7 @@ counted_itself run known number =
     (λ object is. let it = known number object is in (it.held, it.present))
 
 -- a freed object
-freed_one : (step : ℕ) (was : Option Object) (new : Object) → option_map (freed_in step) was ≡ Some new → (old : Object) × (was ≡ Some old) × (new ≡ freed_in step old)
+freed_one : (step : Moment) (was : Option Object) (new : Object) → option_map (freed_in step) was ≡ Some new → (old : Object) × (was ≡ Some old) × (new ≡ freed_in step old)
 freed_one step None new is = absurd (none-some new is)
 freed_one step (Some old) new is = (old, refl, sym (same_Some (freed_in step old) new is))
 
@@ -91,10 +91,10 @@ module _ (keeps : Bool) (run : Run) (apart_are : AreApart keeps run.objects) (nu
     pub freed_is : new.freed ≡ false → old.freed ≡ false
 
   was_like : (number other : ℕ) (new : Object)
-      → put run.objects number (option_map (freed_in (run.steps + 1)) (run.objects number)) other ≡ Some new → WasLike other new
-  was_like number other new is = elim (either-key run.objects number (option_map (freed_in (run.steps + 1)) (run.objects number)) other) [
+      → put run.objects number (option_map (freed_in (moment run)) (run.objects number)) other ≡ Some new → WasLike other new
+  was_like number other new is = elim (either-key run.objects number (option_map (freed_in (moment run)) (run.objects number)) other) [
     | inl here ↦
-        let before = freed_one (run.steps + 1) (run.objects number) new (sym here.1 ∙ is) in
+        let before = freed_one (moment run) (run.objects number) new (sym here.1 ∙ is) in
         record {
           old = before.0;
           was = sym (ap run.objects here.0) ∙ before.1;
@@ -108,14 +108,14 @@ module _ (keeps : Bool) (run : Run) (apart_are : AreApart keeps run.objects) (nu
   ]
 
   freed_made : (line : RunLine) (number : ℕ) → handed_by run line ≡ None
-      → (let made = put run.objects number (option_map (freed_in (run.steps + 1)) (run.objects number)) in
+      → (let made = put run.objects number (option_map (freed_in (moment run)) (run.objects number)) in
       ((other : ℕ) → (line_after run line).objects other ≡ counted made (line_after run line).owners other) → IsMade keeps run line made)
   freed_made line number none are = record {
     counted_are = are;
-    there = λ other old is. elim (either-key run.objects number (option_map (freed_in (run.steps + 1)) (run.objects number)) other) [
+    there = λ other old is. elim (either-key run.objects number (option_map (freed_in (moment run)) (run.objects number)) other) [
       | inl here ↦ (
-        freed_in (run.steps + 1) old,
-        here.1 ∙ ap (option_map (freed_in (run.steps + 1))) (ap run.objects here.0 ∙ is),
+        freed_in (moment run) old,
+        here.1 ∙ ap (option_map (freed_in (moment run))) (ap run.objects here.0 ∙ is),
         record { base = omega arith; top = omega arith },
       )
       | inr away ↦ (old, away.1 ∙ is, grows_itself old)
@@ -204,13 +204,13 @@ no_share asks run left_out base top two b few free apart is_b guard share_is =
     ]
 
 -- the extent of a new object
-fresh_top : (number step base top : ℕ) → base < top → top_of_extent (handed_out number step base top) ≡ top
+fresh_top : (number : ℕ) (step : Moment) (base top : ℕ) → base < top → top_of_extent (handed_out number step base top) ≡ top
 fresh_top number step base top some =
     let long : nat_lt base top ≡ true = lt-ltb base top some in
     let whole : top - 1 + 1 ≡ top = omega (arith, some) in
     ap (λ (b : Bool). if b then (if b then top - 1 else base) + 1 else base) long ∙ whole
 
-fresh_in : (number step base top address : ℕ) → base ≤ address → address < top_of_extent (handed_out number step base top) → address < top
+fresh_in : (number : ℕ) (step : Moment) (base top address : ℕ) → base ≤ address → address < top_of_extent (handed_out number step base top) → address < top
 fresh_in number step base top address low high = elim (cases_Bool (nat_lt base top)) [
   | inl long ↦
       let some : base < top = grind (arith, nat_tests, long) in
@@ -248,7 +248,7 @@ widened_in o base top =
     ]
 
 -- what an `object` line's register holds lies in the extent
-within_fresh : (cap : Cap) (number step : ℕ) → ReachesSome cap → IsWithin cap (handed_out number step (base_of cap.word.0) (top_of cap.word.0))
+within_fresh : (cap : Cap) (number : ℕ) (step : Moment) → ReachesSome cap → IsWithin cap (handed_out number step (base_of cap.word.0) (top_of cap.word.0))
 within_fresh cap number step reaches =
     let end = fresh_top number step (base_of cap.word.0) (top_of cap.word.0) reaches.1 in
     record { tagged = reaches.0; from = omega arith; until = omega (arith, end) }
@@ -278,7 +278,7 @@ module _ (asks : Asks) (run : Run) (known : AreCounted run) (apart_are : AreApar
       plain line none (λ number.
       ap (λ (r : Run). r.objects number) is ∙ counted_itself run known number ∙ sym (ap (λ (r : Run). counted run.objects r.owners number) is))
   freed_line line (Some number) none is =
-      let made = put run.objects number (option_map (freed_in (run.steps + 1)) (run.objects number)) in (
+      let made = put run.objects number (option_map (freed_in (moment run)) (run.objects number)) in (
         made,
         freed_made asks.held run apart_are numbered_are line number none (λ other.
             ap (λ (r : Run). r.objects other) is ∙ sym (ap (λ (r : Run). counted made r.owners other) is)),
@@ -290,16 +290,16 @@ module _ (asks : Asks) (run : Run) (known : AreCounted run) (apart_are : AreApar
       let base = base_of cap.word.0 in
       let top = top_of cap.word.0 in
       let number = run.count + 1 in
-      let new = handed_out number (run.steps + 1) base top in
+      let new = handed_out number (moment run) base top in
       let later = later_none (object_refusal run register) (or_later (extent_end asks run None base top) (step_limit run)) allowed in
       let free = (later_none (extent_end asks run None base top) (step_limit run) later.1).0 in (
         put run.objects number (Some new),
         changed_made asks.held run apart_are numbered_are (lines.Run (steps.Object register)) register number new refl (λ other. refl)
             (λ old is. absurd (let low = few_of run known number old is in omega (arith, low)))
-            (λ reaches. within_fresh cap number (run.steps + 1) reaches)
+            (λ reaches. within_fresh cap number (moment run) reaches)
             (λ two b differ is guard share.
             no_share asks run None base top two b (few_of run known) free refl is guard
-            (share.0, share.1, fresh_in number (run.steps + 1) base top share.0 share.1 share.2, share.3, share.4))
+            (share.0, share.1, fresh_in number (moment run) base top share.0 share.1 share.2, share.3, share.4))
             refl,
       )
 
@@ -343,6 +343,8 @@ module _ (asks : Asks) (run : Run) (known : AreCounted run) (apart_are : AreApar
   line_made (lines.Mode mode) allowed = plain (lines.Mode mode) refl (counted_itself run known)
   line_made (lines.Plain version) allowed = plain (lines.Plain version) refl (counted_itself run known)
   line_made (lines.Root place word) allowed = plain (lines.Root place word) refl (counted_itself run known)
+  line_made (lines.Hart hart) allowed = plain (lines.Hart hart) refl (λ number. counted_itself run known number
+      ∙ sym (ap (λ (n : ℕ). option_and_then (λ object. kept (with_held object n)) (run.objects number)) (owned-moved run.owners run.harts.current hart number)))
   line_made (lines.End count) allowed = plain (lines.End count) refl (counted_itself run known)
   line_made (lines.Run (steps.Object register)) allowed = object_made register allowed
   line_made (lines.Run (steps.Widen register number)) allowed = widen_made register number allowed

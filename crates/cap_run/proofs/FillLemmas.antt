@@ -1,5 +1,5 @@
 -- A granule that was filled.
-use Rattle.std.proofs.{Common.{◌≡◌, ◌==◌, ◌<◌, ◌∙◌, ◌^◌, ℕ, Option, None, ap, sym, subst, arith, inl, inr}, Math.Path.fun_ext}
+use Rattle.std.proofs.{Common.{◌≡◌, ◌==◌, ◌<◌, ◌∙◌, ◌^◌, ℕ, Option, None, ap, refl, sym, subst, arith, inl, inr}, Math.Path.fun_ext}
 use Rattle.std.proofs.Common.{ne_eqb}
 use Rattle.std.proofs.lemmas.{Bool.cond-false, Option.none-some}
 use Rattle.cap_word.specs.declared.word.Cap.{Cap}
@@ -57,6 +57,7 @@ module _ (held new : Held) (specials : Specials) (granule : ℕ) (cap : Cap) (lo
     owners = fill-owners;
     objects = counted;
     count = count;
+    harts = refl;
     rules = ap (λ (a : Account). a.rules) account;
     limits = ap (λ (a : Account). a.limits) account;
     roots = ap (λ (a : Account). a.roots) account;

@@ -16,7 +16,7 @@ use Rattle.cap_run_log.specs.declared.lines.RunRegister.TheVariants.{Special}
 use Rattle.cap_run_log.specs.declared.lines.RunStep.TheVariants as steps
 use Rattle.cap_run_log.specs.RunLines.{IsRunLineInRange, IsRunStepInRange}
 use Rattle.cap_run.specs.{Allowed.IsLineAllowed, declared.asks.Asks.Asks, Descents.{line_parent, source_if}, Holders.{ReachesSome, handed_by}}
-use Rattle.cap_run.specs.{Owned.{is_empty, owner_for}, Run.{Run, first_special, register_key}, UsualSteps.disowned}
+use Rattle.cap_run.specs.{Harts.came_from, Owned.{is_empty, owner_for}, Run.{Run, first_special, register_key}, UsualSteps.disowned}
 use Rattle.cap_run.specs.RunChanges.{account_in, line_after, main_of, place_key, run_after, usual_after, with_freed}
 use Rattle.cap_run.proofs.{LineLemmas.{hits_no_special, root_free}, OwnerLemmas.owner_for-some}
 
@@ -187,11 +187,11 @@ module _ (run : Run) (reach : AllReach run) (step : Step) (key : ℕ) where
   abbrev step_row : Row
   step_row = row_of old_state step
 
-  abbrev came_from : ℕ → Option ℕ
-  came_from k = parent_in (hits step_row.writes k) (new_state k).tag step_row.parent k
+  abbrev step_parent : ℕ → Option ℕ
+  step_parent k = parent_in (hits step_row.writes k) (new_state k).tag step_row.parent k
 
   abbrev owners_before : Owners
-  owners_before k = option_and_then run.owners (came_from k)
+  owners_before k = option_and_then run.owners (step_parent k)
 
   -- the step is followed at this place
   abbrev IsFollowed : Type 0
@@ -217,7 +217,7 @@ module _ (run : Run) (reach : AllReach run) (step : Step) (key : ℕ) where
     old_is : old_state key ≡ run.state key
     old_is = cond-true (nat_lt key first_special) (run.state key) untagged_null (lt-ltb key first_special near)
 
-    near_follows : Follows run (new_state key) (came_from key) ((usual_after run step).owners key) → IsFollowed
+    near_follows : Follows run (new_state key) (step_parent key) ((usual_after run step).owners key) → IsFollowed
     near_follows follows =
         subst (λ (cap : Cap). Follows run cap (line_parent run (lines.Step step) key) ((usual_after run step).owners key)) (sym after_is)
         (subst (λ (cap : Cap). Follows run (new_state key) (parent_in (hits step_row.writes key) cap.tag step_row.parent key)
@@ -236,8 +236,8 @@ module _ (run : Run) (reach : AllReach run) (step : Step) (key : ℕ) where
           let owner_is : (usual_after run step).owners key ≡ owner_for (new_state key) (owners_before key) =
           ap (λ (w : Option (Place × Cap)). disowned (option_map (λ (x : Place × Cap). x.0) w) new_state owners_before key) writes_is
           ∙ disowned_register number key cap new_state owners_before here in
-          near_follows (subst (λ (o : Option ℕ). Follows run (new_state key) (came_from key) o) (sym owner_is)
-          (follows_parent run (new_state key) (came_from key)))
+          near_follows (subst (λ (o : Option ℕ). Follows run (new_state key) (step_parent key) o) (sym owner_is)
+          (follows_parent run (new_state key) (step_parent key)))
     ]
 
     -- a granule that is written with what a register holds
@@ -248,9 +248,9 @@ module _ (run : Run) (reach : AllReach run) (step : Step) (key : ℕ) where
       | inl hit ↦
           let owner_is : (usual_after run step).owners key ≡ owners_before key =
           ap (λ (w : Option (Place × Cap)). disowned (option_map (λ (x : Place × Cap). x.0) w) new_state owners_before key) writes_is in
-          near_follows (subst (λ (o : Option ℕ). Follows run (new_state key) (came_from key) o) (sym owner_is)
+          near_follows (subst (λ (o : Option ℕ). Follows run (new_state key) (step_parent key) o) (sym owner_is)
           (record {
-            owned = λ number is. (reaches hit number is, then_some run.owners (came_from key) number is);
+            owned = λ number is. (reaches hit number is, then_some run.owners (step_parent key) number is);
             owns = λ number from any parent_is is. ap (option_and_then run.owners) parent_is ∙ is;
           }))
     ]
@@ -323,6 +323,7 @@ line_follows asks run (lines.Mode mode) key reach range allowed none = follows_h
 line_follows asks run (lines.Plain version) key reach range allowed none = follows_here run key reach
 line_follows asks run (lines.Root place word) key reach range allowed none =
     root_follows run reach place word key (root_free run place word allowed).untaken
+line_follows asks run (lines.Hart hart) key reach range allowed none = follows_here run (came_from run.harts.current hart key) reach
 line_follows asks run (lines.Step step) key reach range allowed none = usual_follows run reach step key range
 line_follows asks run (lines.Run step) key reach range allowed none = run_follows run reach key step range none
 line_follows asks run (lines.End count) key reach range allowed none = follows_here run key reach

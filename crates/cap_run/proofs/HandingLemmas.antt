@@ -8,14 +8,14 @@ use Rattle.cap_bounds.specs.Bounds.{base_of, top_of}
 use Rattle.cap_ops.specs.Permissions.{is_sealed}
 use Rattle.tagmem.specs.Granules.{Granules}
 use Rattle.cap_machine.specs.{Helds.Held, Parents.IsSoundCap}
-use Rattle.cap_objects.specs.{Counts.{Owners, at_key}, declared.{handouts.Handouts.Handouts, objects.Object.Object}, Extents.{Objects, Sets}, HandoutsIn.objects_of}
+use Rattle.cap_objects.specs.{Counts.{Owners, at_key}, declared.{handouts.Handouts.Handouts, moments.Moment.Moment, objects.Object.Object}, Extents.{Objects, Sets}, HandoutsIn.objects_of}
 use Rattle.cap_objects.specs.declared.handouts.HandOutFault.{HandOutFault, TheVariants.{Overlaps, StillHeld, NoMemory}}
 use Rattle.cap_objects.specs.{Handed.{AddsObject, RefusesExtent, handed_out, last_below, with_held}, Objects.top_of_extent}
 use Rattle.cap_ops.specs.declared.refusal.Refusal.TheVariants.{LimitPassed}
 use Rattle.cap_machine.specs.Accounts.{most_steps}
 use Rattle.cap_run.specs.declared.{ends.RunRefusal.{RunRefusal, TheVariants.Usual}, specials.Specials.Specials}
 use Rattle.cap_run.specs.ObjectSteps.{ExtentEnds, ended, first_holders, is_capability, object_refusal}
-use Rattle.cap_run.specs.{Owned.{IsWithin, is_empty, owner_for}, Run.Run, RunOf.{run_of, run_owners, run_state}, RunSteps.{IsUnstepped, step_limit}}
+use Rattle.cap_run.specs.{Owned.{IsWithin, is_empty, owner_for}, Run.{Run, moment}, RunOf.{run_of, run_owners, run_state}, RunSteps.{IsUnstepped, step_limit}, Specials.harts_in}
 use Rattle.cap_run.proofs.ObjectEnds.{HandsOut}
 
 pub match_none : {A : Type 0} (o : Option A) (N : Type 0) (S : A → Type 0) → o ≡ None → N → MatchOption o N S
@@ -41,13 +41,13 @@ pub limit-some : (run : Run) → is_some (step_limit run) ≡ true → step_limi
 limit-some run is = limit_some (nat_le most_steps run.steps) (Usual LimitPassed) is
 
 -- the extent of a new object
-pub extent-top : (number step base top : ℕ) → base < top → top_of_extent (handed_out number step base top) ≡ top
+pub extent-top : (number : ℕ) (step : Moment) (base top : ℕ) → base < top → top_of_extent (handed_out number step base top) ≡ top
 extent-top number step base top some =
     let is : nat_lt base top ≡ true = lt-ltb base top some in
     let last : last_below base top ≡ top - 1 = cond-true (nat_lt base top) (top - 1) base is in
     cond-true (nat_lt base top) (last_below base top + 1) base is ∙ (let e : last_below base top + 1 ≡ top = omega (arith, last) in e)
 
-extent-until : (number step base top : ℕ) → base ≤ top → top ≤ top_of_extent (handed_out number step base top)
+extent-until : (number : ℕ) (step : Moment) (base top : ℕ) → base ≤ top → top ≤ top_of_extent (handed_out number step base top)
 extent-until number step base top holds = elim (cases_lt base top) [
   | inl some ↦ let end = extent-top number step base top some in omega (arith, end)
   | inr none ↦
@@ -57,7 +57,7 @@ extent-until number step base top holds = elim (cases_lt base top) [
 ]
 
 -- what was handed out lies inside its object's extent
-pub within-new : (cap : Cap) (number step base top : ℕ) → is_capability cap ≡ true → base ≡ base_of cap.word.0 → top ≡ top_of cap.word.0 → base ≤ top
+pub within-new : (cap : Cap) (number : ℕ) (step : Moment) (base top : ℕ) → is_capability cap ≡ true → base ≡ base_of cap.word.0 → top ≡ top_of cap.word.0 → base ≤ top
     → IsWithin cap (handed_out number step base top)
 within-new cap number step base top capable base_is top_is holds =
     let end = extent-until number step base top holds in
@@ -112,7 +112,7 @@ run-same held new specials sp h after is sp_is count same =
 module _ (held mid : Held) (specials sp : Specials) (h mid_h : Handouts) (register slot b t : ℕ) (mid_is : mid ≡ record held { steps = held.steps + 1 })
     (sp_is : sp ≡ specials)
     (b_is : b ≡ base_of (run_state held specials register).word.0) (t_is : t ≡ top_of (run_state held specials register).word.0)
-    (adds : AddsObject (objects_of h) slot (handed_out (h.count + 1) (held.steps + 1) b t) (objects_of mid_h)) (count : mid_h.count ≡ h.count + 1)
+    (adds : AddsObject (objects_of h) slot (handed_out (h.count + 1) (moment (run_of held specials h)) b t) (objects_of mid_h)) (count : mid_h.count ≡ h.count + 1)
     (capable : is_capability (run_state held specials register) ≡ true) (unowned : run_owners held specials register ≡ None) where
   pub mid-state : run_state mid sp ≡ run_state held specials
   mid-state = ap (λ (x : Held). run_state x sp) mid_is ∙ ap (run_state held) sp_is
@@ -121,16 +121,17 @@ module _ (held mid : Held) (specials sp : Specials) (h mid_h : Handouts) (regist
   mid-owners = ap (λ (x : Held). run_owners x sp) mid_is ∙ ap (run_owners held) sp_is
 
   new_object : Object
-  new_object = handed_out (h.count + 1) (held.steps + 1) (base_of (run_state held specials register).word.0) (top_of (run_state held specials register).word.0)
+  new_object = handed_out (h.count + 1) (moment (run_of held specials h)) (base_of (run_state held specials register).word.0) (top_of (run_state held specials register).word.0)
 
-  new_is : handed_out (h.count + 1) (held.steps + 1) b t ≡ new_object
+  new_is : handed_out (h.count + 1) (moment (run_of held specials h)) b t ≡ new_object
   unfolding new_object
-  new_is = ap (λ (x : ℕ). handed_out (h.count + 1) (held.steps + 1) x t) b_is
-      ∙ ap (handed_out (h.count + 1) (held.steps + 1) (base_of (run_state held specials register).word.0)) t_is
+  new_is = ap (λ (x : ℕ). handed_out (h.count + 1) (moment (run_of held specials h)) x t) b_is
+      ∙ ap (handed_out (h.count + 1) (moment (run_of held specials h)) (base_of (run_state held specials register).word.0)) t_is
 
-  module _ (new : Held) (new_sp : Specials) (new_h : Handouts) (rest : IsUnstepped mid new) (same : new_h.count ≡ mid_h.count) where
+  module _ (new : Held) (new_sp : Specials) (new_h : Handouts) (rest : IsUnstepped mid new) (same : new_h.count ≡ mid_h.count)
+      (harts : harts_in new_sp ≡ harts_in sp) where
     hands-out : (holders : ℕ) → holders ≡ first_holders (run_state held specials register)
-        → Sets (objects_of mid_h) slot (Some (with_held (handed_out (h.count + 1) (held.steps + 1) b t) holders)) (objects_of new_h)
+        → Sets (objects_of mid_h) slot (Some (with_held (handed_out (h.count + 1) (moment (run_of held specials h)) b t) holders)) (objects_of new_h)
         → run_state new new_sp ≡ run_state mid sp
         → ((other : ℕ) → run_owners new new_sp other ≡ at_key (run_owners held specials) register (owner_for (run_state held specials register) (Some slot)) other)
         → HandsOut (run_of held specials h) register slot (run_of new new_sp new_h)
@@ -146,6 +147,7 @@ module _ (held mid : Held) (specials sp : Specials) (h mid_h : Handouts) (regist
       state = state ∙ mid-state;
       owners = owners;
       count = same ∙ count;
+      harts = harts ∙ ap harts_in sp_is;
       rules = rest.0 ∙ ap (λ (x : Held). x.rules) mid_is;
       limits = rest.4 ∙ ap (λ (x : Held). x.limits) mid_is;
       roots = rest.2 ∙ ap (λ (x : Held). x.roots) mid_is;
@@ -162,7 +164,7 @@ module _ (held mid : Held) (specials sp : Specials) (h mid_h : Handouts) (regist
         let cap_is = run_state held specials register in
         let long : base_of cap_is.word.0 < top_of cap_is.word.0 = omega (arith, some, b_is, t_is) in
         let short : is_empty cap_is.word.0 ≡ false = lt-leb (top_of cap_is.word.0) (base_of cap_is.word.0) long in
-        hands-out 1 (sym (cond-false (is_empty cap_is.word.0) 0 1 short)) (given (handed_out (h.count + 1) (held.steps + 1) b t) adds.1.0) state
+        hands-out 1 (sym (cond-false (is_empty cap_is.word.0) 0 1 short)) (given (handed_out (h.count + 1) (moment (run_of held specials h)) b t) adds.1.0) state
         (λ other. owners other ∙ ap (λ (o : Owners). at_key o register (Some slot) other) mid-owners
         ∙ ap (λ (o : Option ℕ). at_key (run_owners held specials) register o other) (sym (owner_for-all cap_is (Some slot) capable long)))
 
@@ -181,7 +183,7 @@ module _ (held mid : Held) (specials sp : Specials) (h mid_h : Handouts) (regist
         | inl empty ↦ empty
         | inr long ↦ absurd (none (grind (arith, nat_tests, long, b_is, t_is)))
       ] in
-      hands-out mid sp mid_h (refl, refl, refl, refl, refl) refl 0 (sym (cond-true (is_empty cap_is.word.0) 0 1 short))
+      hands-out mid sp mid_h (refl, refl, refl, refl, refl) refl refl 0 (sym (cond-true (is_empty cap_is.word.0) 0 1 short))
       (adds.1.0, λ other differ. refl) refl
       (λ other. ap (λ (o : Owners). o other) mid-owners ∙ sym (unowned-put other (owner_for-empty cap_is (Some slot) short)))
 

@@ -15,6 +15,8 @@ mod StillHeldLemmas
 pub mod ErasureLemmas
 pub mod UsualRunLemmas
 mod PlaceLemmas
+mod HartLemmas
+mod SwitchLemmas
 mod OwnerLemmas
 mod ObjectLemmas
 mod ObjectEnds
@@ -31,6 +33,7 @@ mod NumberLemmas
 mod EndLemmas
 mod AnswerLemmas
 mod RunNumberLemmas
+mod HartRunLemmas
 mod GranuleLemmas
 mod RootLemmas
 mod UsualNumberLemmas

@@ -21,7 +21,7 @@ use Rattle.cap_run_log.specs.RunLines.{IsRunLineInRange, IsRunStepInRange}
 use Rattle.cap_run.specs.declared.{asks.Asks.Asks, ends.RunRefusal.RunRefusal}
 use Rattle.cap_run.specs.declared.ends.RunRefusal.TheVariants.{Usual}
 use Rattle.cap_run.specs.{Allowed.{DeclaresAt, IsLineAllowed, LineComesFrom, LineStaysWithin}, Descents.{line_parent, source_if}}
-use Rattle.cap_run.specs.{Run.{Run, first_special, register_key}, RunChanges.{account_in, granule_in, line_after, main_of, place_key, run_after, usual_after, with_freed}}
+use Rattle.cap_run.specs.{Harts.came_from, Run.{Run, first_special, register_key}, RunChanges.{account_in, granule_in, line_after, main_of, place_key, run_after, usual_after, with_freed}}
 use Rattle.cap_run.specs.{RunChecks.{asked_checks, passes_limit, root_end, run_end, usual_end}, RunSteps.{derived_refusal, invoked_refusal, is_pcc, or_later}}
 
 -- what a place then holds comes from what one held before: that was tagged, and the word is sound and reaches no more
@@ -311,6 +311,8 @@ stays_within asks run lines.Version range sound allowed key held = came run line
 stays_within asks run (lines.Mode mode) range sound allowed key held = came run (lines.Mode mode) key held (comes_here run.state key sound)
 stays_within asks run (lines.Plain version) range sound allowed key held = came run (lines.Plain version) key held (comes_here run.state key sound)
 stays_within asks run (lines.Root place word) range sound allowed key held = rooted asks run place word key sound allowed held
+stays_within asks run (lines.Hart hart) range sound allowed key held =
+    came run (lines.Hart hart) key held (comes_here run.state (came_from run.harts.current hart key) sound)
 stays_within asks run (lines.Step step) range sound allowed key held =
     came run (lines.Step step) key held (usual_comes asks run step key range sound allowed)
 stays_within asks run (lines.Run step) range sound allowed key held =

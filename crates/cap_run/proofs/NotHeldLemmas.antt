@@ -17,7 +17,7 @@ use Rattle.cap_run_log.specs.declared.lines.RunRegister.{RunRegister, TheVariant
 use Rattle.cap_run.specs.declared.{asks.Asks.Asks, ends.RunRefusal.RunRefusal}
 use Rattle.cap_run.specs.declared.ends.RunRefusal.TheVariants as refusals
 use Rattle.cap_run.specs.{ObjectSteps.{is_capability, object_refusal}, Run.Run, RunChanges.{account_in, granule_in, place_key}}
-use Rattle.cap_run.specs.RunChecks.{asked_checks, is_live, is_unowned, number_end, owner_end, passes_limit, root_end, usual_end, uses_freed}
+use Rattle.cap_run.specs.RunChecks.{asked_checks, hart_end, is_live, is_unowned, most_hart_lines, number_end, owner_end, passes_limit, root_end, usual_end, uses_freed}
 use Rattle.cap_run.specs.RunSteps.{derive_end, derive_refusal, derived_refusal, exchange_end, invoke_end, invoke_refusal, is_pcc, or_later, step_limit}
 use Rattle.cap_run.proofs.ChoiceLemmas.{last_checks}
 
@@ -41,6 +41,9 @@ limit_if false = tt
 
 pub limit_not : (run : Run) → NotHeld (step_limit run)
 limit_not run = limit_if (nat_le most_steps run.steps)
+
+pub hart_not : (run : Run) → NotHeld (hart_end run)
+hart_not run = limit_if (nat_le most_hart_lines run.harts.lines)
 
 derive_not : (fault : Option DeriveFault) → NotHeld (option_map derive_refusal fault)
 derive_not None = tt

@@ -6,7 +6,7 @@ use Rattle.cap_objects.specs.{Counts.at_key, Handed.{AddsObject, HasNoLive, IsLi
 use Rattle.cap_objects.specs.declared.handouts.NumberFault.TheVariants as numbers
 use Rattle.cap_run.specs.declared.ends.RunEnd.{RunEnd, TheVariants.Refused}
 use Rattle.cap_run.specs.declared.ends.RunRefusal.TheVariants.{AlreadyFreed, NoCapability, NoObject, NoOwner, Usual}
-use Rattle.cap_run.specs.{ObjectSteps.{ExtentEnds, WidenEnds, first_holders, object_refusal}, Owned.owner_for, Run.Run, RunSteps.step_limit}
+use Rattle.cap_run.specs.{ObjectSteps.{ExtentEnds, WidenEnds, first_holders, object_refusal}, Owned.owner_for, Run.{Run, moment}, RunSteps.step_limit}
 
 -- why `object cN` is refused
 abbrev pub ObjectEnds : Run → Bool → ℕ → RunEnd → Type 0
@@ -32,10 +32,11 @@ AgainEnds old keeps register number end =
 -- extent; it is live, and owns the register unless they are empty
 pub record HandsOut (old : Run) (register slot : ℕ) (new : Run) : Type 0 where
   pub adds : (let cap = old.state register in AddsObject old.objects slot
-      (with_held (handed_out (old.count + 1) (old.steps + 1) (base_of cap.word.0) (top_of cap.word.0)) (first_holders cap)) new.objects)
+      (with_held (handed_out (old.count + 1) (moment old) (base_of cap.word.0) (top_of cap.word.0)) (first_holders cap)) new.objects)
   pub state : new.state ≡ old.state
   pub owners : (other : ℕ) → new.owners other ≡ at_key old.owners register (owner_for (old.state register) (Some slot)) other
   pub count : new.count ≡ old.count + 1
+  pub harts : new.harts ≡ old.harts
   pub rules : new.rules ≡ old.rules
   pub limits : new.limits ≡ old.limits
   pub roots : new.roots ≡ old.roots

@@ -1,29 +1,29 @@
 -- Owners and counts where an object is handed out, widened, given or freed.
 use Rattle.std.proofs.Common.{◌≡◌, ◌==◌, ◌+◌, ◌-◌, ◌<◌, ◌≤◌, ℕ, Bool, true, false, Some, None, Option, inl, inr, length, IsSome, IsSomeAnd, not, ◌||◌, min, max}
 use Rattle.std.proofs.Common.{if◌then◌else◌, nat_lt, le-ltb, lt-ltb, refl, sym, ap, subst, ◌∙◌, arith, ne_eqb}
-use Rattle.std.proofs.lemmas.{Bool.{cases_Bool, cases_lt, cond-true, cond-false, false≢true, Decides.{eqb_tells, nat_tests}}, Option.{none-some, same_Some}, List.get_or_past}
+use Rattle.std.proofs.lemmas.{Bool.{cases_Bool, cases_lt, cond-true, cond-false, false≢true, Decides.{eqb_tells, nat_tests}}, Option.{none-some, same_Some}}
 use Rattle.cap_word.specs.declared.word.Cap.{Cap}
 use Rattle.cap_log.specs.declared.lines.Place.TheVariants.{Register}
 use Rattle.cap_machine.specs.{Helds.{Held, account_of, state_of}, Places.place_at, States.{State, put}}
 use Rattle.cap_objects.specs.Counts.{CountsAre, Moves, Owners, at_key, most_places, one_for}
-use Rattle.cap_objects.specs.{declared.objects.Object.Object, Extents.{Objects, Sets, is_present}, Handed.{freed_in, held_of, widened, with_held}, Indexes.kept, Objects.top_of_extent}
+use Rattle.cap_objects.specs.{declared.{moments.Moment.Moment, objects.Object.Object}, Extents.{Objects, Sets, is_present}, Handed.{freed_in, held_of, widened, with_held}, Indexes.kept, Objects.top_of_extent}
 use Rattle.cap_objects.proofs.BelowLemmas.{counts_where}
 use Rattle.cap_run.specs.declared.specials.Specials.{Specials}
 use Rattle.cap_run.specs.{Owned.{AreWithin, IsWithin, object_by}, Run.{first_special}, RunOf.{run_owners, run_state}, Specials.{label_in}}
-use Rattle.cap_run.proofs.OwnerLemmas.{either-key}
+use Rattle.cap_run.proofs.{OwnerLemmas.either-key, SwitchLemmas.label-far}
 
 -- past the places' keys nothing is owned
-pub unowned-far : (held : Held) (specials : Specials) (key : ℕ) → length specials.labels ≡ 32 → most_places ≤ key → run_owners held specials key ≡ None
+pub unowned-far : (held : Held) (specials : Specials) (key : ℕ) → length specials.registers.labels ≡ 32 → most_places ≤ key → run_owners held specials key ≡ None
 unowned-far held specials key sized far =
-    let past : nat_lt key first_special ≡ false = le-ltb key first_special (omega arith) in
-    let none : label_in specials (key - first_special) ≡ 0 = get_or_past specials.labels (key - first_special) 0 (omega (arith, sized)) in
+    let past : nat_lt key first_special ≡ false = le-ltb key first_special (omega (arith, far)) in
+    let none : label_in specials (key - first_special) ≡ 0 = label-far specials (key - first_special) (omega (arith, far)) in
     cond-false (nat_lt key first_special) (object_by ((account_of held).origin key)) _ past ∙ ap (λ (l : ℕ). object_by (place_at l)) none
 
 held_some : (o : Option Object) → 0 < held_of o → (x : Object) × (o ≡ Some x) × (0 < x.held)
 held_some None some = absurd (omega arith)
 held_some (Some x) some = (x, refl, some)
 
-module _ (held : Held) (specials : Specials) (objects : Objects) (sized : length specials.labels ≡ 32)
+module _ (held : Held) (specials : Specials) (objects : Objects) (sized : length specials.registers.labels ≡ 32)
     (counted : CountsAre (run_owners held specials) (λ n. held_of (objects n))) where
   -- each owner is present
   pub owner-there : (key slot : ℕ) → run_owners held specials key ≡ Some slot → (x : Object) × (objects slot ≡ Some x) × (0 < x.held)
@@ -132,7 +132,7 @@ held-kept o = elim (cases_Bool (is_present o)) [
   | inr gone ↦ ap held_of (cond-false (is_present o) (Some o) None gone) ∙ sym (not_held o.freed o.held gone)
 ]
 
-pub counts-freed : (owners : Owners) (objects after : Objects) (slot : ℕ) (o : Object) (step : ℕ) → objects slot ≡ Some o
+pub counts-freed : (owners : Owners) (objects after : Objects) (slot : ℕ) (o : Object) (step : Moment) → objects slot ≡ Some o
     → Sets objects slot (kept (freed_in step o)) after
     → CountsAre owners (λ n. held_of (objects n)) → CountsAre owners (λ n. held_of (after n))
 counts-freed owners objects after slot o step there set are n = elim (eqb_tells n slot) [
@@ -149,7 +149,7 @@ kept_some o x is = elim (cases_Bool (is_present o)) [
   | inr gone ↦ absurd (none-some x (sym (cond-false (is_present o) (Some o) None gone) ∙ is))
 ]
 
-pub within-freed : (state : State) (owners : Owners) (objects after : Objects) (slot : ℕ) (o : Object) (step : ℕ) → objects slot ≡ Some o
+pub within-freed : (state : State) (owners : Owners) (objects after : Objects) (slot : ℕ) (o : Object) (step : Moment) → objects slot ≡ Some o
     → Sets objects slot (kept (freed_in step o)) after → AreWithin state owners objects → AreWithin state owners after
 within-freed state owners objects after slot o step there set known key other x owned x_there = elim (eqb_tells other slot) [
   | inl same ↦

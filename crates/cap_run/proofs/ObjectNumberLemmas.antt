@@ -1,18 +1,16 @@
 -- The run by numbers after an object was handed out, widened or freed.
-use Rattle.std.specs.BTreeMap as tree
-use Rattle.std.specs.Ordering.{nat_cmp}
 use Rattle.std.proofs.{Common.{◌≡◌, ◌==◌, ◌+◌, ◌-◌, ◌&&◌, not, nat_lt, max, min, ℕ, true, Some, None, Option, inl, inr, length}, Math.Path.fun_ext}
 use Rattle.std.proofs.Common.{if◌then◌else◌, option_and_then, option_map, refl, sym, ap, subst, ◌∙◌, arith, ne_eqb, eq-eqb}
 use Rattle.std.proofs.lemmas.{Bool.{cases_Bool, cond-true, cond-false, Decides.eqb_tells}, Option.{none-some, same_Some}}
 use Rattle.cap_word.specs.declared.word.Cap.{Cap}
 use Rattle.cap_bounds.specs.Bounds.{base_of, top_of}
 use Rattle.cap_machine.specs.{Helds.Held, States.put}
-use Rattle.cap_objects.specs.{Counts.{CountsAre, Owners, at_key}, declared.{handouts.Handouts.Handouts, objects.Object.Object}, HandoutsIn.objects_of}
+use Rattle.cap_objects.specs.{Counts.{CountsAre, Owners, at_key}, declared.{handouts.Handouts.Handouts, objects.Object.Object}, HandoutsIn.{objects_of, slot_numbered}}
 use Rattle.cap_objects.specs.{Extents.Objects, Handed.{IsLive, freed_in, handed_out, held_of, widened, with_held}, Indexes.kept, Objects.top_of_extent}
 use Rattle.cap_objects.proofs.KeyLemmas.{choice_under}
 use Rattle.cap_run_log.specs.declared.lines.RunStep.TheVariants as steps
 use Rattle.cap_run.specs.{declared.specials.Specials.Specials, Numbers.{by_number, number_at, numbered, numbered_run}, ObjectSteps.{Frees, Widens, first_holders}}
-use Rattle.cap_run.specs.{Owned.{is_empty, owner_for}, RunChanges.{counted, run_after, with_freed}, RunOf.{run_of, run_owners, run_state}}
+use Rattle.cap_run.specs.{Owned.{is_empty, owner_for}, Run.moment, RunChanges.{counted, run_after, with_freed}, RunOf.{run_of, run_owners, run_state}}
 use Rattle.cap_run.proofs.{ChangeLemmas.{counted-put, kept-by, number-of, present-by, renumbered}, NumberLemmas.{alone-at, at-number}, RunNumberLemmas.run-is}
 use Rattle.cap_run.proofs.{ObjectLemmas.{kept_some, owner-there}, OwnerLemmas.either-key}
 use Rattle.cap_run.proofs.ObjectEnds.{HandsOut}
@@ -47,7 +45,7 @@ widened-number o base top =
       | inr none ↦ ap (λ (w : Object). w.number) (cond-false (nat_lt low high) wide o none)
     ]
 
-module _ (held new : Held) (specials sp : Specials) (h after : Handouts) (sized : length specials.labels ≡ 32) (new_sized : length sp.labels ≡ 32)
+module _ (held new : Held) (specials sp : Specials) (h after : Handouts) (sized : length specials.registers.labels ≡ 32) (new_sized : length sp.registers.labels ≡ 32)
     (counts : CountsAre (run_owners held specials) (λ n. held_of (objects_of h n)))
     (new_counts : CountsAre (run_owners new sp) (λ n. held_of (objects_of after n))) where
   there : (key slot : ℕ) → run_owners held specials key ≡ Some slot → (o : Object) × (objects_of h slot ≡ Some o)
@@ -62,7 +60,7 @@ module _ (held new : Held) (specials sp : Specials) (h after : Handouts) (sized 
   handed-number register slot hands =
       let cap = run_state held specials register in
       let number = h.count + 1 in
-      let object = handed_out number (held.steps + 1) (base_of cap.word.0) (top_of cap.word.0) in
+      let object = handed_out number (moment (run_of held specials h)) (base_of cap.word.0) (top_of cap.word.0) in
       let added = with_held object (first_holders cap) in
       let known = kept-by h in
       let known_after = kept-by after in
@@ -73,7 +71,7 @@ module _ (held new : Held) (specials sp : Specials) (h after : Handouts) (sized 
       (λ key s is.
       let o = there key s is in
       (o.0, o.0, o.1, set.1 s (λ e. none-some o.0 (sym free ∙ ap (objects_of h) (sym e) ∙ o.1)) ∙ o.1, refl)) in
-      let objects_are = counted-put (objects_of h) (objects_of after) (tree.get nat_cmp h.numbers) (tree.get nat_cmp after.numbers) known.numbered
+      let objects_are = counted-put (objects_of h) (objects_of after) (slot_numbered h) (slot_numbered after) known.numbered
       known_after.numbered (run_owners new sp) new_counts (present-by after) slot number (Some added) (Some object) set
       (λ o is. absurd (none-some o (sym free ∙ is)))
       (λ s o is same. let few = known.few s o is in absurd (omega (arith, few, same)))
@@ -82,8 +80,8 @@ module _ (held new : Held) (specials sp : Specials) (h after : Handouts) (sized 
       (λ is. absurd (none-some added (sym is))) in
       run-is (numbered_run new sp after) (run_after (numbered_run held specials h) (steps.Object register))
       hands.state owners_are
-      (objects_are ∙ ap (counted (put (by_number (tree.get nat_cmp h.numbers) (objects_of h)) number (Some object))) owners_are)
-      hands.count hands.rules hands.limits hands.roots hands.steps hands.is_named hands.granules
+      (objects_are ∙ ap (counted (put (by_number (slot_numbered h) (objects_of h)) number (Some object))) owners_are)
+      hands.count hands.rules hands.limits hands.roots hands.steps hands.is_named hands.granules hands.harts
 
   -- `object cN K`
   pub widened-by_number : (register number slot : ℕ) → IsLive (objects_of h) number slot → Widens (run_of held specials h) register slot (run_of new sp after)
@@ -109,12 +107,12 @@ module _ (held new : Held) (specials sp : Specials) (h after : Handouts) (sized 
             (o.0, grown, o.1, ap (objects_of after) same.1 ∙ set.0, ap (λ (y : Object). y.number) o_is ∙ live.number ∙ sym grown_number)
         | inr unlike ↦ (o.0, o.0, o.1, set.1 s unlike.1 ∙ o.1, refl)
       ]) in
-      let index = tree.get nat_cmp h.numbers in
+      let index = slot_numbered h in
       let before = option_map (λ o. widened o base top) (by_number index (objects_of h) number) in
       let before_is : before ≡ Some wide =
       ap (option_map (λ o. widened o base top))
       (ap (by_number index (objects_of h)) (sym live.number) ∙ at-number (objects_of h) index known.numbered slot x live.there) in
-      let objects_are = counted-put (objects_of h) (objects_of after) index (tree.get nat_cmp after.numbers) known.numbered
+      let objects_are = counted-put (objects_of h) (objects_of after) index (slot_numbered after) known.numbered
       known_after.numbered (run_owners new sp) new_counts (present-by after) slot number (Some grown) before set
       (λ o is. ap (λ (y : Object). y.number) (same_Some o x (sym is ∙ live.there)) ∙ live.number)
       (λ s o is same. alone-at (objects_of h) index known.numbered s slot o x is live.there (same ∙ sym live.number))
@@ -124,14 +122,14 @@ module _ (held new : Held) (specials sp : Specials) (h after : Handouts) (sized 
       run-is (numbered_run new sp after) (run_after (numbered_run held specials h) (steps.Widen register number))
       widens.state owners_are
       (objects_are ∙ ap (counted (put (by_number index (objects_of h)) number before)) owners_are)
-      widens.rest.count widens.rest.rules widens.rest.limits widens.rest.roots widens.rest.steps widens.rest.is_named widens.rest.granules
+      widens.rest.count widens.rest.rules widens.rest.limits widens.rest.roots widens.rest.steps widens.rest.is_named widens.rest.granules widens.rest.harts
 
   -- `free K`
   pub freed-number : (number slot : ℕ) → IsLive (objects_of h) number slot → Frees (run_of held specials h) slot (run_of new sp after)
       → numbered_run new sp after ≡ with_freed (numbered_run held specials h) (Some number)
   freed-number number slot live frees =
       let x = live.object in
-      let gone = freed_in (held.steps + 1) x in
+      let gone = freed_in (moment (run_of held specials h)) x in
       let known = kept-by h in
       let known_after = kept-by after in
       let set = frees.objects x live.there in
@@ -153,12 +151,12 @@ module _ (held new : Held) (specials sp : Specials) (h after : Handouts) (sized 
           ap (λ (y : Object). y.number) (same_Some o.0 p.0 (sym o.1 ∙ sym (set.1 s unlike.1) ∙ p.1)),
         )
       ])) in
-      let index = tree.get nat_cmp h.numbers in
-      let before = option_map (freed_in (held.steps + 1)) (by_number index (objects_of h) number) in
+      let index = slot_numbered h in
+      let before = option_map (freed_in (moment (run_of held specials h))) (by_number index (objects_of h) number) in
       let before_is : before ≡ Some gone =
-      ap (option_map (freed_in (held.steps + 1)))
+      ap (option_map (freed_in (moment (run_of held specials h))))
       (ap (by_number index (objects_of h)) (sym live.number) ∙ at-number (objects_of h) index known.numbered slot x live.there) in
-      let objects_are = counted-put (objects_of h) (objects_of after) index (tree.get nat_cmp after.numbers) known.numbered
+      let objects_are = counted-put (objects_of h) (objects_of after) index (slot_numbered after) known.numbered
       known_after.numbered (run_owners new sp) new_counts (present-by after) slot number (kept gone) before set
       (λ o is. ap (λ (y : Object). y.number) (same_Some o x (sym is ∙ live.there)) ∙ live.number)
       (λ s o is same. alone-at (objects_of h) index known.numbered s slot o x is live.there (same ∙ sym live.number))
@@ -168,4 +166,4 @@ module _ (held new : Held) (specials sp : Specials) (h after : Handouts) (sized 
       run-is (numbered_run new sp after) (with_freed (numbered_run held specials h) (Some number))
       frees.state owners_are
       (objects_are ∙ ap (counted (put (by_number index (objects_of h)) number before)) owners_are)
-      frees.rest.count frees.rest.rules frees.rest.limits frees.rest.roots frees.rest.steps frees.rest.is_named frees.rest.granules
+      frees.rest.count frees.rest.rules frees.rest.limits frees.rest.roots frees.rest.steps frees.rest.is_named frees.rest.granules frees.rest.harts

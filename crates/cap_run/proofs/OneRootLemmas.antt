@@ -8,7 +8,7 @@ use Rattle.cap_run_log.specs.declared.lines.RunLine.TheVariants as lines
 use Rattle.cap_run_log.specs.declared.lines.RunStep.TheVariants as steps
 use Rattle.cap_run.specs.{Allowed.{AreAllowed, DescendsFromOne}, declared.asks.Asks.Asks}
 use Rattle.cap_run.specs.Descents.{Descends, DescendsFrom, line_parent}
-use Rattle.cap_run.specs.{Run.Run, RunChanges.{line_after, no_run, place_key, with_freed}}
+use Rattle.cap_run.specs.{Harts.came_from, Run.Run, RunChanges.{line_after, no_run, place_key, root_after, run_after, with_freed}}
 use Rattle.cap_run.proofs.{DescentLemmas.{along, along-append, along-fold, allowed_parts}, LineLemmas.{freed-state, root_free}}
 
 -- there is one chain of parents
@@ -26,10 +26,9 @@ between run (line ∷ before) after key from (first, chain, parent) =
     let rest = between (line_after run line) before after key first chain in
     (rest.0, rest.1, (first, rest.2, parent))
 
--- a line is a step, and is counted, or each place keeps its tag and comes from itself
+-- a line is a step, and is counted, or what comes from a tagged place is tagged
 record IsQuiet (run : Run) (line : RunLine) : Type 0 where
-  pub own : (key : ℕ) → line_parent run line key ≡ Some key
-  pub keeps : (key : ℕ) → (run.state key).tag ≡ true → ((line_after run line).state key).tag ≡ true
+  pub keeps : (key from : ℕ) → line_parent run line key ≡ Some from → (run.state from).tag ≡ true → ((line_after run line).state key).tag ≡ true
   pub steps_are : (line_after run line).steps ≡ run.steps
 
 record IsCounted (run : Run) (line : RunLine) : Type 0 where
@@ -39,11 +38,16 @@ kept_if : (hit : Bool) (word : Word) (cap : Cap) → cap.tag ≡ true → (if hi
 kept_if true word cap held = refl
 kept_if false word cap held = held
 
+-- where each place comes from itself
+kept_own : (before after : State) → ((key : ℕ) → (before key).tag ≡ true → (after key).tag ≡ true)
+    → (key from : ℕ) → Some key ≡ Some from → (before from).tag ≡ true → (after key).tag ≡ true
+kept_own before after keeps key from is held = keeps key (subst (λ (k : ℕ). (before k).tag ≡ true) (sym (same_Some key from is)) held)
+
 freed_kind : (run : Run) (register : ℕ) (owner : Option ℕ) → run.owners register ≡ owner
     → IsQuiet run (lines.Run (steps.FreeOwner register)) ⊎ IsCounted run (lines.Run (steps.FreeOwner register))
 freed_kind run register None is = inl (record {
-  own = λ key. refl;
-  keeps = λ key held. ap (λ (state : State). (state key).tag) (freed-state run (run.owners register)) ∙ held;
+  keeps = kept_own run.state (run_after run (steps.FreeOwner register)).state
+      (λ key held. ap (λ (state : State). (state key).tag) (freed-state run (run.owners register)) ∙ held);
   steps_are = ap (λ (o : Option ℕ). (with_freed run o).steps) is;
 })
 freed_kind run register (Some number) is = inr (record { steps_are = ap (λ (o : Option ℕ). (with_freed run o).steps) is })
@@ -54,10 +58,19 @@ step_kind run step = inr (record { steps_are = refl })
 
 kind_of : (run : Run) (line : RunLine) → IsQuiet run line ⊎ IsCounted run line
 kind_of run (lines.Root place word) =
-    inl (record { own = λ key. refl; keeps = λ key held. kept_if (place_key place == key) word (run.state key) held; steps_are = refl })
+    inl (record {
+      keeps = kept_own run.state (root_after run place word).state (λ key held. kept_if (place_key place == key) word (run.state key) held);
+      steps_are = refl;
+    })
+kind_of run (lines.Hart hart) =
+    inl (record {
+      keeps = λ key from is held.
+          subst (λ (k : ℕ). (run.state k).tag ≡ true) (sym (same_Some (came_from run.harts.current hart key) from is)) held;
+      steps_are = refl;
+    })
 kind_of run (lines.Step step) = inr (record { steps_are = refl })
 kind_of run (lines.Run step) = step_kind run step
-kind_of run line = inl (record { own = λ key. refl; keeps = λ key held. held; steps_are = refl })
+kind_of run line = inl (record { keeps = kept_own run.state run.state (λ key held. held); steps_are = refl })
 
 pub steps_grow : (run : Run) (read : List RunLine) → run.steps ≤ (along run read).steps
 steps_grow run [] = omega arith
@@ -68,22 +81,14 @@ steps_grow run (line ∷ rest) =
       | inr counted ↦ omega (arith, later, counted.steps_are)
     ]
 
--- lines with no step among them: each place keeps its tag and comes from itself
-record AreQuiet (run : Run) (read : List RunLine) : Type 0 where
-  pub own : (key from : ℕ) → Descends run read key from → key ≡ from
-  pub keeps : (key : ℕ) → (run.state key).tag ≡ true → ((along run read).state key).tag ≡ true
-
-no_step_yet : (run : Run) (read : List RunLine) → (along run read).steps ≡ 0 → AreQuiet run read
-no_step_yet run [] none = record { own = λ key from chain. chain; keeps = λ key held. held }
-no_step_yet run (line ∷ rest) none =
+-- where no line was a step, what descends from a tagged place is tagged
+no_step_yet : (run : Run) (read : List RunLine) → (along run read).steps ≡ 0 → (key from : ℕ) → Descends run read key from
+    → (run.state from).tag ≡ true → ((along run read).state key).tag ≡ true
+no_step_yet run [] none key from chain held = subst (λ (k : ℕ). (run.state k).tag ≡ true) (sym chain) held
+no_step_yet run (line ∷ rest) none key from chain held =
     let after = line_after run line in
-    let later = no_step_yet after rest none in
     elim (kind_of run line) [
-      | inl quiet ↦ record {
-        own = λ key from chain.
-            later.own key chain.0 chain.1 ∙ same_Some chain.0 from (sym (quiet.own chain.0) ∙ chain.2);
-        keeps = λ key held. later.keeps key (quiet.keeps key held);
-      }
+      | inl quiet ↦ no_step_yet after rest none key chain.0 chain.1 (quiet.keeps chain.0 from chain.2 held)
       | inr counted ↦ absurd (let grow = steps_grow after rest in omega (arith, grow, none, counted.steps_are))
     ]
 
@@ -104,19 +109,18 @@ declared_later asks before mid after place other word another key allowed first_
     let parts = allowed_parts asks first mid (later ∷ after) whole.1.2 in
     let free = root_free second other another parts.1.1 in
     let none : second.steps ≡ 0 = let few = ltb-false 0 second.steps free.first in omega (arith, few) in
-    let quiet = no_step_yet first mid none in
     let chain = between first mid (later ∷ after) key (place_key place)
     (subst (λ (run : Run). Descends run (mid ++ (later ∷ after)) key (place_key place)) (along-append no_run before (root ∷ [])) first_chain) in
     let third_is : along no_run ((before ++ (root ∷ mid)) ++ (later ∷ [])) ≡ third =
     along-append no_run (before ++ (root ∷ mid)) (later ∷ []) ∙ ap (λ (run : Run). line_after run later) (along-append no_run before (root ∷ mid)) in
     let there = one_chain third after key chain.1.0 (place_key other) chain.1.1
     (subst (λ (run : Run). Descends run after key (place_key other)) third_is second_chain) in
-    let same : place_key place ≡ place_key other =
-    sym (quiet.own chain.0 (place_key place) chain.2) ∙ sym (same_Some chain.1.0 chain.0 chain.1.2) ∙ there in
+    let same : chain.0 ≡ place_key other = sym (same_Some chain.1.0 chain.0 chain.1.2) ∙ there in
     let held : (first.state (place_key place)).tag ≡ true =
     ap (λ (cap : Cap). cap.tag) (cond-true (place_key place == place_key place) (tagged word) (zeroth.state (place_key place))
     (eq-eqb (place_key place) (place_key place) refl)) in
-    false≢true (sym free.untaken ∙ ap (λ (at : ℕ). (second.state at).tag) (sym same) ∙ quiet.keeps (place_key place) held)
+    false≢true (sym free.untaken ∙ ap (λ (at : ℕ). (second.state at).tag) (sym same)
+    ∙ no_step_yet first mid none chain.0 (place_key place) chain.2 held)
 
 same_first : (x y : RunLine) (xs ys : List RunLine) → x ∷ xs ≡ y ∷ ys → x ≡ y
 same_first x y xs ys is = cc

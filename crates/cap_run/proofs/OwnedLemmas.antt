@@ -53,6 +53,7 @@ owned_access asks run lines.Version asked allowed access number object is few th
 owned_access asks run (lines.Mode mode) asked allowed access number object is few there live share = absurd (none-some access is)
 owned_access asks run (lines.Plain version) asked allowed access number object is few there live share = absurd (none-some access is)
 owned_access asks run (lines.Root place word) asked allowed access number object is few there live share = absurd (none-some access is)
+owned_access asks run (lines.Hart hart) asked allowed access number object is few there live share = absurd (none-some access is)
 owned_access asks run (lines.Run step) asked allowed access number object is few there live share = absurd (none-some access is)
 owned_access asks run (lines.End count) asked allowed access number object is few there live share = absurd (none-some access is)
 
@@ -63,6 +64,7 @@ freed_unused asks run lines.Version access used allowed is = absurd (none-some a
 freed_unused asks run (lines.Mode mode) access used allowed is = absurd (none-some access is)
 freed_unused asks run (lines.Plain version) access used allowed is = absurd (none-some access is)
 freed_unused asks run (lines.Root place word) access used allowed is = absurd (none-some access is)
+freed_unused asks run (lines.Hart hart) access used allowed is = absurd (none-some access is)
 freed_unused asks run (lines.Run step) access used allowed is = absurd (none-some access is)
 freed_unused asks run (lines.End count) access used allowed is = absurd (none-some access is)
 

@@ -17,8 +17,13 @@ use Rattle.std.proofs.Common.{is_some}
 use Rattle.tagmem.specs.Granules.{Granules}
 use Rattle.cap_machine.specs.Helds.{Held}
 use Rattle.cap_objects.specs.declared.handouts.Handouts.{Handouts}
-use Rattle.cap_run.specs.{declared.specials.Specials.Specials, RunOf.run_of, RunSteps.{IsStepped, IsUnstepped}}
+use Rattle.cap_run.specs.{declared.specials.Specials.Specials, Specials.harts_in, RunOf.run_of, RunSteps.{IsStepped, IsUnstepped}}
 use Rattle.cap_run.specs.{Owned.{AreWithin, IsWithin, is_empty, owner_for}, Run.register_key}
+
+-- what is written can be read
+pub readable : (register : RunRegister) → IsRunRegister 1 register → IsRunRegister 0 register
+readable (General number) fits = fits.1
+readable (Special number) fits = fits
 
 pub source-low : (register : RunRegister) → IsRunRegister 0 register → register_key register < most_places
 source-low (General number) range = omega (arith, range)
@@ -116,10 +121,11 @@ came-written old owners after key from cap sound stays after_is other slot is = 
 
 -- a step that changed registers alone was counted
 pub stepped : (old mid new : Held) (specials special_after : Specials) (handouts after : Handouts) → IsUnstepped old mid
-    → new ≡ record mid { steps = mid.steps + 1 } → after.count ≡ handouts.count
+    → new ≡ record mid { steps = mid.steps + 1 } → after.count ≡ handouts.count → harts_in special_after ≡ harts_in specials
     → IsStepped (run_of old specials handouts) (run_of new special_after after)
-stepped old mid new specials special_after handouts after same is count = record {
+stepped old mid new specials special_after handouts after same is count harts = record {
   count = count;
+  harts = harts;
   rules = ap (λ (h : Held). h.rules) is ∙ same.0;
   limits = ap (λ (h : Held). h.limits) is ∙ same.4;
   roots = ap (λ (h : Held). h.roots) is ∙ same.2;

@@ -6,8 +6,8 @@ use Rattle.cap_objects.specs.{Handed.{freed_in, with_held}, Indexes.kept}
 use Rattle.cap_run_log.specs.declared.lines.{RunLine.RunLine, RunStep.RunStep}
 use Rattle.cap_run_log.specs.declared.lines.RunLine.TheVariants as lines
 use Rattle.cap_run_log.specs.declared.lines.RunStep.TheVariants as steps
-use Rattle.cap_run.specs.{Descents.run_along, Run.Run, RunChanges.{line_after, no_run, run_after, stepped, with_freed, with_object}}
-use Rattle.cap_run.proofs.{DescentLemmas.{along, along-fold}, MeetingLemmas.below-which, OwnerLemmas.either-key}
+use Rattle.cap_run.specs.{Descents.run_along, Run.{Run, moment}, RunChanges.{line_after, no_run, run_after, stepped, with_freed, with_object}}
+use Rattle.cap_run.proofs.{DescentLemmas.{along, along-fold}, HartLemmas.owned-moved, MeetingLemmas.below-which, OwnerLemmas.either-key}
 
 -- an object's number is one of those handed out; it is present, and its count is that of the places that it owns
 pub record IsCounted (run : Run) (number : ℕ) (object : Object) : Type 0 where
@@ -64,7 +64,7 @@ few_of run known number object is = (known number object is).few
 freed_counted : (run : Run) (owner : Option ℕ) → AreCounted run → AreCounted (with_freed run owner)
 freed_counted run None known = known
 freed_counted run (Some number) known =
-    stepped_counted (with_object run number (option_map (freed_in (run.steps + 1)) (run.objects number))) (changed_few run number _ (few_of run known))
+    stepped_counted (with_object run number (option_map (freed_in (moment run)) (run.objects number))) (changed_few run number _ (few_of run known))
 
 run_counted : (run : Run) (step : RunStep) → AreCounted run → AreCounted (run_after run step)
 run_counted run (steps.Object register) known = stepped_counted _ (λ other object is. added_few run _ other object (few_of run known) is)
@@ -80,6 +80,9 @@ line_counted run (lines.Mode mode) known =
     λ number object is. let k = known number object is in record { few = k.few; present = k.present; held = k.held }
 line_counted run (lines.Root place word) known =
     λ number object is. let k = known number object is in record { few = k.few; present = k.present; held = k.held }
+line_counted run (lines.Hart hart) known = λ number object is.
+    let k = known number object is in
+    record { few = k.few; present = k.present; held = k.held ∙ sym (owned-moved run.owners run.harts.current hart number) }
 line_counted run (lines.Step step) known = stepped_counted _ (few_of run known)
 line_counted run (lines.Run step) known = run_counted run step known
 line_counted run (lines.End count) known = known

@@ -18,7 +18,7 @@ use Rattle.cap_run.specs.declared.{ends.{RunRefusal.{RunRefusal, TheVariants.Usu
 use Rattle.cap_run.specs.{Numbers.{by_number, numbered, numbered_run}, Owned.{AreWithin, IsWithin, object_by}, RootSteps.{CountsRoot, EndsCount, count_checks}, Run.{Run, first_special, with_specials}}
 use Rattle.cap_run_log.specs.UsualLines.{in_run}
 use Rattle.cap_run.specs.{RunChanges.root_after, RunChecks.{Answers, root_end, root_wants, usual_ended}, RunOf.{run_owners, run_state}}
-use Rattle.cap_run.specs.Specials.{cap_in, label_in}
+use Rattle.cap_run.specs.Specials.{cap_in, harts_in, label_in}
 use Rattle.cap_run.proofs.{GranuleLemmas.put-kept, PlaceLemmas.{choice_under, with-main, with-special}, RunNumberLemmas.{index_in, run-is}, UsualLemmas.place-low}
 
 -- the first of the checks of version 2 that fails
@@ -203,6 +203,7 @@ run_by account specials h =
       owners = numbered objects (with_specials (λ key. object_by (account.origin key)) (λ number. object_by (place_at (label_in specials number))));
       objects = by_number (index_in h) objects;
       count = h.count;
+      harts = harts_in specials;
       rules = account.rules;
       limits = account.limits;
       roots = account.roots;
@@ -237,6 +238,7 @@ ended-root old place word NoMemory new is = is.2
 -- a root that was put into a special register
 module _ (held new : Held) (specials sp : Specials) (h : Handouts) (number : ℕ) (word : Word)
     (caps : cap_in sp ≡ put (cap_in specials) number (tagged word)) (labels : label_in sp ≡ put (label_in specials) number 1)
+    (harts : harts_in sp ≡ harts_in specials)
     (counts : CountsRoot held word new) where
   pub special-state : run_state new sp ≡ put (run_state held specials) (first_special + number) (tagged word)
   special-state =
@@ -261,7 +263,7 @@ module _ (held new : Held) (specials sp : Specials) (h : Handouts) (number : ℕ
       run-is (numbered_run new sp h) (root_after run (Special number) word) special-state
       (ap (numbered (objects_of h)) (root-owners held new specials sp h (first_special + number) word special-state unowned special-owners))
       refl refl (ap (λ (a : Account). a.rules) counts.account) (ap (λ (a : Account). a.limits) counts.account) (ap (λ (a : Account). a.roots) counts.account) (ap (λ (a : Account). a.steps) counts.account)
-      (ap (λ (a : Account). a.is_named) counts.account) (ap (λ (a : Account). a.granules) counts.account)
+      (ap (λ (a : Account). a.is_named) counts.account) (ap (λ (a : Account). a.granules) counts.account) harts
 
 -- why it isn't put
 pub special-end : (held : Held) (specials : Specials) (h : Handouts) (number : ℕ) (word : Word) → held.steps ≡ 0 → (cap_in specials number).tag ≡ false
@@ -297,14 +299,14 @@ main-after held new specials h (Register n) word low unowned account =
     run-is (numbered_run new specials h) (root_after run (in_run (Register n)) word) state
     (ap (numbered (objects_of h)) (root-owners held new specials specials h n word state unowned (main-owners held specials h (Register n) word low new account)))
     refl refl (ap (λ (a : Account). a.rules) account) (ap (λ (a : Account). a.limits) account) (ap (λ (a : Account). a.roots) account) (ap (λ (a : Account). a.steps) account)
-    (ap (λ (a : Account). a.is_named) account) (ap (λ (a : Account). a.granules) account)
+    (ap (λ (a : Account). a.is_named) account) (ap (λ (a : Account). a.granules) account) refl
 main-after held new specials h (Granule n) word low unowned account =
     let run = numbered_run held specials h in
     let state = main-state held specials h (Granule n) word low new account in
     run-is (numbered_run new specials h) (root_after run (in_run (Granule n)) word) state
     (ap (numbered (objects_of h)) (root-owners held new specials specials h (key_of (Granule n)) word state unowned (main-owners held specials h (Granule n) word low new account)))
     refl refl (ap (λ (a : Account). a.rules) account) (ap (λ (a : Account). a.limits) account) (ap (λ (a : Account). a.roots) account) (ap (λ (a : Account). a.steps) account)
-    (ap (λ (a : Account). a.is_named) account) (ap (λ (a : Account). a.granules) account)
+    (ap (λ (a : Account). a.is_named) account) (ap (λ (a : Account). a.granules) account) refl
 
 -- the place of a root that was taken held no tag
 pub taken-free : (account : Account) (place : Place) (word : Word) → first_of (root_checks account place word) ≡ None → (account.state (key_of place)).tag ≡ false

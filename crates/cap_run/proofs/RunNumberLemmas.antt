@@ -1,6 +1,4 @@
 -- Runs by the numbers of objects, after a step.
-use Rattle.std.specs.BTreeMap as tree
-use Rattle.std.specs.Ordering.{nat_cmp}
 use Rattle.std.proofs.Common.{◌≡◌, ◌≢◌, ◌==◌, ◌&&◌, not, ℕ, Bool, true, false, Some, None, Option, option_and_then, if◌then◌else◌, length}
 use Rattle.std.proofs.Common.{refl, sym, ap, subst, ◌∙◌}
 use Rattle.std.proofs.Math.Path.{fun_ext}
@@ -8,28 +6,29 @@ use Rattle.std.proofs.lemmas.{Option.{none-some, same_Some}}
 use Rattle.cap_word.specs.declared.word.Cap.{Cap}
 use Rattle.cap_machine.specs.{declared.{limits.Limits.Limits, rules.Rules.Rules}, Helds.Held, States.{State, granule_key, put}}
 use Rattle.cap_objects.specs.Counts.{CountsAre, Owners, at_key}
-use Rattle.cap_objects.specs.{declared.{handouts.Handouts.Handouts, objects.Object.Object}, Extents.Objects, Handed.{IsRecounted, held_of}, HandoutsIn.objects_of}
+use Rattle.cap_objects.specs.{declared.{handouts.Handouts.Handouts, objects.Object.Object}, Extents.Objects, Handed.{IsRecounted, held_of}, HandoutsIn.{objects_of, slot_numbered}}
 use Rattle.cap_objects.specs.Indexes.{IsIndex, number_key}
 use Rattle.cap_objects.proofs.KeyLemmas.{at-same, choice_under}
-use Rattle.cap_run.specs.declared.{specials.Specials.Specials}
+use Rattle.cap_run.specs.{declared.specials.Specials.Specials, Harts.Harts}
 use Rattle.cap_run.specs.{Numbers.{by_number, number_at, numbered, numbered_run}, Owned.{is_empty, owner_for}, Run.Run, GranuleSteps.Fills, RunChanges.{counted, stepped, with_named, with_place}}
 use Rattle.cap_run.specs.{RunOf.{run_of, run_owners, run_state}, RunSteps.{Writes, WritesBoth}, Safety.IsSafe}
 use Rattle.cap_run.proofs.{NumberLemmas.{alone-at, at-number, owned-number, owner-of, recounted-numbers, renumbered, slot-of}, ObjectLemmas.owner-there}
 
 -- runs of the same parts
 pub run-is : (a b : Run) → a.state ≡ b.state → a.owners ≡ b.owners → a.objects ≡ b.objects → a.count ≡ b.count → a.rules ≡ b.rules → a.limits ≡ b.limits
-    → a.roots ≡ b.roots → a.steps ≡ b.steps → a.is_named ≡ b.is_named → a.granules ≡ b.granules → a ≡ b
-run-is a b state owners objects count rules limits roots steps is_named granules =
+    → a.roots ≡ b.roots → a.steps ≡ b.steps → a.is_named ≡ b.is_named → a.granules ≡ b.granules → a.harts ≡ b.harts → a ≡ b
+run-is a b state owners objects count rules limits roots steps is_named granules harts =
     ap (λ (x : State). record a { state = x }) state
     ∙ ap (λ (x : Owners). record a { state = b.state; owners = x }) owners
     ∙ ap (λ (x : Objects). record a { state = b.state; owners = b.owners; objects = x }) objects
     ∙ ap (λ (x : ℕ). record a { state = b.state; owners = b.owners; objects = b.objects; count = x }) count
-    ∙ ap (λ (x : Rules). record b { rules = x; limits = a.limits; roots = a.roots; steps = a.steps; is_named = a.is_named; granules = a.granules }) rules
-    ∙ ap (λ (x : Limits). record b { limits = x; roots = a.roots; steps = a.steps; is_named = a.is_named; granules = a.granules }) limits
-    ∙ ap (λ (x : ℕ). record b { roots = x; steps = a.steps; is_named = a.is_named; granules = a.granules }) roots
-    ∙ ap (λ (x : ℕ). record b { steps = x; is_named = a.is_named; granules = a.granules }) steps
-    ∙ ap (λ (x : ℕ → Bool). record b { is_named = x; granules = a.granules }) is_named
-    ∙ ap (λ (x : ℕ). record b { granules = x }) granules
+    ∙ ap (λ (x : Rules). record b { harts = a.harts; rules = x; limits = a.limits; roots = a.roots; steps = a.steps; is_named = a.is_named; granules = a.granules }) rules
+    ∙ ap (λ (x : Limits). record b { harts = a.harts; limits = x; roots = a.roots; steps = a.steps; is_named = a.is_named; granules = a.granules }) limits
+    ∙ ap (λ (x : ℕ). record b { harts = a.harts; roots = x; steps = a.steps; is_named = a.is_named; granules = a.granules }) roots
+    ∙ ap (λ (x : ℕ). record b { harts = a.harts; steps = x; is_named = a.is_named; granules = a.granules }) steps
+    ∙ ap (λ (x : ℕ → Bool). record b { harts = a.harts; is_named = x; granules = a.granules }) is_named
+    ∙ ap (λ (x : ℕ). record b { harts = a.harts; granules = x }) granules
+    ∙ ap (λ (x : Harts). record b { harts = x }) harts
 
 owner_for-none : (cap : Cap) → owner_for cap None ≡ None
 owner_for-none held = same-choice (held.tag && not (is_empty held.word.0)) None
@@ -40,7 +39,7 @@ owner_for-none held = same-choice (held.tag && not (is_empty held.word.0)) None
 
 -- the index of a machine's objects by their numbers
 abbrev pub index_in : Handouts → ℕ → Option ℕ
-index_in h = tree.get nat_cmp h.numbers
+index_in h = slot_numbered h
 
 abbrev pub IsNumbered : Handouts → Type 0
 IsNumbered h = IsIndex number_key (objects_of h) (index_in h)
@@ -86,7 +85,7 @@ numbered-same held new specials sp h after index reindex is =
     ∙ ap (λ (o : Objects). record (numbered_run held specials h) { objects = o })
     (same-numbers (objects_of h) (index_in after) (index_in h) (subst (λ (o : Objects). IsIndex number_key o (index_in after)) objects reindex) index)
 
-module _ (held new : Held) (specials sp : Specials) (h after : Handouts) (sized : length sp.labels ≡ 32)
+module _ (held new : Held) (specials sp : Specials) (h after : Handouts) (sized : length sp.registers.labels ≡ 32)
     (are : CountsAre (run_owners new sp) (λ s. held_of (objects_of after s))) (index : IsNumbered h) (reindex : IsNumbered after) where
   there : (key slot : ℕ) → run_owners new sp key ≡ Some slot → (x : Object) × (objects_of after slot ≡ Some x)
   there key slot is = let o = owner-there new sp (objects_of after) sized are key slot is in (o.0, o.1)
@@ -114,7 +113,7 @@ module _ (held new : Held) (specials sp : Specials) (h after : Handouts) (sized 
       ∙ fun_ext (λ k. ap (option_and_then f) (w.owners k) ∙ numbered-put f (run_owners held specials) key cap owner k)
       ∙ ap (λ (c : Cap). put old.owners key (owner_for c (option_and_then f owner))) (sym (at-same (run_state held specials) key cap)) in
       run-is (numbered_run new sp after) goal w.state owners (objects-after goal.owners owners w.objects)
-      w.rest.count w.rest.rules w.rest.limits w.rest.roots w.rest.steps w.rest.is_named w.rest.granules
+      w.rest.count w.rest.rules w.rest.limits w.rest.roots w.rest.steps w.rest.is_named w.rest.granules w.rest.harts
 
   -- a granule was filled
   pub fills-numbered : (granule : ℕ) (cap : Cap) → Fills (run_of held specials h) granule cap (run_of new sp after)
@@ -129,7 +128,7 @@ module _ (held new : Held) (specials sp : Specials) (h after : Handouts) (sized 
       ∙ fun_ext (λ k. ap (option_and_then f) (w.owners k) ∙ choice_under (option_and_then f) (key == k) None (run_owners held specials k))
       ∙ ap (λ (o : Option ℕ). put old.owners key o) (sym (owner_for-none (put (run_state held specials) key cap key))) in
       run-is (numbered_run new sp after) goal w.state owners (objects-after goal.owners owners w.objects)
-      w.count w.rules w.limits w.roots w.steps w.is_named w.granules
+      w.count w.rules w.limits w.roots w.steps w.is_named w.granules w.harts
 
   -- two places were
   pub both-numbered : (first second : ℕ) (owner second_owner : Option ℕ) (one two : Cap)
@@ -152,10 +151,10 @@ module _ (held new : Held) (specials sp : Specials) (h after : Handouts) (sized 
       ∙ ap (λ (c : Cap). put (put old.owners first (owner_for c a)) second (owner_for (put (put (run_state held specials) first one) second two second) b))
       (sym (at-same (run_state held specials) first one)) in
       run-is (numbered_run new sp after) goal w.state owners (objects-after goal.owners owners w.objects)
-      w.rest.count w.rest.rules w.rest.limits w.rest.roots w.rest.steps w.rest.is_named w.rest.granules
+      w.rest.count w.rest.rules w.rest.limits w.rest.roots w.rest.steps w.rest.is_named w.rest.granules w.rest.harts
 
 -- what is safe by slots is safe by numbers
-module _ (held : Held) (specials : Specials) (h : Handouts) (sized : length specials.labels ≡ 32)
+module _ (held : Held) (specials : Specials) (h : Handouts) (sized : length specials.registers.labels ≡ 32)
     (are : CountsAre (run_owners held specials) (λ s. held_of (objects_of h s))) (index : IsNumbered h) where
   apart : (one two : ℕ) (a b : Object) → one ≢ two → (s : ℕ) (t : ℕ) → objects_of h s ≡ Some a → objects_of h t ≡ Some b → a.number ≡ one → b.number ≡ two → s ≢ t
   apart one two a b differ s t s_is t_is a_is b_is same =

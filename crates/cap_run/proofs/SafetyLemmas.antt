@@ -6,7 +6,7 @@ use Rattle.cap_run.specs.declared.specials.Specials.{Specials}
 use Rattle.cap_run.specs.{Owned.{AreWithin}, RunOf.{run_of, run_owners, run_state}, Safety.IsSafe}
 use Rattle.cap_run.proofs.ObjectLemmas.{owner-there}
 
-pub safe-kept : (held : Held) (specials : Specials) (h : Handouts) → length specials.labels ≡ 32
+pub safe-kept : (held : Held) (specials : Specials) (h : Handouts) → length specials.registers.labels ≡ 32
     → CountsAre (run_owners held specials) (λ n. held_of (objects_of h n))
     → AreWithin (run_state held specials) (run_owners held specials) (objects_of h) → ArePresent h.keeps h.count (objects_of h)
     → IsSafe h.keeps (run_of held specials h)

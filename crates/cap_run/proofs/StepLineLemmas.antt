@@ -19,8 +19,8 @@ use Rattle.cap_objects.specs.{Counts.{CountsAre, Owners, count_below}, declared.
 use Rattle.cap_run_log.specs.RunLines.{run_spelling}
 use Rattle.cap_run_log.specs.declared.lines.RunLine.TheVariants as run_lines
 use Rattle.cap_run.specs.declared.{asks.Asks.Asks, ends.{RunRefusal.{RunRefusal, TheVariants.{NotOwned, OwnerFreed, Usual}}}, specials.Specials.Specials}
-use Rattle.cap_run.specs.{Numbers.{number_at, numbered_run}, Owned.{AreWithin, object_by, owner_for}, Run.{Run, first_special, with_specials}, RunChanges.{account_in, usual_after}}
-use Rattle.cap_run.specs.{RunChecks.{asked_checks, is_unowned, uses_freed, usual_end}, RunOf.{run_owners, run_state}, Specials.{cap_in}}
+use Rattle.cap_run.specs.{Harts.Harts, Numbers.{number_at, numbered_run}, Owned.{AreWithin, object_by, owner_for}, Run.{Run, first_special, with_specials}, RunChanges.{account_in, usual_after}}
+use Rattle.cap_run.specs.{RunChecks.{asked_checks, is_unowned, uses_freed, usual_end}, RunOf.{run_owners, run_state}, Specials.{cap_in, harts_in}}
 use Rattle.cap_run.specs.{StepLines.{LeadBy, MakesUsualSteps, text_of_steps}, UsualSteps.{disowned}}
 use Rattle.cap_run.proofs.{AloneLemmas.{main-unowned, then_none, unowned}, AskedLemmas.and_none, RootLemmas.first-usual, RunNumberLemmas.{index_in, nowhere, run-is}}
 use Rattle.cap_run.proofs.UsualLemmas.{owners-main, owners-special, place-low, under_then}
@@ -36,12 +36,13 @@ IsFree : (ℕ → Option Place) → Type 0
 IsFree origin = (key : ℕ) → object_by (origin key) ≡ None
 
 -- a run without objects, by the account of a machine and special registers
-abbrev bare : Account → (ℕ → Cap) → Run
-bare account specials = record {
+abbrev bare : Account → (ℕ → Cap) → Harts → Run
+bare account specials harts_are = record {
   state = with_specials account.state specials;
   owners = λ key. None;
   objects = λ number. None;
   count = 0;
+  harts = harts_are;
   rules = account.rules;
   limits = account.limits;
   roots = account.roots;
@@ -72,11 +73,11 @@ step_free account step free key =
     under_then account.origin parent ∙ then_none (λ k. object_by (account.origin k)) parent free
 
 -- what the steps of version 2 see of such a run
-module _ (account : Account) (specials : ℕ → Cap) (near : IsNear account.state) where
+module _ (account : Account) (specials : ℕ → Cap) (harts : Harts) (near : IsNear account.state) where
   apart : Account
   apart = record account { origin = λ key. None }
 
-  bare-account : account_in (bare account specials) ≡ apart
+  bare-account : account_in (bare account specials harts) ≡ apart
   unfolding IsNear apart
   bare-account = ap (λ (s : State). record account { state = s; origin = λ key. None }) (fun_ext (λ key. elim (cases_lt key first_special) [
     | inl low ↦
@@ -86,23 +87,23 @@ module _ (account : Account) (specials : ℕ → Cap) (near : IsNear account.sta
   ]))
 
   -- nothing that is asked refuses a step
-  not_freed : (asked : Bool) (access : Option Access) → (asked && option_map_or (uses_freed (bare account specials)) access false) ≡ false
+  not_freed : (asked : Bool) (access : Option Access) → (asked && option_map_or (uses_freed (bare account specials harts)) access false) ≡ false
   not_freed asked None = and_none asked
   not_freed asked (Some access) = and_none asked
 
-  owned_by_none : (access : Access) → is_unowned (bare account specials) access ≡ false
+  owned_by_none : (access : Access) → is_unowned (bare account specials harts) access ≡ false
   unfolding count_below
   owned_by_none access = refl
 
-  not_unowned : (asked : Bool) (access : Option Access) → (asked && option_map_or (is_unowned (bare account specials)) access false) ≡ false
+  not_unowned : (asked : Bool) (access : Option Access) → (asked && option_map_or (is_unowned (bare account specials harts)) access false) ≡ false
   not_unowned asked None = and_none asked
   not_unowned asked (Some access) = ap (λ (b : Bool). asked && b) (owned_by_none access) ∙ and_none asked
 
   module _ (asks : Asks) (step : Step) where
-    bare-end : usual_end asks (bare account specials) step ≡ option_map Usual (first_of (step_checks account step))
+    bare-end : usual_end asks (bare account specials harts) step ≡ option_map Usual (first_of (step_checks account step))
     unfolding apart
     bare-end =
-        let run = bare account specials in
+        let run = bare account specials harts in
         let by : Account → Option RunRefusal = λ a. let row = row_in a step in
         first_of (map usual_check row.checks ++ asked_checks asks run row.access ++ map usual_check (last_checks a step)) in
         let row = row_in account step in
@@ -135,41 +136,41 @@ module _ (account : Account) (specials : ℕ → Cap) (near : IsNear account.sta
   disowned_none (Some (Granule granule)) state key = refl
   disowned_none (Some (Register number)) state key = never_at (number == key) (owner_for (state number) None) (never_owned _ None)
 
-  bare-after : (step : Step) → usual_after (bare account specials) step ≡ bare (with_step account step) specials
+  bare-after : (step : Step) → usual_after (bare account specials harts) step ≡ bare (with_step account step) specials harts
   unfolding apart
   bare-after step =
-      let run = bare account specials in
+      let run = bare account specials harts in
       let next = (with_step account step).state in
       let row = row_in account step in
       let named = naming-apart account (named_by row) in
       let rest = naming-rest account (named_by row) in
       let written = option_map (λ (w : Place × Cap). w.0) (row_of account.state step).writes in
       ap (λ (a : Account). usual_with a run step) bare-account
-      ∙ run-is (usual_with apart run step) (bare (with_step account step) specials)
+      ∙ run-is (usual_with apart run step) (bare (with_step account step) specials harts)
       (fun_ext (λ key. nested (nat_lt key first_special) (next key) (account.state key) (specials (key - first_special))))
       (ap (disowned written next) (fun_ext (λ key. then_none (λ k. None) (parent_of account.state step next key) (λ k. refl)))
       ∙ fun_ext (disowned_none written next))
-      refl refl (sym rest.0) (sym rest.2) (sym rest.1) refl (sym named.0) (sym named.1)
+      refl refl (sym rest.0) (sym rest.2) (sym rest.1) refl (sym named.0) (sym named.1) refl
 
 -- Steps one after another
 
-leads_on : (asks : Asks) (specials : ℕ → Cap) (old new : Account) (steps : List Step) → Reads log_turns (body old) (map Line.Step steps) (body new)
+leads_on : (asks : Asks) (specials : ℕ → Cap) (harts : Harts) (old new : Account) (steps : List Step) → Reads log_turns (body old) (map Line.Step steps) (body new)
     → AllByRecursion IsInRange (map Line.Step steps) → IsNear old.state → IsFree old.origin
-    → AllByRecursion IsStepInRange steps × LeadBy asks (bare old specials) steps (bare new specials) × IsFree new.origin
-leads_on asks specials old new [] reads range near free =
+    → AllByRecursion IsStepInRange steps × LeadBy asks (bare old specials harts) steps (bare new specials harts) × IsFree new.origin
+leads_on asks specials harts old new [] reads range near free =
     let same = ap (λ (s : LogStage). s.state) reads in (
       tt,
-      ap (λ (a : Account). bare a specials) same,
+      ap (λ (a : Account). bare a specials harts) same,
       subst (λ (a : Account). IsFree a.origin) same free,
     )
-leads_on asks specials old new (step ∷ steps) reads range near free =
+leads_on asks specials harts old new (step ∷ steps) reads range near free =
     let next = with_step old step in
-    let after = bare-after old specials near step in
-    let rest = leads_on asks specials next new steps reads.1 range.1 (step_near old step range.0 near) (step_free old step free) in (
+    let after = bare-after old specials harts near step in
+    let rest = leads_on asks specials harts next new steps reads.1 range.1 (step_near old step range.0 near) (step_free old step free) in (
       (range.0, rest.0),
       (
-        bare-end old specials near asks step ∙ ap (option_map Usual) (allowed_form old (Line.Step step) reads.0).1,
-        subst (λ (r : Run). LeadBy asks r steps (bare new specials)) (sym after) rest.1,
+        bare-end old specials harts near asks step ∙ ap (option_map Usual) (allowed_form old (Line.Step step) reads.0).1,
+        subst (λ (r : Run). LeadBy asks r steps (bare new specials harts)) (sym after) rest.1,
       ),
       rest.2,
     )
@@ -191,14 +192,14 @@ module _ (held : Held) (specials : Specials) (h : Handouts) (alone : h.count ≡
           let few = h.kept.few slot object is in
           let never : ⊥ = omega (arith, some, few, alone) in absurd never
 
-  pub bare-run : numbered_run held specials h ≡ bare (account_of held) (cap_in specials)
+  pub bare-run : numbered_run held specials h ≡ bare (account_of held) (cap_in specials) (harts_in specials)
   bare-run =
-      run-is (numbered_run held specials h) (bare (account_of held) (cap_in specials)) refl
+      run-is (numbered_run held specials h) (bare (account_of held) (cap_in specials) (harts_in specials)) refl
       (fun_ext (λ key. ap (option_and_then (number_at (objects_of h))) (none key)))
-      (fun_ext (λ n. nowhere (objects_of h) empty (index_in h n))) alone refl refl refl refl refl refl
+      (fun_ext (λ n. nowhere (objects_of h) empty (index_in h n))) alone refl refl refl refl refl refl refl
 
 -- what is asked refuses no step there
-module _ (held : Held) (specials : Specials) (h : Handouts) (sized : length specials.labels ≡ 32)
+module _ (held : Held) (specials : Specials) (h : Handouts) (sized : length specials.registers.labels ≡ 32)
     (counts : CountsAre (run_owners held specials) (λ n. held_of (objects_of h n))) (stored : AreStored held.memory) (alone : h.count ≡ 0)
     (step : Step) where
   pub asked-alike : (asks other : Asks) → usual_end asks (numbered_run held specials h) step ≡ usual_end other (numbered_run held specials h) step
@@ -208,16 +209,16 @@ module _ (held : Held) (specials : Specials) (h : Handouts) (sized : length spec
       let near : IsNear account.state = λ key far. state-far held key stored far in
       subst (λ (r : Run). usual_end asks r step ≡ usual_end other r step)
       (sym (bare-run held specials h alone (unowned held specials h sized counts alone)))
-      (bare-end account (cap_in specials) near asks step ∙ sym (bare-end account (cap_in specials) near other step))
+      (bare-end account (cap_in specials) (harts_in specials) near asks step ∙ sym (bare-end account (cap_in specials) (harts_in specials) near other step))
 
-module _ (held new : Held) (specials : Specials) (h : Handouts) (asks : Asks) (sized : length specials.labels ≡ 32)
+module _ (held new : Held) (specials : Specials) (h : Handouts) (asks : Asks) (sized : length specials.registers.labels ≡ 32)
     (counts : CountsAre (run_owners held specials) (λ n. held_of (objects_of h n))) (stored : AreStored held.memory) (alone : h.count ≡ 0)
     (bytes : List ℕ) (makes : MakesSteps held bytes new) where
   all_led : AllByRecursion IsStepInRange makes.steps
-      × LeadBy asks (bare (account_of held) (cap_in specials)) makes.steps (bare (account_of new) (cap_in specials)) × IsFree (account_of new).origin
+      × LeadBy asks (bare (account_of held) (cap_in specials) (harts_in specials)) makes.steps (bare (account_of new) (cap_in specials) (harts_in specials)) × IsFree (account_of new).origin
   unfolding IsNear IsFree
   all_led =
-      leads_on asks (cap_in specials) (account_of held) (account_of new) makes.steps
+      leads_on asks (cap_in specials) (harts_in specials) (account_of held) (account_of new) makes.steps
       (subst (λ (ls : List Line). Reads log_turns (at dues.Body held) ls (at dues.Body new)) makes.lines_are makes.goes.reads)
       (subst (AllByRecursion IsInRange) makes.lines_are makes.goes.in_range)
       (λ key far. state-far held key stored far) (main-unowned held specials h sized counts alone stored)
@@ -236,7 +237,7 @@ module _ (held new : Held) (specials : Specials) (h : Handouts) (asks : Asks) (s
     in_range = all_led.0;
     bytes_are = makes.goes.bytes_are ∙ ap text_of makes.lines_are ∙ same_text makes.steps;
     leads = subst (λ (r : Run). LeadBy asks r makes.steps (numbered_run new specials h)) (sym (bare-run held specials h alone (unowned held specials h sized counts alone)))
-        (subst (LeadBy asks (bare (account_of held) (cap_in specials)) makes.steps) (sym (bare-run new specials h alone none-after)) all_led.1);
+        (subst (LeadBy asks (bare (account_of held) (cap_in specials) (harts_in specials)) makes.steps) (sym (bare-run new specials h alone none-after)) all_led.1);
   }
 
   pub kept-after : CountsAre (run_owners new specials) (λ n. held_of (objects_of h n))

@@ -17,7 +17,7 @@ use Rattle.cap_run.specs.RunChecks.{extent_end, growth_end, is_freed, is_live, l
 use Rattle.cap_run.specs.RunSteps.{or_later, step_limit}
 use Rattle.cap_run.proofs.ChoiceLemmas.{by_choice}
 use Rattle.cap_run.proofs.MeetingLemmas.{meets-where, meets-which}
-use Rattle.cap_run.proofs.NotHeldLemmas.{NotHeld, derive_end_not, end_not, exchange_end_not, fill_not, free_not, invoke_end_not, limit_not, number_not, owner_end_not, refusal_not, root_not, usual_not}
+use Rattle.cap_run.proofs.NotHeldLemmas.{NotHeld, derive_end_not, end_not, exchange_end_not, fill_not, free_not, hart_not, invoke_end_not, limit_not, number_not, owner_end_not, refusal_not, root_not, usual_not}
 use Rattle.cap_run.proofs.PresentLemmas.{AreCounted, all_counted, held_by}
 
 never : (end : Option RunRefusal) → NotHeld end → end ≡ Some StillHeld → ⊥
@@ -201,6 +201,7 @@ module _ (asks : Asks) (run : Run) (known : AreCounted run) where
   line_held (lines.Plain version) = other_held (lines.Plain version) refl tt
   line_held (lines.Root place word) = other_held (lines.Root place word) refl (root_not run place word)
   line_held (lines.Step step) = other_held (lines.Step step) refl (usual_not asks run step)
+  line_held (lines.Hart hart) = other_held (lines.Hart hart) refl (hart_not run)
   line_held (lines.End count) = other_held (lines.End count) refl (end_not (count == run.steps))
   line_held (lines.Run (steps.Derive step)) = other_held (lines.Run (steps.Derive step)) refl (derive_end_not run step)
   line_held (lines.Run (steps.Exchange step)) = other_held (lines.Run (steps.Exchange step)) refl (exchange_end_not run step)

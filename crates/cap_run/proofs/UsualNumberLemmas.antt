@@ -171,7 +171,7 @@ usual_with old run step =
     })
 
 module _ (held new : Held) (specials : Specials) (h after : Handouts) (step : Step) (range : IsStepInRange step) (stored : AreStored held.memory)
-    (sized : length specials.labels ≡ 32) (are : CountsAre (run_owners new specials) (λ s. held_of (objects_of after s)))
+    (sized : length specials.registers.labels ≡ 32) (are : CountsAre (run_owners new specials) (λ s. held_of (objects_of after s)))
     (index : IsNumbered h) (reindex : IsNumbered after) (low : IfSome (written_by (state_of held) step) IsPlace) (count : after.count ≡ h.count)
     (makes : MakesUsual held (objects_of h) step new (objects_of after)) where
   next : State
@@ -251,7 +251,7 @@ module _ (held new : Held) (specials : Specials) (h after : Handouts) (step : St
       (ap (λ (a : Account). a.rules) makes.account ∙ rest.0) (ap (λ (a : Account). a.limits) makes.account ∙ rest.2)
       (ap (λ (a : Account). a.roots) makes.account ∙ rest.1)
       (ap (λ (a : Account). a.steps) makes.account) (ap (λ (a : Account). a.is_named) makes.account ∙ named.0)
-      (ap (λ (a : Account). a.granules) makes.account ∙ named.1)
+      (ap (λ (a : Account). a.granules) makes.account ∙ named.1) refl
 
   pub usual-numbered : numbered_run new specials after ≡ usual_after (numbered_run held specials h) step
   unfolding goal

@@ -200,7 +200,7 @@ step_leads account step of_log range =
     let owners : after.owners ≡ goal.owners = fun_ext (disowned_none _ _ _ (λ key. then_none run.owners _ (λ k. refl))) in
     ap (λ (a : Account). usual_with a run step) (account_is account of_log)
     ∙ run-is after goal state owners refl refl (sym rest.0) refl (sym rest.1) refl (ap (λ (a : Account). a.is_named) named)
-    (ap (λ (a : Account). a.granules) named)
+    (ap (λ (a : Account). a.granules) named) refl
 
 line_leads : (account : Account) (line : Line) → IsOfLog account → IsInRange line
     → line_after (run_by account) (as_run line) ≡ run_by (account_with account line)

@@ -12,7 +12,7 @@ use Rattle.cap_objects.specs.{Counts.{Owners, at_key}, declared.{handouts.Handou
 use Rattle.cap_objects.specs.{Handed.{widened, with_held}, Objects.top_of_extent}
 use Rattle.cap_run.specs.declared.specials.Specials.{Specials}
 use Rattle.cap_run.specs.ObjectSteps.{Widens, first_holders, is_capability}
-use Rattle.cap_run.specs.{Owned.{IsWithin, is_empty, owner_for}, RunOf.{run_of, run_owners, run_state}, RunSteps.{IsStepped, IsUnstepped}}
+use Rattle.cap_run.specs.{Owned.{IsWithin, is_empty, owner_for}, RunOf.{run_of, run_owners, run_state}, RunSteps.{IsStepped, IsUnstepped}, Specials.harts_in}
 use Rattle.cap_run.proofs.HandingLemmas.{owner_for-all, owner_for-empty}
 use Rattle.std.proofs.Common.{not}
 
@@ -53,10 +53,11 @@ module _ (held mid : Held) (specials sp : Specials) (mid_is : mid ≡ record hel
   pub wide-owners : run_owners mid sp ≡ run_owners held specials
   wide-owners = ap (λ (x : Held). run_owners x sp) mid_is ∙ ap (run_owners held) sp_is
 
-  wide-stepped : (new : Held) (new_sp : Specials) (h new_h : Handouts) → IsUnstepped mid new → new_h.count ≡ h.count
+  wide-stepped : (new : Held) (new_sp : Specials) (h new_h : Handouts) → IsUnstepped mid new → new_h.count ≡ h.count → harts_in new_sp ≡ harts_in sp
       → IsStepped (run_of held specials h) (run_of new new_sp new_h)
-  wide-stepped new new_sp h new_h rest count = record {
+  wide-stepped new new_sp h new_h rest count harts = record {
     count = count;
+    harts = harts ∙ ap harts_in sp_is;
     rules = rest.0 ∙ ap (λ (x : Held). x.rules) mid_is;
     limits = rest.4 ∙ ap (λ (x : Held). x.limits) mid_is;
     roots = rest.2 ∙ ap (λ (x : Held). x.roots) mid_is;
@@ -72,14 +73,14 @@ module _ (held mid : Held) (specials sp : Specials) (mid_is : mid ≡ record hel
         ≡ widened o (base_of (run_state held specials register).word.0) (top_of (run_state held specials register).word.0)
     wide_is o = ap (λ (x : ℕ). widened o x t) b_is ∙ ap (widened o (base_of (run_state held specials register).word.0)) t_is
 
-    pub widens-long : (new : Held) (new_sp : Specials) (new_h : Handouts) → IsUnstepped mid new → new_h.count ≡ mid_h.count
+    pub widens-long : (new : Held) (new_sp : Specials) (new_h : Handouts) → IsUnstepped mid new → new_h.count ≡ mid_h.count → harts_in new_sp ≡ harts_in sp
         → is_capability (run_state held specials register) ≡ true → b < t
         → ((o : Object) → objects_of mid_h slot ≡ Some o → Sets (objects_of mid_h) slot (Some (with_held o (o.held + 1))) (objects_of new_h))
         → ((o : Object) → objects_of h slot ≡ Some o → let w = widened o b t in w.held ≡ o.held)
         → run_state new new_sp ≡ run_state mid sp
         → ((other : ℕ) → run_owners new new_sp other ≡ at_key (run_owners mid sp) register (Some slot) other)
         → Widens (run_of held specials h) register slot (run_of new new_sp new_h)
-    widens-long new new_sp new_h rest same capable some given holders state owners =
+    widens-long new new_sp new_h rest same harts capable some given holders state owners =
         let cap_is = run_state held specials register in
         let long : base_of cap_is.word.0 < top_of cap_is.word.0 = omega (arith, some, b_is, t_is) in
         let one : first_holders cap_is ≡ 1 = cond-false (is_empty cap_is.word.0) 0 1 (lt-leb (top_of cap_is.word.0) (base_of cap_is.word.0) long) in
@@ -96,7 +97,7 @@ module _ (held mid : Held) (specials sp : Specials) (mid_is : mid ≡ record hel
           state = state ∙ wide-state;
           owners = λ other. owners other ∙ ap (λ (o : Owners). at_key o register (Some slot) other) wide-owners
               ∙ ap (λ (o : Option ℕ). at_key (run_owners held specials) register o other) (sym (owner_for-all cap_is (Some slot) capable long));
-          rest = wide-stepped new new_sp h new_h rest (same ∙ count);
+          rest = wide-stepped new new_sp h new_h rest (same ∙ count) harts;
         }
 
     unowned-put : (run_owners held specials register ≡ None) → (other : ℕ) → owner_for (run_state held specials register) (Some slot) ≡ None
@@ -128,5 +129,5 @@ module _ (held mid : Held) (specials sp : Specials) (mid_is : mid ≡ record hel
           state = wide-state;
           owners = λ other. ap (λ (o : Owners). o other) wide-owners
               ∙ sym (unowned-put unowned other (owner_for-empty cap_is (Some slot) short));
-          rest = wide-stepped mid sp h mid_h (refl, refl, refl, refl, refl) count;
+          rest = wide-stepped mid sp h mid_h (refl, refl, refl, refl, refl) count refl;
         }

@@ -7,7 +7,7 @@ use Rattle.cap_machine.specs.{Runs.parent_of, States.granule_key, Steps.{Access,
 use Rattle.cap_run_log.specs.declared.lines.{RunLine.RunLine, RunPlace.RunPlace, RunRegister.TheVariants.Special, RunStep.RunStep}
 use Rattle.cap_run_log.specs.declared.lines.RunLine.TheVariants as lines
 use Rattle.cap_run_log.specs.declared.lines.RunStep.TheVariants as steps
-use Rattle.cap_run.specs.{Run.{Run, first_special, register_key}, RunChanges.{line_after, main_of, no_run, place_key, usual_after}}
+use Rattle.cap_run.specs.{Harts.came_from, Run.{Run, first_special, register_key}, RunChanges.{line_after, main_of, no_run, place_key, usual_after}}
 
 -- a place that is written, and the place that what it then holds is derived from: none where that has no tag
 abbrev pub Written : Type 0
@@ -37,6 +37,7 @@ parent_by (write ∷ writes) key = if write.0 == key then write.1 else parent_by
 abbrev pub line_parent : Run → RunLine → ℕ → Option ℕ
 line_parent run (lines.Step step) key = parent_of (main_of run.state) step (main_of (usual_after run step).state) key
 line_parent run (lines.Run step) key = parent_by (writes_of step) key
+line_parent run (lines.Hart hart) key = Some (came_from run.harts.current hart key)
 line_parent run line key = Some key
 
 -- the chain of parents from a place after lines leads back to a place before them, both by their keys

@@ -11,6 +11,7 @@ pub record Fills (old : Run) (granule : ℕ) (cap : Cap) (new : Run) : Type 0 wh
   pub owners : (other : ℕ) → new.owners other ≡ at_key old.owners (granule_key granule) None other
   pub objects : IsRecounted old.objects new.objects
   pub count : new.count ≡ old.count
+  pub harts : new.harts ≡ old.harts
   pub rules : new.rules ≡ old.rules
   pub limits : new.limits ≡ old.limits
   pub roots : new.roots ≡ old.roots

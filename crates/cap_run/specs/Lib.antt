@@ -1,5 +1,6 @@
 pub mod Allowed
-pub mod SpecialCaps
+pub mod Keys
+pub mod Harts
 pub mod Specials
 pub mod Owned
 pub mod Run
@@ -10,6 +11,7 @@ pub mod Safety
 pub mod GranuleSteps
 pub mod UsualSteps
 pub mod RunChanges
+pub mod HartPlaces
 pub mod RunChecks
 pub mod Numbers
 pub mod Machines

@@ -1,9 +1,7 @@
 -- The run of a machine by the numbers of its objects (this profile's own).
 use Rattle.std.specs.Prelude.{ℕ, Option, option_map, option_and_then}
-use Rattle.std.specs.Ordering.{nat_cmp}
-use Rattle.std.specs.BTreeMap as tree
 use Rattle.cap_machine.specs.Helds.{Held}
-use Rattle.cap_objects.specs.{Counts.Owners, declared.handouts.Handouts.Handouts, Extents.Objects}
+use Rattle.cap_objects.specs.{Counts.Owners, declared.handouts.Handouts.Handouts, Extents.Objects, HandoutsIn.slot_numbered}
 use Rattle.cap_run.specs.{declared.specials.Specials.Specials, Run.Run, RunOf.run_of}
 
 -- the number of the object in a slot
@@ -22,5 +20,5 @@ by_number index objects number = option_and_then objects (index number)
 abbrev pub numbered_run : Held → Specials → Handouts → Run
 numbered_run held specials handouts = let run = run_of held specials handouts in record run {
   owners = numbered run.objects run.owners;
-  objects = by_number (tree.get nat_cmp handouts.numbers) run.objects;
+  objects = by_number (slot_numbered handouts) run.objects;
 }

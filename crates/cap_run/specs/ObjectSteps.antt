@@ -9,7 +9,7 @@ use Rattle.cap_objects.specs.declared.handouts.HandOutFault.{HandOutFault}
 use Rattle.cap_objects.specs.declared.handouts.HandOutFault.TheVariants as hand
 use Rattle.cap_run.specs.declared.ends.RunEnd.{RunEnd, TheVariants.{Refused, NoMemory}}
 use Rattle.cap_run.specs.declared.ends.RunRefusal.TheVariants.{Usual, Overlaps, StillHeld, NoCapability, HasOwner}
-use Rattle.cap_run.specs.{declared.ends.RunRefusal.RunRefusal, Owned.{is_empty, owner_for}, Run.Run, RunSteps.{IsStepped, step_limit}}
+use Rattle.cap_run.specs.{declared.ends.RunRefusal.RunRefusal, Owned.{is_empty, owner_for}, Run.{Run, moment}, RunSteps.{IsStepped, step_limit}}
 
 -- a capability that can be handed out: tagged and unsealed
 abbrev pub is_capability : Cap → Bool
@@ -62,7 +62,7 @@ pub record Widens (old : Run) (register slot : ℕ) (new : Run) : Type 0 where
 -- `free`: the live object in a slot is freed, and gone if no place holds it
 pub record Frees (old : Run) (slot : ℕ) (new : Run) : Type 0 where
   pub live : IsSomeAnd (old.objects slot) (λ object. object.freed ≡ false)
-  pub objects : (object : Object) → old.objects slot ≡ Some object → Sets old.objects slot (kept (freed_in (old.steps + 1) object)) new.objects
+  pub objects : (object : Object) → old.objects slot ≡ Some object → Sets old.objects slot (kept (freed_in (moment old) object)) new.objects
   pub state : new.state ≡ old.state
   pub owners : new.owners ≡ old.owners
   pub rest : IsStepped old new

@@ -13,7 +13,7 @@ use Rattle.cap_run_log.specs.declared.lines.RunLine.{RunLine}
 use Rattle.cap_run_log.specs.declared.lines.RunLine.TheVariants as lines
 use Rattle.cap_run_log.specs.declared.lines.RunPlace.TheVariants as places
 use Rattle.cap_run_log.specs.declared.lines.RunStep.TheVariants as steps
-use Rattle.cap_run.specs.{Owned.owner_for, Run.{Run, first_special, register_key}, UsualSteps.disowned}
+use Rattle.cap_run.specs.{Harts.{came_from, harts_after, no_harts}, Owned.owner_for, Run.{Run, first_special, moment, register_key}, UsualSteps.disowned}
 
 -- the key of a place
 abbrev pub place_key : RunPlace → ℕ
@@ -74,7 +74,7 @@ with_object run number object = record run { objects = put run.objects number ob
 -- a run in which the object with a number was freed
 abbrev pub with_freed : Run → Option ℕ → Run
 with_freed run None = run
-with_freed run (Some number) = stepped (with_object run number (option_map (freed_in (run.steps + 1)) (run.objects number)))
+with_freed run (Some number) = stepped (with_object run number (option_map (freed_in (moment run)) (run.objects number)))
 
 -- a run after a step that only runs have: what is written has the owner of the place that it is derived from
 abbrev pub run_after : Run → RunStep → Run
@@ -91,7 +91,7 @@ run_after run (steps.Fill granule word) =
 run_after run (steps.Object register) =
     let number = run.count + 1 in
     let w = (run.state register).word.0 in
-    let object = handed_out number (run.steps + 1) (base_of w) (top_of w) in
+    let object = handed_out number (moment run) (base_of w) (top_of w) in
     stepped (with_owner (record (with_object run number (Some object)) { count = number }) register (Some number))
 run_after run (steps.Widen register number) =
     let w = (run.state register).word.0 in
@@ -119,6 +119,14 @@ abbrev pub root_after : Run → RunPlace → Word → Run
 root_after run place word =
     record (with_named run (granule_in place)) { state = put run.state (place_key place) (tagged word); roots = run.roots + 1 }
 
+-- a run after a hart line: what registers hold moves, with its owners
+abbrev pub hart_after : Run → ℕ → Run
+hart_after run hart = let from = came_from run.harts.current hart in record run {
+  state = λ key. run.state (from key);
+  owners = λ key. run.owners (from key);
+  harts = harts_after run.harts hart;
+}
+
 -- the rules of a mode
 abbrev pub rules_of : Mode → Rules
 rules_of Strict = TwoStrict
@@ -128,6 +136,7 @@ rules_of Clear = TwoClear
 abbrev pub line_after : Run → RunLine → Run
 line_after run (lines.Mode mode) = record run { rules = rules_of mode }
 line_after run (lines.Root place word) = root_after run place word
+line_after run (lines.Hart hart) = hart_after run hart
 line_after run (lines.Step step) = usual_after run step
 line_after run (lines.Run step) = run_after run step
 line_after run line = run
@@ -143,6 +152,7 @@ no_run = record {
   owners = λ key. None;
   objects = λ number. None;
   count = 0;
+  harts = no_harts;
   rules = TwoStrict;
   limits = run_limits;
   roots = 0;

@@ -132,9 +132,18 @@ root_end run place word =
     ∷ []
     )
 
+-- as many hart lines as 32 bits can count
+abbrev pub most_hart_lines : ℕ
+most_hart_lines = 4294967295
+
+-- why a hart line is refused
+abbrev pub hart_end : Run → Option RunRefusal
+hart_end run = if nat_le most_hart_lines run.harts.lines then Some (Usual LimitPassed) else None
+
 -- why a line is refused where the header was read, and the end line wasn't
 abbrev pub line_end : Asks → Run → RunLine → Option RunRefusal
 line_end asks run (lines.Root place word) = root_end run place word
+line_end asks run (lines.Hart hart) = hart_end run
 line_end asks run (lines.Step step) = usual_end asks run step
 line_end asks run (lines.Run step) = run_end asks run step
 line_end asks run (lines.End count) = if count == run.steps then None else Some (Usual WrongCount)
@@ -160,9 +169,14 @@ usual_wants run step = is_new (account_in run) (named_by (row_in (account_in run
 abbrev pub root_wants : Run → RunPlace → Bool
 root_wants run place = is_new (account_in run) (granule_in place)
 
+-- whether a hart line does: for the registers of a hart that is named for the first time
+abbrev pub hart_wants : Run → ℕ → Bool
+hart_wants run hart = not (run.harts.is_named hart)
+
 -- whether a line may want memory
 abbrev pub line_wants : Run → RunLine → Bool
 line_wants run (lines.Root place word) = root_wants run place
+line_wants run (lines.Hart hart) = hart_wants run hart
 line_wants run (lines.Step step) = usual_wants run step
 line_wants run (lines.Run step) = run_wants run step
 line_wants run line = false

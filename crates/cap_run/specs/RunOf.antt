@@ -1,7 +1,7 @@
 -- The run that a machine's parts make up (this profile's own).
 use Rattle.cap_machine.specs.{Helds.{Held, account_of, state_of}, Places.place_at, States.State}
 use Rattle.cap_objects.specs.{declared.handouts.Handouts.Handouts, Counts.Owners, HandoutsIn.objects_of}
-use Rattle.cap_run.specs.{declared.specials.Specials.Specials, Owned.object_by, Run.{Run, with_specials}, Specials.{cap_in, label_in}}
+use Rattle.cap_run.specs.{declared.specials.Specials.Specials, Owned.object_by, Run.{Run, with_specials}, Specials.{cap_in, harts_in, label_in}}
 
 abbrev pub run_state : Held → Specials → State
 run_state held specials = with_specials (state_of held) (cap_in specials)
@@ -16,6 +16,7 @@ run_of held specials handouts = let account = account_of held in record {
   owners = run_owners held specials;
   objects = objects_of handouts;
   count = handouts.count;
+  harts = harts_in specials;
   rules = account.rules;
   limits = account.limits;
   roots = account.roots;

@@ -52,6 +52,7 @@ step_limit run = if nat_le most_steps run.steps then Some (refusals.Usual usual.
 -- after a step that named no granule and handed out nothing
 pub record IsStepped (old new : Run) : Type 0 where
   pub count : new.count ≡ old.count
+  pub harts : new.harts ≡ old.harts
   pub rules : new.rules ≡ old.rules
   pub limits : new.limits ≡ old.limits
   pub roots : new.roots ≡ old.roots

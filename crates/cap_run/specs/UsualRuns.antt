@@ -5,6 +5,7 @@ use Rattle.cap_log.specs.declared.lines.Line.{Line}
 use Rattle.cap_machine.specs.{Accounts.{Account, limits_of}, States.untagged_null}
 use Rattle.cap_judge.specs.{Logs.line_checks, Turns.account_with}
 use Rattle.cap_run_log.specs.UsualLines.{as_run}
+use Rattle.cap_run.specs.Harts.{no_harts}
 use Rattle.cap_run.specs.{declared.{asks.Asks.Asks, ends.RunRefusal.TheVariants.Usual}, Run.{Run, first_special}}
 use Rattle.cap_run.specs.{RunChanges.{line_after, run_limits}, RunChecks.line_end}
 
@@ -15,6 +16,7 @@ run_by account = record {
   owners = λ key. None;
   objects = λ number. None;
   count = 0;
+  harts = no_harts;
   rules = account.rules;
   limits = run_limits;
   roots = account.roots;

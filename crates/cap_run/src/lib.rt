@@ -13,6 +13,7 @@ mod asks;
 mod derivations;
 mod ends;
 mod granule_steps;
+mod harts;
 mod laws;
 mod lines;
 mod object_steps;
@@ -27,6 +28,7 @@ mod usual_steps;
 
 pub use crate::asks::Asks;
 pub use crate::ends::{RunEnd, RunRefusal};
+pub use crate::harts::place_numbered;
 pub use crate::laws::{
     accesses_lie_in_roots, accesses_stay_in_owners, asking_less_allows_more,
     first_refused_is_first, held_objects_are_met_exactly, lines_are_allowed_without_objects,

@@ -6,13 +6,14 @@ ghost use Rattle.cap_log.specs.Lines.{IsTarget};
 ghost use Rattle.cap_objects.specs.Handed.{AddsObject, HasRoom, IsLive, RefusesExtent, handed_out, widened, with_held};
 ghost use Rattle.cap_objects.specs.{Counts.at_key, Extents.Sets, HandoutsIn.objects_of, Objects.top_of_extent};
 ghost use Rattle.cap_objects.specs.declared.objects.Object.{Object as ObjectIn};
+ghost use Rattle.cap_run.specs.Specials.{harts_in};
 ghost use Rattle.cap_run.specs.declared.ends.RunRefusal.TheVariants.{Usual};
 ghost use Rattle.cap_ops.specs.declared.refusal.Refusal.TheVariants.{LimitPassed};
 ghost use Rattle.cap_run_log.specs.declared.lines.RunStep.TheVariants as steps;
 ghost use Rattle.cap_run.specs.ObjectSteps.{CanWiden, ExtentEnds, Frees, WidenEnds, Widens, ended, is_capability, object_refusal};
 ghost use Rattle.cap_run.specs.{Owned.IsWithin, RunChanges.run_after, RunChecks.{Answers, run_end, run_wants}};
 ghost use Rattle.cap_run.specs.{RunOf.{run_owners, run_state}, RunSteps.{IsUnstepped, step_limit}};
-ghost use Rattle.cap_run.specs.Machines.{run_in, slots_in};
+ghost use Rattle.cap_run.specs.{Machines.{run_in, slots_in}, Run.moment};
 
 use crate::ends::{RunEnd, RunRefusal};
 use crate::puts::put_at;
@@ -51,7 +52,7 @@ impl<M: TaggedStore> RunMachine<M> {
         requires few { self.old.machine.steps < 2 ^ 32 - 1 }
         ensures room { OnOk result (HasRoom self.old.objects.keeps None (objects_of self.old.objects) base top) }
         ensures ok { IfOk result (λ slot. AddsObject (objects_of self.old.objects) slot
-            (handed_out (self.old.objects.count + 1) (self.old.machine.steps + 1) base top) (objects_of self.new.objects)) }
+            (handed_out (self.old.objects.count + 1) (moment (slots_in self.old)) base top) (objects_of self.new.objects)) }
         ensures low { IfOk result (λ slot. slot < 2 ^ 32) }
         ensures count { OnOk result (self.new.objects.count ≡ self.old.objects.count + 1) }
         ensures held { OnOk result (self.new.machine ≡ record self.old.machine { steps = self.old.machine.steps + 1 }) }
@@ -62,8 +63,8 @@ impl<M: TaggedStore> RunMachine<M> {
         ensures keeps { self.new.objects.keeps ≡ self.old.objects.keeps }
         ensures asks { self.new.asks ≡ self.old.asks }
     {
-        let step = self.machine.steps() + 1;
-        match self.objects.hand_out(base, top, step) {
+        let moment = self.moment();
+        match self.objects.hand_out(base, top, moment) {
             Ok(slot) => {
                 self.machine.count_step();
                 Ok(slot)
@@ -112,6 +113,7 @@ impl<M: TaggedStore> RunMachine<M> {
         ensures owners { (other : ℕ) → run_owners self.new.machine self.new.specials other
             ≡ at_key (run_owners self.old.machine self.old.specials) register (Some slot) other }
         ensures rest { IsUnstepped self.old.machine self.new.machine }
+        ensures harts { harts_in self.new.specials ≡ harts_in self.old.specials }
         ensures same { (self.new.objects.count ≡ self.old.objects.count) × (self.new.objects.keeps ≡ self.old.objects.keeps) }
         ensures asks { self.new.asks ≡ self.old.asks }
     {
@@ -262,8 +264,8 @@ impl<M: TaggedStore> RunMachine<M> {
             (slots_in self.new) }
         ensures asks { self.new.asks ≡ self.old.asks }
     {
-        let step = self.machine.steps() + 1;
-        self.objects.free(slot, step);
+        let moment = self.moment();
+        self.objects.free(slot, moment);
         self.machine.count_step();
     }
 

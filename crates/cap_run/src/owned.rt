@@ -48,7 +48,7 @@ impl<M: TaggedStore> RunMachine<M> {
     }
 
     // The slot of the object that owns a place, if there is one.
-    fn owner_at(&self, place: RunPlace) -> Option<usize>
+    pub(crate) fn owner_at(&self, place: RunPlace) -> Option<usize>
         requires { IsRunPlace place }
         ensures value { result ≡ run_owners self.now.machine self.now.specials (place_key place) }
     {

@@ -7,7 +7,7 @@ ghost use Rattle.cap_objects.specs.{Counts.{Moves, at_key}, Handed.{IsRecounted,
 ghost use Rattle.cap_run_log.specs.RunLines.{IsRunRegister};
 ghost use Rattle.cap_run.specs.{Owned.{object_by, owner_for}, Run.register_key};
 ghost use Rattle.cap_run.specs.{RunOf.{run_owners, run_state}, RunSteps.{IsUnstepped, Writes, WritesBoth}};
-ghost use Rattle.cap_run.specs.Machines.{slots_in};
+ghost use Rattle.cap_run.specs.{Machines.slots_in, Specials.harts_in};
 
 use crate::run_machine::{RunMachine, slot_by};
 use crate::specials::Specials;
@@ -34,6 +34,7 @@ pub(crate) fn put_at<M: TaggedStore>(
     ensures owners { (other : ℕ) → run_owners machine.new specials.new other
         ≡ at_key (run_owners machine.old specials.old) (register_key target) (object_by (place_at label)) other }
     ensures rest { IsUnstepped machine.old machine.new }
+    ensures harts { harts_in specials.new ≡ harts_in specials.old }
 {
     match target {
         RunRegister::General(number) => machine.put_labelled(number, cap, label),
@@ -46,7 +47,7 @@ pub(crate) fn put_at<M: TaggedStore>(
 pub(crate) fn recount_labels(objects: &mut Handouts, from: u64, to: u64)
     requires from { (slot : ℕ) → object_by (place_at from) ≡ Some slot → 0 < held_of (objects_of objects.old slot) }
     requires to { (slot : ℕ) → object_by (place_at to) ≡ Some slot → 0 < held_of (objects_of objects.old slot) }
-    requires few { (slot : ℕ) → held_of (objects_of objects.old slot) ≤ 2 ^ 60 + 64 }
+    requires few { (slot : ℕ) → held_of (objects_of objects.old slot) ≤ 2 ^ 61 }
     ensures moves { Moves (λ slot. held_of (objects_of objects.old slot)) (object_by (place_at from)) (object_by (place_at to))
         (λ slot. held_of (objects_of objects.new slot)) }
     ensures rest { IsRecounted (objects_of objects.old) (objects_of objects.new) }

@@ -47,7 +47,7 @@ impl<M: TaggedStore> RunMachine<M> {
     {
         RunMachine {
             machine: Machine::with_limits(memory, Rules::TwoStrict, LIMITS),
-            specials: Specials::new(),
+            specials: Specials::new(alloc),
             objects: Handouts::new(alloc, asks.held),
             asks,
         }

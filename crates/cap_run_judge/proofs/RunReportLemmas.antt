@@ -1,21 +1,21 @@
 -- The report of a machine's run is that of the log that led to it.
-use Rattle.std.specs.BTreeMap as tree
-use Rattle.std.specs.{List.slice_get, Ordering.nat_cmp}
-use Rattle.std.proofs.Common.{◌≡◌, ℕ, ◌≤◌, ◌++◌, List, [], Bool, true, false, Option, Some, None, Result, Ok, Err, option_and_then}
+use Rattle.std.specs.List.{slice_get}
+use Rattle.std.proofs.Common.{◌≡◌, ◌==◌, ℕ, ◌≤◌, ◌<◌, ◌++◌, List, [], Bool, true, false, Option, Some, None, Result, Ok, Err, option_and_then}
 use Rattle.std.proofs.Common.{refl, sym, ap, ◌∙◌, inl, inr, arith}
 use Rattle.std.proofs.lemmas.{Bool.{cases_Bool, cond-true, cond-false}, Option.{none-some, same_Some}}
 use Rattle.cap_streams.specs.{FaultLines.told_fault, declared.judging.judge_faults.JudgeFault.{JudgeFault, TheVariants.{NoMemory, Pull}}}
 use Rattle.cap_streams.specs.{declared.judging.judge_faults.JudgeToFault.JudgeToFault, Streams.{CountsOnly, next_count}}
 use Rattle.cap_streams.specs.declared.judging.judge_faults.JudgeToFault.TheVariants as told
-use Rattle.cap_machine.specs.Helds.{Held}
+use Rattle.cap_machine.specs.{Helds.Held, States.granule_key}
 use Rattle.cap_objects.specs.{declared.{handouts.Handouts.Handouts, objects.Object.Object}, Extents.{Objects, is_present}}
-use Rattle.cap_objects.specs.{HandoutsIn.objects_of, Indexes.{kept, number_key}}
-use Rattle.cap_run_log.specs.declared.lines.RunPlace.{RunPlace}
-use Rattle.cap_run.specs.{declared.{asks.Asks.Asks, ends.RunRefusal.RunRefusal, specials.Specials.Specials}, Numbers.{by_number, numbered_run}, Run.Run}
-use Rattle.cap_run.specs.{RunChanges.place_key, Safety.IsSafe}
+use Rattle.cap_objects.specs.{HandoutsIn.{objects_of, slot_numbered}, Indexes.{kept, number_key}}
+use Rattle.cap_run_log.specs.declared.lines.RunPlace.{RunPlace, TheVariants.Granule}
+use Rattle.cap_run.specs.{declared.{asks.Asks.Asks, ends.RunRefusal.RunRefusal, specials.Specials.Specials}, Harts.Harts, Numbers.{by_number, numbered_run}, Run.Run}
+use Rattle.cap_run.specs.{HartPlaces.{place_in, place_numbered}, Safety.IsSafe}
 use Rattle.cap_run_judge.specs.declared.verdict.RunVerdict.{RunVerdict, TheVariants.{Yes, No}}
 use Rattle.cap_run_judge.specs.{Judgings.{IsAnswerOf, StopsIn}, OwnerLists.{line_of_object, line_of_place, numbered_line, object_line, place_line}}
-use Rattle.cap_run_judge.specs.OwnerLists.{object_lines, owner_lines, run_report_text}
+use Rattle.cap_run_judge.specs.OwnerLists.{object_lines, owner_lines, register_lines, run_report_text}
+use Rattle.cap_run_judge.proofs.OwnerLemmas.{no_lines, skip_lines}
 use Rattle.cap_run_judge.specs.{Reports.{AreNumbered, IsRunPushed, LeadsAfter}, VerdictLines.run_verdict_line}
 
 -- an object's line
@@ -27,8 +27,25 @@ object_told run number roots object same is =
 pub object_untold : (run : Run) (number : ℕ) → run.objects number ≡ None → numbered_line run number ≡ []
 object_untold run number is = ap (line_of_object run.roots) is
 
-pub place_untold : (run : Run) (place : RunPlace) → run.owners (place_key place) ≡ None → place_line run place ≡ []
-place_untold run place is = ap (line_of_place place) is
+pub place_untold : (run : Run) (hart : ℕ) (place : RunPlace) → run.owners (place_in run.harts hart place) ≡ None → place_line run hart place ≡ []
+place_untold run hart place is = ap (line_of_place hart place) is
+
+-- a granule is the same place by any hart
+pub granule_in : (harts : Harts) (hart granule : ℕ) → place_in harts hart (Granule granule) ≡ granule_key granule
+granule_in harts hart granule = elim (cases_Bool (hart == harts.current)) [
+  | inl same ↦ cond-true (hart == harts.current) _ _ same
+  | inr other ↦ cond-false (hart == harts.current) _ _ other
+]
+
+pub granule_untold : (run : Run) (granule : ℕ) → run.owners (granule_key granule) ≡ None → place_line run 0 (Granule granule) ≡ []
+granule_untold run granule is = place_untold run 0 (Granule granule) (ap run.owners (granule_in run.harts 0 granule) ∙ is)
+
+-- a hart of which no object owns a register has no lines
+pub hart_untold : (run : Run) (hart : ℕ)
+    → ((register : ℕ) → register < 64 → run.owners (place_in run.harts hart (place_numbered register)) ≡ None) → register_lines run hart ≡ []
+hart_untold run hart none =
+    let line : ℕ → List ℕ = λ number. place_line run hart (place_numbered number) in
+    sym (no_lines line 1 ∙ skip_lines line 1 0 63 (omega arith) (λ k more less. place_untold run hart (place_numbered k) (none k (omega (arith, less)))))
 
 -- what an index finds
 found : (objects : Objects) (slot : Option ℕ) (object : Object) → option_and_then objects slot ≡ Some object
@@ -50,10 +67,10 @@ pub record IsListed (h : Handouts) (number : ℕ) (object : Object) : Type 0 whe
   pub few : number ≤ h.count
   pub present : is_present object ≡ true
 
-pub listed : (h : Handouts) (number : ℕ) (object : Object) → by_number (tree.get nat_cmp h.numbers) (objects_of h) number ≡ Some object
+pub listed : (h : Handouts) (number : ℕ) (object : Object) → by_number (slot_numbered h) (objects_of h) number ≡ Some object
     → IsListed h number object
 listed h number object is =
-    let at = found (objects_of h) (tree.get nat_cmp h.numbers number) object is in
+    let at = found (objects_of h) (slot_numbered h number) object is in
     let own : object.number ≡ number =
     same_Some object.number number (sym (ap (option_and_then number_key) at.2) ∙ h.kept.numbered.only number at.0 at.1) in
     let some = h.kept.some at.0 object at.2 in

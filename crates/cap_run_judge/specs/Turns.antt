@@ -47,6 +47,6 @@ run_turns = record {
   after = λ asked line. record { asks = asked.asks; run = line_after asked.run line };
   next = next_due;
   wants = λ asked line. line_wants asked.run line;
-  read = λ asked. asked.run.roots + asked.run.steps + 2;
+  read = λ asked. asked.run.roots + asked.run.steps + asked.run.harts.lines + 2;
   usual = Usual;
 }

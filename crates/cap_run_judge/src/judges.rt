@@ -32,7 +32,7 @@ pub enum Due {
     First,
     /// The mode line.
     Second,
-    /// A root, a step or the end line.
+    /// A root, a hart line, a step or the end line.
     Body,
     /// None: the end line has come.
     Ended,
@@ -241,7 +241,7 @@ impl<M: TaggedStore> RunJudge<M> {
     #[inline(always)]
     fn take_step<'a>(&mut self, head: RunHead, bytes: &'a [u8]) -> Option<&'a [u8]>
         requires body { self.old.due ≡ Body }
-        requires head { (head ≢ heads.Version) × (head ≢ heads.Root) }
+        requires head { (head ≢ heads.Version) × (head ≢ heads.Root) × (head ≢ heads.Hart) }
         ensures some { IfSome result (λ rest. (line : RunLine) × Begins IsRunLineInRange run_spelling 10 bytes.now line rest.now
             × Takes run_turns (stage_of self.old) line (stage_of self.new)) }
         ensures none { IfNone result (stage_of self.new ≡ stage_of self.old) }
@@ -326,9 +326,11 @@ impl<M: TaggedStore> RunJudge<M> {
     // The number of the next line.
     fn next_line(&self) -> u64
         ensures value { result ≡ lines_read run_turns (stage_of self.now) + 1 }
-        ensures few { result ≤ 8589934600 }
+        ensures few { result ≤ 12884901900 }
     {
-        let body = u64::from(self.machine.roots()) + u64::from(self.machine.steps());
+        let body = u64::from(self.machine.roots())
+            + u64::from(self.machine.steps())
+            + u64::from(self.machine.hart_lines());
         match self.due {
             Due::First => 1,
             Due::Second => 2,
@@ -340,7 +342,7 @@ impl<M: TaggedStore> RunJudge<M> {
     // Few lines were read: the limits bound them. It does nothing: what it says is its contract.
     #[inline(always)]
     pub(crate) fn counted(&self)
-        ensures few { lines_read run_turns (stage_of self.now) ≤ 8589934600 }
+        ensures few { lines_read run_turns (stage_of self.now) ≤ 12884901900 }
     {
         let _ = self.next_line();
     }
@@ -404,6 +406,7 @@ impl<M: TaggedStore> RunJudge<M> {
                 Err(RunEnd::Refused(usual(Refusal::Misplaced)))
             }
             RunLine::Root(place, word) => self.machine.declare(place, word),
+            RunLine::Hart(hart) => self.machine.switch(hart),
             RunLine::Step(step) => self.machine.make_usual(&step),
             RunLine::Run(step) => self.machine.make(&step),
             RunLine::End(count) => {

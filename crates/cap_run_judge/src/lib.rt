@@ -24,7 +24,7 @@ pub use crate::laws::{
     run_logs_are_guarded, some_run_verdict, stages_are_of_run_logs, verdicts_differ_by_choice,
 };
 pub use crate::output::{judge_run_to, push_run_report, push_run_verdict};
-pub use crate::owners::{object_text, owner_text, push_owners};
+pub use crate::owners::{object_text, owner_text, push_owners, put_hart_place};
 pub use crate::streams::{
     RunJudgeEnd, judge_run, judge_run_bytes, judge_run_in, judge_run_keeping,
 };

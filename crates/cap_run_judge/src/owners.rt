@@ -4,20 +4,20 @@ ghost use Rattle.std.specs.Prelude.{◌≡◌, ◌≤◌, ℕ, ◌+◌, ◌++◌
 ghost use Rattle.cap_objects.specs.declared.objects.Object.{Object as ObjectIn};
 ghost use Rattle.cap_run_log.specs.RunLines.{IsRunPlace, run_place_spelling};
 ghost use Rattle.cap_streams.specs.{Streams.CountsFault, Written.Writes};
-ghost use Rattle.cap_run_judge.specs.OwnerLists.{extent_spelling, general_lines, granule_lines, life_spelling, object_line, object_lines};
-ghost use Rattle.cap_run_judge.specs.OwnerLists.{owner_line, owner_lines, place_line, special_lines};
+ghost use Rattle.cap_run_judge.specs.OwnerLists.{extent_spelling, granule_lines, hart_lines, hart_place_spelling, life_spelling, object_line, object_lines};
+ghost use Rattle.cap_run_judge.specs.OwnerLists.{owner_line, owner_lines, place_line, register_lines};
 ghost use Rattle.cap_run.specs.Machines.{run_in};
 
 use cap_log::Place;
 use cap_log::buffers::{put, put_decimal, put_hex, put_place};
 use cap_objects::Object;
-use cap_run::RunMachine;
+use cap_run::{RunMachine, place_numbered};
 use cap_run_log::RunPlace;
 use cap_streams::{PushFault, Sink, push_all};
 use tagmem::TaggedStore;
 
-/// Pushes a line for each present object, by number, and then one for each place that an object owns: c1 to c31, scr0
-/// to scr31, and the granules by address.
+/// Pushes a line for each present object, by number, and then one for each place that an object owns: by hart c1 to c31 and
+/// scr0 to scr31, and the granules by address.
 pub fn push_owners<M: TaggedStore, K: Sink>(
     machine: &RunMachine<M>,
     sink: &mut K,
@@ -77,56 +77,46 @@ fn push_places<M: TaggedStore, K: Sink>(
     ensures err { OnErr result ((n : ℕ) × K.took sink.old sink.new (take n (owner_lines (run_in machine.now)))) }
     ensures counted { CountsFault (K.faults sink.old) (K.faults sink.new) result }
 {
-    match push_generals(machine, sink) {
-        Ok(()) => push_others(machine, sink),
-        Err(PushFault) => Err(PushFault),
-    }
-}
-
-// Pushes the lines of the special registers and of the granules.
-fn push_others<M: TaggedStore, K: Sink>(
-    machine: &RunMachine<M>,
-    sink: &mut K,
-) -> Result<(), PushFault>
-    ensures ok { OnOk result (K.took sink.old sink.new (special_lines (run_in machine.now) ++ granule_lines (run_in machine.now))) }
-    ensures err { OnErr result ((n : ℕ)
-        × K.took sink.old sink.new (take n (special_lines (run_in machine.now) ++ granule_lines (run_in machine.now)))) }
-    ensures counted { CountsFault (K.faults sink.old) (K.faults sink.new) result }
-{
-    match push_specials(machine, sink) {
+    match push_harts(machine, sink) {
         Ok(()) => push_granules(machine, sink),
         Err(PushFault) => Err(PushFault),
     }
 }
 
-// Pushes the lines of the general registers.
-fn push_generals<M: TaggedStore, K: Sink>(
+// Pushes the lines of the registers of all harts.
+fn push_harts<M: TaggedStore, K: Sink>(
     machine: &RunMachine<M>,
     sink: &mut K,
 ) -> Result<(), PushFault>
-    ensures ok { OnOk result (K.took sink.old sink.new (general_lines (run_in machine.now))) }
-    ensures err { OnErr result ((n : ℕ) × K.took sink.old sink.new (take n (general_lines (run_in machine.now)))) }
+    ensures ok { OnOk result (K.took sink.old sink.new (hart_lines (run_in machine.now))) }
+    ensures err { OnErr result ((n : ℕ) × K.took sink.old sink.new (take n (hart_lines (run_in machine.now)))) }
     ensures counted { CountsFault (K.faults sink.old) (K.faults sink.new) result }
 {
-    for number in 1..32u8 {
-        if let Err(PushFault) = push_owner(machine, RunPlace::General(number), sink) {
+    let mut from = 0u16;
+    while let Some(hart) = machine.next_hart(from) {
+        if let Err(PushFault) = push_registers(machine, hart, sink) {
             return Err(PushFault);
         }
+        if hart == u16::MAX {
+            return Ok(());
+        }
+        from = hart + 1;
     }
     Ok(())
 }
 
-// Pushes the lines of the special registers.
-fn push_specials<M: TaggedStore, K: Sink>(
+// Pushes the lines of the registers of a hart.
+fn push_registers<M: TaggedStore, K: Sink>(
     machine: &RunMachine<M>,
+    hart: u16,
     sink: &mut K,
 ) -> Result<(), PushFault>
-    ensures ok { OnOk result (K.took sink.old sink.new (special_lines (run_in machine.now))) }
-    ensures err { OnErr result ((n : ℕ) × K.took sink.old sink.new (take n (special_lines (run_in machine.now)))) }
+    ensures ok { OnOk result (K.took sink.old sink.new (register_lines (run_in machine.now) hart)) }
+    ensures err { OnErr result ((n : ℕ) × K.took sink.old sink.new (take n (register_lines (run_in machine.now) hart))) }
     ensures counted { CountsFault (K.faults sink.old) (K.faults sink.new) result }
 {
-    for number in 0..32u8 {
-        if let Err(PushFault) = push_owner(machine, RunPlace::Special(number), sink) {
+    for number in 1..64u8 {
+        if let Err(PushFault) = push_owner(machine, hart, place_numbered(number), sink) {
             return Err(PushFault);
         }
     }
@@ -144,7 +134,7 @@ fn push_granules<M: TaggedStore, K: Sink>(
 {
     let mut from = 0u64;
     while let Some(granule) = machine.next_granule(from) {
-        if let Err(PushFault) = push_owner(machine, RunPlace::Granule(granule), sink) {
+        if let Err(PushFault) = push_owner(machine, 0, RunPlace::Granule(granule), sink) {
             return Err(PushFault);
         }
         from = granule + 1;
@@ -152,21 +142,22 @@ fn push_granules<M: TaggedStore, K: Sink>(
     Ok(())
 }
 
-// Pushes the line of a place, if an object owns it.
+// Pushes the line of a place, where a register is that of a hart, if an object owns it.
 fn push_owner<M: TaggedStore, K: Sink>(
     machine: &RunMachine<M>,
+    hart: u16,
     place: RunPlace,
     sink: &mut K,
 ) -> Result<(), PushFault>
     requires { IsRunPlace place }
-    ensures ok { OnOk result (K.took sink.old sink.new (place_line (run_in machine.now) place)) }
-    ensures err { OnErr result ((n : ℕ) × K.took sink.old sink.new (take n (place_line (run_in machine.now) place))) }
+    ensures ok { OnOk result (K.took sink.old sink.new (place_line (run_in machine.now) hart place)) }
+    ensures err { OnErr result ((n : ℕ) × K.took sink.old sink.new (take n (place_line (run_in machine.now) hart place))) }
     ensures counted { CountsFault (K.faults sink.old) (K.faults sink.new) result }
 {
-    match machine.owner_number(place) {
+    match machine.owner_in(hart, place) {
         Some(number) => {
             let mut text = [0u8; 64];
-            let length = owner_text(place, number, &mut text);
+            let length = owner_text(hart, place, number, &mut text);
             push_all(sink, &text[..length])
         }
         None => Ok(()),
@@ -186,11 +177,7 @@ pub fn object_text(roots: u32, object: Object, buffer: &mut [u8; 128]) -> usize
     let at = put(buffer, 0, b"object ");
     let at = put_decimal(buffer, at, u64::from(object.number));
     let at = put(buffer, at, b" ");
-    let at = put_decimal(
-        buffer,
-        at,
-        2 + u64::from(roots) + u64::from(object.handed_at),
-    );
+    let at = put_decimal(buffer, at, object.handed_at.line(roots));
     let at = put(buffer, at, b" ");
     let at = put_extent(buffer, at, object);
     let at = put(buffer, at, b" ");
@@ -224,21 +211,44 @@ fn put_life(buffer: &mut [u8], at: usize, freed: bool) -> usize
     }
 }
 
-/// Writes the line of a place and of the number of the object that owns it, `owner PLACE N` with its line feed, at the
-/// front of the buffer, and answers its length. The rest of the buffer stays as it was.
+/// Writes the line of a place, where a register is that of a hart, and of the number of the object that owns it,
+/// `owner PLACE N` with its line feed, at the front of the buffer, and answers its length. The number of a hart other than 0
+/// stands before the place, as in `2.c5`. The rest of the buffer stays as it was.
 #[tactic(auto, using(cap_log::proofs::ElementLemmas::short_decimal))]
-pub fn owner_text(place: RunPlace, number: u32, buffer: &mut [u8; 64]) -> usize
+pub fn owner_text(hart: u16, place: RunPlace, number: u32, buffer: &mut [u8; 64]) -> usize
     requires { IsRunPlace place }
-    ensures line { take result buffer.new ≡ owner_line place number }
-    ensures length { result ≡ length (owner_line place number) }
+    ensures line { take result buffer.new ≡ owner_line hart place number }
+    ensures length { result ≡ length (owner_line hart place number) }
     ensures fits { result ≤ 64 }
     ensures rest { drop result buffer.new ≡ drop result buffer.old }
 {
     let at = put(buffer, 0, b"owner ");
-    let at = put_run_place(buffer, at, place);
+    let at = put_hart_place(buffer, at, 0, hart, place);
     let at = put(buffer, at, b" ");
     let at = put_decimal(buffer, at, u64::from(number));
     put(buffer, at, b"\n")
+}
+
+/// Writes a place, with the number of a hart before it unless that is the one that is left out.
+#[tactic(auto, using(cap_log::proofs::ElementLemmas::few_digits))]
+pub fn put_hart_place(
+    buffer: &mut [u8],
+    at: usize,
+    left_out: u16,
+    hart: u16,
+    place: RunPlace,
+) -> usize
+    requires place { IsRunPlace place }
+    requires room { at + 23 ≤ length buffer.old }
+    ensures text { Writes at (hart_place_spelling left_out hart place) buffer.old buffer.new result }
+    ensures fits { result ≤ at + 23 }
+{
+    if hart == left_out {
+        return put_run_place(buffer, at, place);
+    }
+    let at = put_decimal(buffer, at, u64::from(hart));
+    let at = put(buffer, at, b".");
+    put_run_place(buffer, at, place)
 }
 
 // Writes a place as a run log spells it.

@@ -131,7 +131,7 @@ fn judge_source<S: Source, M: TaggedStore>(
 fn take_pulled<M: TaggedStore>(judge: &mut RunJudge<M>, pulled: &mut ReadBuffer) -> Stop
     ensures taken { (front : List ℕ) × (items pulled.old ≡ front ++ items pulled.new)
         × StopsAt run_turns (stage_of judge.old) front (items pulled.new) result (stage_of judge.new) }
-    ensures few { lines_read run_turns (stage_of judge.new) ≤ 8589934600 }
+    ensures few { lines_read run_turns (stage_of judge.new) ≤ 12884901900 }
 {
     let taken = judge.take(pulled.as_slice());
     pulled.consume(taken.count);

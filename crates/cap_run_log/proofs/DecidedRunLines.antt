@@ -6,7 +6,7 @@ use Rattle.cap_log.specs.{declared.lines.Line.Line, Lines.{IsRegister, IsTarget,
 use Rattle.cap_log.proofs.DecidedLines.{line_decided}
 use Rattle.cap_log.proofs.Searches.{Decided, Searched, alike, below, both, by_test, caps, either, fits, narrowed, registers, targets, words}
 use Rattle.cap_run_log.specs.declared.lines.{RunLine.RunLine, RunPlace.RunPlace, RunRegister.RunRegister, RunStep.RunStep}
-use Rattle.cap_run_log.specs.RunLines.{IsGranule, IsObjectNumber, IsRunPlace, IsRunRegister, IsRunStepInRange, SpellsRun, run_spelling}
+use Rattle.cap_run_log.specs.RunLines.{IsGranule, IsHart, IsObjectNumber, IsRunPlace, IsRunRegister, IsRunStepInRange, SpellsRun, run_spelling}
 use Rattle.cap_run_log.specs.UsualLines.{as_run}
 use Rattle.cap_run_log.proofs.UsualLineLemmas.{read_alike, spells_alike}
 
@@ -141,23 +141,27 @@ module _ (bytes : List ℕ) where
   IsOwn =
       (bytes ≡ run_spelling RunLine.Version)
       ⊎ (((n : ℕ) × IsRegister n × ((word : Word) × IsWord word.0 × (bytes ≡ run_spelling (RunLine.Root (RunPlace.Special n) word))))
-      ⊎ ((step : RunStep) × IsRunStepInRange step × (bytes ≡ run_spelling (RunLine.Run step))))
+      ⊎ (((hart : ℕ) × IsHart hart × (bytes ≡ run_spelling (RunLine.Hart hart)))
+      ⊎ ((step : RunStep) × IsRunStepInRange step × (bytes ≡ run_spelling (RunLine.Run step)))))
 
   own_decided : Decided IsOwn
   own_decided =
       either (text_is RunLine.Version)
-      (either (registers _ (λ n. words _ (λ w. text_is (RunLine.Root (RunPlace.Special n) w)))) (run_steps _ (λ step. text_is (RunLine.Run step))))
+      (either (registers _ (λ n. words _ (λ w. text_is (RunLine.Root (RunPlace.Special n) w))))
+      (either (below (2 ^ 16) _ (λ hart. text_is (RunLine.Hart hart))) (run_steps _ (λ step. text_is (RunLine.Run step)))))
 
   own_line : IsOwn → (line : RunLine) × SpellsRun bytes line
   own_line (inl is) = (RunLine.Version, (tt, is))
   own_line (inr (inl h)) = (RunLine.Root (RunPlace.Special h.0) h.2.0, ((h.1, h.2.1), h.2.2))
-  own_line (inr (inr h)) = (RunLine.Run h.0, (h.1, h.2))
+  own_line (inr (inr (inl h))) = (RunLine.Hart h.0, (h.1, h.2))
+  own_line (inr (inr (inr h))) = (RunLine.Run h.0, (h.1, h.2))
 
   -- it is neither of those nor one that logs have, too
   no_line : ((line : Line) → Spells bytes line → ⊥) → (IsOwn → ⊥) → (line : RunLine) → SpellsRun bytes line → ⊥
   no_line usual own RunLine.Version spells = own (inl spells.1)
   no_line usual own (RunLine.Root (RunPlace.Special n) word) spells = own (inr (inl (n, spells.0.0, (word, spells.0.1, spells.1))))
-  no_line usual own (RunLine.Run step) spells = own (inr (inr (step, spells.0, spells.1)))
+  no_line usual own (RunLine.Hart hart) spells = own (inr (inr (inl (hart, spells.0, spells.1))))
+  no_line usual own (RunLine.Run step) spells = own (inr (inr (inr (step, spells.0, spells.1))))
   no_line usual own (RunLine.Plain version) spells = let l = read_alike bytes (RunLine.Plain version) spells tt in usual l.0 l.1
   no_line usual own (RunLine.Mode mode) spells = let l = read_alike bytes (RunLine.Mode mode) spells tt in usual l.0 l.1
   no_line usual own (RunLine.Root (RunPlace.General n) word) spells =

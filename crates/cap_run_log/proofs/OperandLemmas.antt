@@ -12,7 +12,7 @@ use Rattle.cap_log.proofs.{Cuts.same_cut, OperandLemmas.{IsOperand}}
 use Rattle.cap_log.proofs.PartLemmas.{number-operand, register-operand, target-operand}
 use Rattle.cap_run_log.specs.declared.lines.{RunPlace.RunPlace, RunRegister.RunRegister}
 use Rattle.cap_run_log.specs.declared.parts.{Freed.Freed, Handed.Handed}
-use Rattle.cap_run_log.specs.RunLines.{IsGranule, IsObjectNumber, IsRunPlace, IsRunRegister, granule_spelling}
+use Rattle.cap_run_log.specs.RunLines.{IsGranule, IsHart, IsObjectNumber, IsRunPlace, IsRunRegister, granule_spelling}
 use Rattle.cap_run_log.specs.RunLines.{run_place_spelling, run_register_spelling, special_spelling}
 use Rattle.cap_run_log.specs.RunParts.{IsFreed, IsHanded, freed_spelling, handed_spelling}
 
@@ -55,6 +55,14 @@ register_at-short least (RunRegister.Special n) fits = special-operand.short n f
 
 pub register_at-operand : (least : ℕ) → IsOperand (IsRunRegister least) run_register_spelling 5
 register_at-operand least = record { one = register_at-one least; plain = register_at-plain least; short = register_at-short least }
+
+-- harts
+pub hart-operand : IsOperand IsHart decimal 5
+hart-operand = record {
+  one = λ m n small small' e. decimal_injective m n (omega arith) (omega arith) e;
+  plain = λ n small. Lacks-decimal 10 n (omega arith) (omega arith);
+  short = λ n small. length-decimal-le 5 n (omega arith) (omega arith) (omega arith);
+}
 
 -- granules
 pub granule-operand : IsOperand IsGranule granule_spelling 17

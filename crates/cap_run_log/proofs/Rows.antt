@@ -1,6 +1,6 @@
 -- Lines that only run logs have, by their heads: what stands behind each head, and the line that head and operands make.
 use Rattle.std.proofs.Common.{append_assoc, ◌≡◌, ℕ, ◌+◌, ◌≤◌, List, [], ◌∷◌, ◌++◌, sym, ap, subst, ◌∙◌, refl, arith, length, length-append, Bool, true, false}
-use Rattle.std.proofs.{Common.{codes, if◌then◌else◌, bytes_eq, lit≤}, lemmas.Bool.false≢true}
+use Rattle.std.proofs.{Common.{codes, decimal, if◌then◌else◌, bytes_eq, lit≤}, lemmas.Bool.false≢true}
 use Rattle.cap_word.specs.{declared.word.{Cap.Cap, Word.Word}, Digits.hex_digits}
 use Rattle.cap_word.proofs.DigitLemmas.{length-hex_digits}
 use Rattle.cap_log.specs.declared.{kinds.{Head.Head, Step.Step}, lines.Line.Line}
@@ -12,13 +12,13 @@ use Rattle.cap_log.proofs.PartLemmas.{register-operand, result-operand, target-o
 use Rattle.cap_run_log.specs.SpaceLaws.{equals-spaceless, granule-spaceless, place-spaceless, register_at-spaceless}
 pub use Rattle.cap_run_log.specs.SpaceLaws.{run_head-spaceless}
 use Rattle.cap_run_log.specs.SpaceLaws.{special-spaceless, tag-spaceless}
-use Rattle.cap_run_log.proofs.OperandLemmas.{freed-operand, granule-operand, handed-operand, register_at-operand, run_place-operand}
+use Rattle.cap_run_log.proofs.OperandLemmas.{freed-operand, granule-operand, handed-operand, hart-operand, register_at-operand, run_place-operand}
 use Rattle.cap_run_log.proofs.OperandLemmas.{special-operand, tag-operand}
 use Rattle.cap_log.proofs.{Cuts.same_cut, Shapes.{head_of, operands_of, spelling-of, text}}
 use Rattle.cap_run_log.specs.declared.{heads.RunHead.RunHead, lines.{RunLine.RunLine, RunStep.RunStep}}
-use Rattle.cap_run_log.specs.declared.{parts.{Freed.Freed, Granule.Granule, Handed.Handed, Same.Same, Tag.Tag}, results.Results.Results}
+use Rattle.cap_run_log.specs.declared.{parts.{Freed.Freed, Granule.Granule, Handed.Handed, HartNumber.HartNumber, Same.Same, Tag.Tag}, results.Results.Results}
 use Rattle.cap_run_log.specs.RunHeads.{IsRunHead, run_head_spelling}
-use Rattle.cap_run_log.specs.RunLines.{IsGranule, IsRunLineInRange, IsRunPlace, IsRunRegister, granule_spelling}
+use Rattle.cap_run_log.specs.RunLines.{IsGranule, IsHart, IsRunLineInRange, IsRunPlace, IsRunRegister, granule_spelling}
 use Rattle.cap_run_log.specs.RunLines.{run_place_spelling, run_register_spelling, run_spelling, special_spelling}
 use Rattle.cap_run_log.specs.RunParts.{IsFreed, IsHanded, StandsAfter, freed_spelling, handed_spelling}
 
@@ -145,6 +145,8 @@ row RunHead.Fill = then_ (one (λ (g : Granule). IsGranule g.0) (λ g. granule_s
     (mapped IsGranule granule_spelling 17 granule-operand (λ g. g.0) (λ n. record { 0 = n }) (λ _. refl))) (λ g fits. granule-spaceless g.0) a_word
 row RunHead.Object = one IsHanded handed_spelling 14 handed-operand
 row RunHead.Free = one IsFreed freed_spelling 10 freed-operand
+row RunHead.Hart = one (λ (h : HartNumber). IsHart h.0) (λ h. decimal h.0) 5
+    (mapped IsHart decimal 5 hart-operand (λ h. h.0) (λ n. record { 0 = n }) (λ _. refl))
 
 pub row-short : (h : RunHead) → (row h).most ≤ 85
 row-short RunHead.Version = lit≤ tt
@@ -185,6 +187,7 @@ made RunHead.Drop x = RunLine.Run (RunStep.Drop x)
 made RunHead.Fill x = RunLine.Run (RunStep.Fill (x.0).0 x.1)
 made RunHead.Object x = RunLine.Run (handed_step x)
 made RunHead.Free x = RunLine.Run (freed_step x)
+made RunHead.Hart x = RunLine.Hart x.0
 
 -- what the line of a head and its operands is
 pub record IsMade (h : RunHead) (x : Value h) : Type 0 where
@@ -221,6 +224,7 @@ is_made RunHead.Drop x = record { in_range = λ f. f; fits = λ f. f; spelling_i
 is_made RunHead.Fill x = record { in_range = λ f. f; fits = λ f. f; spelling_is = refl }
 is_made RunHead.Object x = made_object x
 is_made RunHead.Free x = made_free x
+is_made RunHead.Hart x = record { in_range = λ f. f; fits = λ f. f; spelling_is = refl }
 
 -- a line of the other logs, as one of a run log
 pub run_line_of : Line → RunLine
@@ -258,6 +262,7 @@ kind_of (RunLine.Run (RunStep.Object register)) = Own RunHead.Object (Handed.Alo
 kind_of (RunLine.Run (RunStep.Widen register number)) = Own RunHead.Object (Handed.Numbered register number) refl
 kind_of (RunLine.Run (RunStep.FreeOwner register)) = Own RunHead.Free (Freed.Owner register) refl
 kind_of (RunLine.Run (RunStep.FreeNumber number)) = Own RunHead.Free (Freed.Number number) refl
+kind_of (RunLine.Hart hart) = Own RunHead.Hart (record { 0 = hart }) refl
 kind_of (RunLine.End steps) = Usual (Line.End steps) (λ f. f) refl (λ e. cc) refl
 
 -- the head that a word names
@@ -270,8 +275,9 @@ run_named word =
     if bytes_eq word (codes "invoke") then RunHead.Invoke else (
     if bytes_eq word (codes "drop") then RunHead.Drop else (
     if bytes_eq word (codes "fill") then RunHead.Fill else (
-    if bytes_eq word (codes "object") then RunHead.Object else
-    RunHead.Free)))))))
+    if bytes_eq word (codes "object") then RunHead.Object else (
+    if bytes_eq word (codes "hart") then RunHead.Hart else
+    RunHead.Free))))))))
 
 run_named-spelling : (h : RunHead) → run_named (run_head_spelling h) ≡ h
 unfolding run_named
@@ -377,7 +383,7 @@ abbrev After : RunHead → Type 0
 After h = StandsAfter h (Fits h) (run_text h)
 
 pub after_each : After RunHead.Version × After RunHead.Root × After RunHead.Derive × After RunHead.Exchange × After RunHead.Invoke
-    × After RunHead.Drop × After RunHead.Fill × After RunHead.Object × After RunHead.Free
+    × After RunHead.Drop × After RunHead.Fill × After RunHead.Object × After RunHead.Free × After RunHead.Hart
 after_each = (
   stands_after RunHead.Version,
   stands_after RunHead.Root,
@@ -388,4 +394,5 @@ after_each = (
   stands_after RunHead.Fill,
   stands_after RunHead.Object,
   stands_after RunHead.Free,
+  stands_after RunHead.Hart,
 )

@@ -39,6 +39,7 @@ as_usual (RunLine.Root (RunPlace.General number) word) is = (Line.Root (Place.Re
 as_usual (RunLine.Root (RunPlace.Special number) word) is = absurd is
 as_usual (RunLine.Root (RunPlace.Granule number) word) is = (Line.Root (Place.Granule number) word, refl)
 as_usual (RunLine.Step step) is = (Line.Step step, refl)
+as_usual (RunLine.Hart hart) is = absurd is
 as_usual (RunLine.Run step) is = absurd is
 as_usual (RunLine.End count) is = (Line.End count, refl)
 

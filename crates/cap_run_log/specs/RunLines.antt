@@ -9,7 +9,7 @@ use Rattle.cap_run_log.specs.declared.lines.RunLine.TheVariants as lines
 use Rattle.cap_run_log.specs.declared.lines.RunStep.TheVariants as steps
 use Rattle.cap_run_log.specs.declared.lines.RunPlace.TheVariants as places
 use Rattle.cap_run_log.specs.declared.lines.RunRegister.TheVariants as registers
-pub use Rattle.cap_run_log.specs.RunRanges.{IsGranule, IsObjectNumber, IsRunRegister}
+pub use Rattle.cap_run_log.specs.RunRanges.{IsGranule, IsHart, IsObjectNumber, IsRunRegister}
 
 -- a special register: scr and its number in decimal
 abbrev pub special_spelling : ℕ → List ℕ
@@ -72,6 +72,7 @@ run_line_words lines.Version = codes "run" ∷ codes "1" ∷ []
 run_line_words (lines.Plain version) = codes "capcheck" ∷ decimal version ∷ []
 run_line_words (lines.Mode mode) = codes "mode" ∷ mode_spelling mode ∷ []
 run_line_words (lines.Root place word) = codes "root" ∷ run_place_spelling place ∷ hex_digits 32 word.0 ∷ []
+run_line_words (lines.Hart hart) = codes "hart" ∷ decimal hart ∷ []
 run_line_words (lines.Step step) = step_words step
 run_line_words (lines.Run step) = run_step_words step
 run_line_words (lines.End steps) = codes "end" ∷ decimal steps ∷ []
@@ -86,6 +87,7 @@ IsRunLineInRange lines.Version = Unit {0}
 IsRunLineInRange (lines.Plain version) = IsVersion version
 IsRunLineInRange (lines.Mode mode) = Unit {0}
 IsRunLineInRange (lines.Root place word) = IsRunPlace place × IsWord word.0
+IsRunLineInRange (lines.Hart hart) = IsHart hart
 IsRunLineInRange (lines.Step step) = IsStepInRange step
 IsRunLineInRange (lines.Run step) = IsRunStepInRange step
 IsRunLineInRange (lines.End steps) = steps < 2 ^ 32

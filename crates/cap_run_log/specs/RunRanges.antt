@@ -11,6 +11,10 @@ IsRunRegister least (Special n) = IsRegister n
 abbrev pub IsGranule : ℕ → Type 0
 IsGranule n = n < 2 ^ 60
 
+-- the number of a hart
+abbrev pub IsHart : ℕ → Type 0
+IsHart n = n < 2 ^ 16
+
 -- the number of an object
 abbrev pub IsObjectNumber : ℕ → Type 0
 IsObjectNumber n = (1 ≤ n) × (n < 2 ^ 32)

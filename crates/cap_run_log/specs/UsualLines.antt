@@ -17,10 +17,11 @@ as_run (Root place word) = lines.Root (in_run place) word
 as_run (Step step) = lines.Step step
 as_run (End count) = lines.End count
 
--- a line that logs have, too: neither the version line of a run log, nor a root at a special register, nor a step that only
--- runs have
+-- a line that logs have, too: neither the version line of a run log, nor a root at a special register, nor a hart line, nor a
+-- step that only runs have
 abbrev pub IsUsualLine : RunLine → Type 0
 IsUsualLine lines.Version = ⊥
 IsUsualLine (lines.Root (places.Special number) word) = ⊥
+IsUsualLine (lines.Hart hart) = ⊥
 IsUsualLine (lines.Run step) = ⊥
 IsUsualLine line = Unit {0}

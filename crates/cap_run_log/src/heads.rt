@@ -29,6 +29,8 @@ pub enum RunHead {
     Object,
     /// `free`.
     Free,
+    /// `hart`.
+    Hart,
 }
 
 // Returns the head and what follows it, if this word and its end stand in front.
@@ -55,6 +57,7 @@ impl Part for RunHead {
         stands!(bytes, end, RunHead::Invoke, b"invoke");
         stands!(bytes, end, RunHead::Root, b"root");
         stands!(bytes, end, RunHead::Version, b"run");
+        stands!(bytes, end, RunHead::Hart, b"hart");
         None
     }
 
@@ -79,6 +82,7 @@ fn run_head_text(head: RunHead) -> &'static [u8]
         RunHead::Fill => b"fill",
         RunHead::Object => b"object",
         RunHead::Free => b"free",
+        RunHead::Hart => b"hart",
     }
 }
 
@@ -98,6 +102,7 @@ pub(crate) fn strip_head(head: RunHead, bytes: &[u8]) -> Option<&[u8]>
         RunHead::Fill => strip_word(bytes, b"fill", b' '),
         RunHead::Object => strip_word(bytes, b"object", b' '),
         RunHead::Free => strip_word(bytes, b"free", b' '),
+        RunHead::Hart => strip_word(bytes, b"hart", b' '),
     }
 }
 

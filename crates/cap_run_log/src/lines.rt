@@ -97,6 +97,8 @@ pub enum RunLine {
     Mode(Mode),
     /// `root`: a place that holds this word, tagged, before the first step.
     Root(RunPlace, Word),
+    /// `hart`: the hart, 0 to 65,535, whose registers the lines after it name.
+    Hart(u16),
     /// A step that every log may have.
     Step(Step),
     /// A step that only runs have.

@@ -2,7 +2,7 @@
 
 ghost use Rattle.std.specs.Prelude.{◌≡◌, ◌↔◌, [], ◌∷◌, decimal, true};
 ghost use Rattle.cap_log.specs.Lines.{tag_spelling};
-ghost use Rattle.cap_run_log.specs.RunLines.{IsGranule, IsObjectNumber, IsRunPlace, granule_spelling, run_place_spelling};
+ghost use Rattle.cap_run_log.specs.RunLines.{IsGranule, IsHart, IsObjectNumber, IsRunPlace, granule_spelling, run_place_spelling};
 ghost use Rattle.cap_run_log.specs.RunParts.{IsFreed, IsHanded, freed_spelling, handed_spelling};
 ghost use Rattle.cap_run_log.specs.SpaceLaws.{equals-spaceless, granule-spaceless, place-spaceless, tag-spaceless};
 ghost use Rattle.cap_run_log.specs.UsualLines.{in_run};
@@ -158,6 +158,28 @@ impl Part for ObjectNumber {
             return None;
         };
         Some((ObjectNumber(number), rest))
+    }
+
+    #[inline(always)]
+    fn write(&self, buffer: &mut [u8], at: usize) -> usize {
+        put_decimal(buffer, at, u64::from(self.0))
+    }
+}
+
+/// The number of a hart.
+#[derive(Clone, Copy)]
+pub struct HartNumber(pub u16);
+
+impl Part for HartNumber {
+    ghost fits = { λ hart. IsHart hart.0 };
+
+    ghost spelled = { λ hart. decimal hart.0 };
+
+    fn take(bytes: &[u8], end: u8) -> Option<(HartNumber, &[u8])> {
+        let Some((number, rest)) = take_decimal::<5, 0, 0x1_0000>(bytes, end) else {
+            return None;
+        };
+        Some((HartNumber(number as u16), rest))
     }
 
     #[inline(always)]

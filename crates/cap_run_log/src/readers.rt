@@ -18,7 +18,7 @@ ghost use Rattle.cap_run_log.specs.declared.heads.RunHead.TheVariants as heads;
 use crate::heads::{RunHead, strip_derive, strip_exchange, strip_head};
 use crate::lines::{Derive, Exchange, Invoke, RunLine, RunStep};
 use crate::operands::Special;
-use crate::parts::{Equals, Freed, Granule, Handed, One};
+use crate::parts::{Equals, Freed, Granule, Handed, HartNumber, One};
 use crate::results::Results;
 use cap_log::buffers::put;
 use cap_log::{Line, Part, Register, Target, take_line};
@@ -85,7 +85,7 @@ pub fn take_derive(bytes: &[u8]) -> Option<(Derive, &[u8])>
 /// step, and what follows its line. `None` if no such line and a line feed stand there.
 #[inline(always)]
 pub fn take_step(head: RunHead, bytes: &[u8]) -> Option<(RunStep, &[u8])>
-    requires { (head ≢ heads.Version) × (head ≢ heads.Root) }
+    requires { (head ≢ heads.Version) × (head ≢ heads.Root) × (head ≢ heads.Hart) }
     ensures some { IfSome result (λ p. Begins IsRunLineInRange run_spelling 10 bytes.now (lines.Run p.0) p.1.now) }
     ensures none { IfNone result ((step : RunStepIn) (rest : List ℕ)
         → Begins IsRunLineInRange run_spelling 10 bytes.now (lines.Run step) rest → BeginsWithout (run_head_spelling head) 32 bytes.now) }
@@ -164,6 +164,9 @@ fn take_run_operands(head: RunHead, bytes: &[u8]) -> Option<(RunLine, &[u8])>
         RunHead::Root => {
             taken!(take_parts(head, bytes), (place, word) => RunLine::Root(place, word))
         }
+        RunHead::Hart => {
+            taken!(take_parts::<HartNumber>(head, bytes), hart => RunLine::Hart(hart.0))
+        }
         _ => taken!(take_step_operands(head, bytes), step => RunLine::Run(step)),
     }
 }
@@ -171,13 +174,13 @@ fn take_run_operands(head: RunHead, bytes: &[u8]) -> Option<(RunLine, &[u8])>
 // Takes what follows the head of a step and its space, with the line feed.
 #[inline(always)]
 fn take_step_operands(head: RunHead, bytes: &[u8]) -> Option<(RunStep, &[u8])>
-    requires { (head ≢ heads.Version) × (head ≢ heads.Root) }
+    requires { (head ≢ heads.Version) × (head ≢ heads.Root) × (head ≢ heads.Hart) }
     ensures some { IfSome result (λ p. Begins IsRunLineInRange run_spelling 10 (run_head_spelling head ++ 32 ∷ bytes.now)
         (lines.Run p.0) p.1.now) }
     ensures none { IfNone result (BeginsWithNone IsRunLineInRange run_spelling 10 (run_head_spelling head ++ 32 ∷ bytes.now)) }
 {
     match head {
-        RunHead::Version | RunHead::Root => None,
+        RunHead::Version | RunHead::Root | RunHead::Hart => None,
         RunHead::Derive => taken!(take_derived(bytes), derive => RunStep::Derive(derive)),
         RunHead::Exchange => taken!(take_exchanged(bytes), exchange => RunStep::Exchange(exchange)),
         RunHead::Invoke => {

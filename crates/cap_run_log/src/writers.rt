@@ -11,7 +11,7 @@ ghost use Rattle.cap_run_log.specs.declared.lines.RunStep.TheVariants as steps;
 use crate::heads::RunHead;
 use crate::lines::{Exchange, RunLine, RunStep};
 use crate::operands::{RunSource, RunTarget};
-use crate::parts::{EQUALS, Freed, Granule, Handed, ONE};
+use crate::parts::{EQUALS, Freed, Granule, Handed, HartNumber, ONE};
 use crate::results::Results;
 use cap_log::buffers::put;
 use cap_log::{Line, Part, write_line};
@@ -30,6 +30,7 @@ pub fn write_run_line(line: &RunLine, buffer: &mut [u8; 96]) -> usize
         RunLine::End(steps) => write_line(&Line::End(steps), buffer),
         RunLine::Version => end_line(line, RunHead::Version, ONE, buffer),
         RunLine::Root(place, word) => end_line(line, RunHead::Root, (place, word), buffer),
+        RunLine::Hart(hart) => end_line(line, RunHead::Hart, HartNumber(hart), buffer),
         RunLine::Run(step) => write_run_step(line, step, buffer),
     }
 }

@@ -17,6 +17,7 @@ form_of heads.Drop = codes "drop PLACE, PLACE cN, scrN or @ADDRESS"
 form_of heads.Fill = codes "fill @ADDRESS WORD"
 form_of heads.Object = codes "object cN, or object cN K"
 form_of heads.Free = codes "free cN, or free K"
+form_of heads.Hart = codes "hart H, H 0 to 65535"
 
 -- a line, with its line feed, begins with a word of a run log
 abbrev pub BeginsRun : List ℕ → RunHead → Type 0
@@ -28,7 +29,7 @@ AreOtherLines text told =
     let line = text ++ 10 ∷ [] in
     (((head : Head) × (rest : List ℕ) × Begins IsHead head_spelling 32 line head rest) × AreBadLines text told)
     ⊎ (BeginsWithNone IsHead head_spelling 32 line
-    × (told ≡ text_line (codes "expected") (codes "derive, exchange, invoke, drop, fill, object, free, a step of version 2 or end")))
+    × (told ≡ text_line (codes "expected") (codes "derive, exchange, invoke, drop, fill, object, free, hart, a step of version 2 or end")))
 
 -- what is told of a line that has no form: the form that its first word asks for; or if that is no word of run logs alone,
 -- what is told of it in another log

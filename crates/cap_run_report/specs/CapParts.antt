@@ -27,11 +27,17 @@ placed_in run register = record { place = place_of register; cap = run.state (re
 abbrev pub recorded_for : RunRegister → Cap → Placed
 recorded_for register result = record { place = place_of register; cap = result }
 
--- a capability after a name and its place: its tag, its word, and what the word stands for
-unfoldable pub held_lines : List ℕ → RunPlace → Cap → List ℕ
-held_lines name place cap =
-    name ++ codes " " ++ run_place_spelling place ++ codes " " ++ tag_spelling cap.tag ++ codes " " ++ hex_digits 32 cap.word.0 ++ codes "\n"
-    ++ meaning_lines name cap.word.0
+-- a capability after its place: its tag, its word, and what the word stands for
+unfoldable pub cap_lines : List ℕ → Cap → List ℕ
+cap_lines name cap =
+    codes " " ++ tag_spelling cap.tag ++ codes " " ++ hex_digits 32 cap.word.0 ++ codes "\n" ++ meaning_lines name cap.word.0
+
+-- a capability after a name and its place
+unfoldable pub told_lines : List ℕ → List ℕ → Cap → List ℕ
+told_lines name place cap = name ++ codes " " ++ place ++ cap_lines name cap
+
+abbrev pub held_lines : List ℕ → RunPlace → Cap → List ℕ
+held_lines name place = told_lines name (run_place_spelling place)
 
 -- what a register of a run holds
 abbrev pub register_lines : List ℕ → Run → RunRegister → List ℕ

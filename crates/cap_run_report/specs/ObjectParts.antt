@@ -1,40 +1,59 @@
 -- The lines that show an object of a run, and which place holds it (this profile's own).
 use Rattle.std.specs.{Bool.beq, Prelude.{◌≡◌, ◌⊎◌, ℕ, ◌+◌, ◌^◌, ◌≤◌, ◌<◌, Bool, true, false, if◌then◌else◌, not, nat_lt, ◌&&◌, List, [], ◌++◌}}
 use Rattle.std.specs.Prelude.{Option, Some, None, codes, decimal}
-use Rattle.cap_objects.specs.{Counts.is_owner, declared.objects.Object.Object}
-use Rattle.cap_run_log.specs.declared.lines.RunPlace.{RunPlace, TheVariants.{General, Special, Granule}}
+use Rattle.cap_machine.specs.States.{granule_key}
+use Rattle.cap_objects.specs.{Counts.is_owner, declared.objects.Object.Object, Moments.line_at}
+use Rattle.cap_run_log.specs.declared.lines.RunPlace.{RunPlace, TheVariants.Granule}
 use Rattle.cap_texts.specs.{CapLines.bounds_line, TextLines.text_line}
-use Rattle.cap_run.specs.{Run.Run, RunChanges.place_key, RunChecks.shares}
-use Rattle.cap_run_judge.specs.OwnerLists.{object_line}
-use Rattle.cap_run_report.specs.CapParts.{held_lines}
+use Rattle.cap_run.specs.{HartPlaces.{place_in, place_numbered}, Harts.most_harts, Run.Run, RunChecks.shares}
+use Rattle.cap_run_judge.specs.OwnerLists.{hart_place_spelling, object_line}
+use Rattle.cap_run_report.specs.CapParts.{told_lines}
 
 -- the line that freed an object, in a log with so many roots
 abbrev pub freed_line : ℕ → Object → List ℕ
-freed_line roots object = if object.freed then text_line (codes "freed") (decimal (2 + roots + object.freed_at)) else []
+freed_line roots object = if object.freed then text_line (codes "freed") (decimal (line_at roots object.freed_at)) else []
 
--- an object owns a place
-abbrev pub Owns : Run → ℕ → RunPlace → Type 0
-Owns run number place = run.owners (place_key place) ≡ Some number
+-- an object owns a place, where a register is that of a hart
+abbrev pub Owns : Run → ℕ → ℕ → RunPlace → Type 0
+Owns run number hart place = run.owners (place_in run.harts hart place) ≡ Some number
 
--- it owns none of the places from a number on, to before another one
-abbrev pub OwnsNone : Run → ℕ → (ℕ → RunPlace) → ℕ → ℕ → Type 0
-OwnsNone run number place from to = (n : ℕ) → from ≤ n → n < to → Owns run number (place n) → ⊥
+-- it owns no register of a hart before one
+abbrev pub OwnsNone : Run → ℕ → ℕ → ℕ → Type 0
+OwnsNone run number hart before = (register : ℕ) → 1 ≤ register → register < before → Owns run number hart (place_numbered register) → ⊥
 
--- the first place that an object owns: general registers, special registers, granules by address
-abbrev pub IsFirstHolder : Run → ℕ → RunPlace → Type 0
-IsFirstHolder run number (General n) = Owns run number (General n) × OwnsNone run number General 1 n
-IsFirstHolder run number (Special n) = Owns run number (Special n) × OwnsNone run number General 1 32 × OwnsNone run number Special 0 n
-IsFirstHolder run number (Granule n) =
-    Owns run number (Granule n) × OwnsNone run number General 1 32 × OwnsNone run number Special 0 32 × OwnsNone run number Granule 0 n
+-- it owns no register of harts before one, and no granule before one
+abbrev pub OwnsNoRegister : Run → ℕ → ℕ → Type 0
+OwnsNoRegister run number before = (hart : ℕ) → hart < before → OwnsNone run number hart 64
+
+abbrev pub OwnsNoGranule : Run → ℕ → ℕ → Type 0
+OwnsNoGranule run number before = (granule : ℕ) → granule < before → run.owners (granule_key granule) ≡ Some number → ⊥
+
+-- the first register of a hart that an object owns
+abbrev pub IsFirstRegister : Run → ℕ → ℕ → RunPlace → Type 0
+IsFirstRegister run number hart place =
+    (register : ℕ) × (place ≡ place_numbered register) × Owns run number hart place × OwnsNone run number hart register
+
+-- the first granule that it owns, where it owns no register: it is no hart's, and the current one stands for that
+abbrev pub IsFirstGranule : Run → ℕ → ℕ → RunPlace → Type 0
+IsFirstGranule run number hart place =
+    (granule : ℕ) × (place ≡ Granule granule) × (hart ≡ (let harts = run.harts in harts.current)) × Owns run number hart place
+    × OwnsNoRegister run number most_harts × OwnsNoGranule run number granule
+
+-- the first place that it owns: by hart c1 to c31 and scr0 to scr31, then the granules by address
+abbrev pub IsFirstHolder : Run → ℕ → ℕ × RunPlace → Type 0
+IsFirstHolder run number found =
+    (IsFirstRegister run number found.0 found.1 × OwnsNoRegister run number found.0) ⊎ IsFirstGranule run number found.0 found.1
 
 -- no place is an object's
 abbrev pub HasNoHolder : Run → ℕ → Type 0
-HasNoHolder run number = OwnsNone run number General 1 32 × OwnsNone run number Special 0 32 × OwnsNone run number Granule 0 (2 ^ 60)
+HasNoHolder run number = OwnsNoRegister run number most_harts × OwnsNoGranule run number (2 ^ 60)
 
 -- the first place that holds an object, with what it holds, if there is one
 abbrev pub AreHolderLines : Run → ℕ → List ℕ → Type 0
 AreHolderLines run number told =
-    ((place : RunPlace) × IsFirstHolder run number place × (told ≡ held_lines (codes "holder") place (run.state (place_key place))))
+    ((found : ℕ × RunPlace) × IsFirstHolder run number found
+    × (told ≡ told_lines (codes "holder") (hart_place_spelling (let harts = run.harts in harts.current) found.0 found.1)
+    (run.state (place_in run.harts found.0 found.1))))
     ⊎ (HasNoHolder run number × (told ≡ []))
 
 -- an object: the line that lists it with the owners, the line that freed it, and the first place that holds it

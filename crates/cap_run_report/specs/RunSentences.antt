@@ -2,16 +2,17 @@
 use Rattle.std.specs.Prelude.{◌≡◌, ◌⊎◌, ℕ, ◌+◌, ◌-◌, nat_lt, Bool, true, false, if◌then◌else◌, List, [], ◌++◌, Option, Some, None, codes, decimal}
 use Rattle.cap_word.specs.declared.word.Cap.{Cap}
 use Rattle.cap_bounds.specs.Bounds.{base_of, top_of}
-use Rattle.cap_objects.specs.declared.objects.Object.{Object}
+use Rattle.cap_objects.specs.{declared.objects.Object.Object, Moments.line_at}
 use Rattle.cap_run_log.specs.declared.lines.RunPlace.{RunPlace, TheVariants.General}
 use Rattle.cap_run_log.specs.RunLines.{run_place_spelling}
 use Rattle.cap_run.specs.Run.{Run}
+use Rattle.cap_run_judge.specs.OwnerLists.{hart_place_spelling}
 use Rattle.cap_run_report.specs.ObjectParts.{HasNoHolder, IsFirstHolder, IsLeastMet, MeetsNone}
 use Rattle.cap_run_report.specs.{DeriveSentences.sealed_type_text, Extents.asked_extent}
 
 -- the line that freed an object, if one did, in a log with so many roots
 abbrev pub freed_by : ℕ → Object → List ℕ
-freed_by roots object = codes " and freed by line " ++ decimal (2 + roots + object.freed_at)
+freed_by roots object = codes " and freed by line " ++ decimal (line_at roots object.freed_at)
 
 abbrev pub freed_text : ℕ → Object → List ℕ
 freed_text roots object = if object.freed then freed_by roots object else []
@@ -19,7 +20,7 @@ freed_text roots object = if object.freed then freed_by roots object else []
 -- an object, the line that allocated it, and the line that freed it
 unfoldable pub object_text : ℕ → Object → List ℕ
 object_text roots object =
-    codes "object " ++ decimal object.number ++ codes ", allocated by line " ++ decimal (2 + roots + object.handed_at) ++ freed_text roots object
+    codes "object " ++ decimal object.number ++ codes ", allocated by line " ++ decimal (line_at roots object.handed_at) ++ freed_text roots object
 
 -- an object that isn't present
 unfoldable pub gone_text : ℕ → List ℕ
@@ -73,8 +74,9 @@ others_text held = if nat_lt 1 held then codes ", as " ++ decimal (held - 1) ++ 
 -- the first place that holds a freed object
 abbrev pub IsHolderText : Run → Object → List ℕ → Type 0
 IsHolderText run object text =
-    ((place : RunPlace) × IsFirstHolder run object.number place
-    × (text ≡ codes "; " ++ run_place_spelling place ++ codes " still holds it" ++ others_text object.held))
+    ((found : ℕ × RunPlace) × IsFirstHolder run object.number found
+    × (text ≡ codes "; " ++ hart_place_spelling (let harts = run.harts in harts.current) found.0 found.1 ++ codes " still holds it"
+    ++ others_text object.held))
     ⊎ (HasNoHolder run object.number × (text ≡ []))
 
 -- the object whose extent an interval shares an address with, of several that of the least base; with its holder, if it is

@@ -48,7 +48,7 @@ pub fn put_bad_run_line(buffer: &mut [u8], at: usize, text: &[u8]) -> usize
                 buffer,
                 at,
                 b"expected",
-                b"derive, exchange, invoke, drop, fill, object, free, a step of version 2 or end",
+                b"derive, exchange, invoke, drop, fill, object, free, hart, a step of version 2 or end",
             ),
         },
     }
@@ -69,5 +69,6 @@ fn form_of(head: RunHead) -> &'static [u8]
         RunHead::Fill => b"fill @ADDRESS WORD",
         RunHead::Object => b"object cN, or object cN K",
         RunHead::Free => b"free cN, or free K",
+        RunHead::Hart => b"hart H, H 0 to 65535",
     }
 }

@@ -5,7 +5,7 @@ ghost use Rattle.cap_streams.specs.Written.{Writes};
 ghost use Rattle.cap_run_log.specs.RunLines.{IsRunRegister, run_place_spelling};
 ghost use Rattle.cap_texts.specs.TextLines.{says_line};
 ghost use Rattle.cap_report.specs.Says.{taken_text};
-ghost use Rattle.cap_run_report.specs.CapParts.{IsReadable, held_lines, owned_lines, place_of, placed_in, recorded_for, register_lines};
+ghost use Rattle.cap_run_report.specs.CapParts.{cap_lines, IsReadable, held_lines, owned_lines, place_of, placed_in, recorded_for, register_lines};
 ghost use Rattle.cap_run.specs.Machines.{run_in};
 
 use cap_log::Place;
@@ -72,6 +72,16 @@ pub fn put_held(buffer: &mut [u8], at: usize, name: &[u8], place: RunPlace, cap:
     let at = put(buffer, at, name);
     let at = put(buffer, at, b" ");
     let at = put_run_place(buffer, at, place);
+    put_told(buffer, at, name, cap)
+}
+
+/// Writes what follows the name and the place of a capability in its lines.
+pub fn put_told(buffer: &mut [u8], at: usize, name: &[u8], cap: Cap) -> usize
+    requires name { length name.now ≤ 9 }
+    requires room { at + 144 ≤ length buffer.old }
+    ensures written { Writes at (cap_lines name.now cap) buffer.old buffer.new result }
+    ensures fits { result ≤ at + 144 }
+{
     let at = put(buffer, at, b" ");
     let at = put_flag(buffer, at, cap.tag);
     let at = put(buffer, at, b" ");

@@ -174,7 +174,11 @@ fn put_known<M: TaggedStore>(
         RunLine::Root(place, word) => put_root(machine, buffer, at, place, word, refusal),
         RunLine::Step(step) => put_usual(machine, buffer, at, &step, refusal),
         RunLine::Run(step) => put_run_step(machine, buffer, at, &step, refusal),
-        RunLine::Version | RunLine::Plain(_) | RunLine::Mode(_) | RunLine::End(_) => at,
+        RunLine::Version
+        | RunLine::Plain(_)
+        | RunLine::Mode(_)
+        | RunLine::Hart(_)
+        | RunLine::End(_) => at,
     }
 }
 

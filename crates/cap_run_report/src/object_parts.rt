@@ -3,94 +3,100 @@
 ghost use Rattle.std.specs.Prelude.{◌≡◌, ◌+◌, ◌≤◌, ◌^◌, ℕ, List, false, IsTrue, IfSome, IfNone, length};
 ghost use Rattle.cap_streams.specs.Written.{Writes};
 ghost use Rattle.cap_run_log.specs.RunLines.{IsRunPlace};
-ghost use Rattle.cap_run_log.specs.declared.lines.RunPlace.TheVariants as places;
 ghost use Rattle.cap_run_report.specs.ObjectParts.{AreExtentLines, AreHolderLines, AreMetLines, AreNumberLines, AreObjectLines, AreOwnerLines};
-ghost use Rattle.cap_run_report.specs.ObjectParts.{HasNoHolder, IsFirstHolder, IsLeastMet, MeetsNone, Owns, OwnsNone, freed_line, is_met, lesser};
+ghost use Rattle.cap_run_report.specs.ObjectParts.{HasNoHolder, IsFirstHolder, IsFirstRegister, IsLeastMet, MeetsNone, Owns, OwnsNoRegister, OwnsNone};
+ghost use Rattle.cap_run_report.specs.ObjectParts.{freed_line, is_met, lesser};
+ghost use Rattle.cap_run.specs.Harts.{most_harts};
 ghost use Rattle.cap_run.specs.Machines.{run_in};
 
-use crate::cap_parts::put_held;
+use crate::cap_parts::put_told;
 use cap_log::buffers::put;
 use cap_objects::Object;
-use cap_run::RunMachine;
-use cap_run_judge::object_text;
+use cap_run::{RunMachine, place_numbered};
+use cap_run_judge::{object_text, put_hart_place};
 use cap_run_log::RunPlace;
 use cap_texts::cap_lines::put_bounds_line;
 use cap_texts::text_lines::put_decimal_line;
 use tagmem::TaggedStore;
 
-// Whether an object owns a place.
-fn owns<M: TaggedStore>(machine: &RunMachine<M>, number: u32, place: RunPlace) -> bool
+// Whether an object owns a place, where a register is that of a hart.
+fn owns<M: TaggedStore>(machine: &RunMachine<M>, number: u32, hart: u16, place: RunPlace) -> bool
     requires { IsRunPlace place }
-    ensures yes { IsTrue result → Owns (run_in machine.now) number place }
-    ensures no { result ≡ false → Owns (run_in machine.now) number place → ⊥ }
+    ensures yes { IsTrue result → Owns (run_in machine.now) number hart place }
+    ensures no { result ≡ false → Owns (run_in machine.now) number hart place → ⊥ }
 {
-    match machine.owner_number(place) {
+    match machine.owner_in(hart, place) {
         Some(owner) => owner == number,
         None => false,
     }
 }
 
-// The first general register that an object owns.
-fn general_holder<M: TaggedStore>(machine: &RunMachine<M>, number: u32) -> Option<RunPlace>
-    ensures some { IfSome result (IsFirstHolder (run_in machine.now) number) }
+// The first register of a hart that an object owns.
+fn register_holder<M: TaggedStore>(
+    machine: &RunMachine<M>,
+    number: u32,
+    hart: u16,
+) -> Option<RunPlace>
+    ensures some { IfSome result (IsFirstRegister (run_in machine.now) number hart) }
     ensures place { IfSome result IsRunPlace }
-    ensures none { IfNone result (OwnsNone (run_in machine.now) number places.General 1 32) }
+    ensures none { IfNone result (OwnsNone (run_in machine.now) number hart 64) }
 {
-    for register in 1..32u8 {
-        let place = RunPlace::General(register);
-        if owns(machine, number, place) {
+    for register in 1..64u8 {
+        let place = place_numbered(register);
+        if owns(machine, number, hart, place) {
             return Some(place);
         }
     }
     None
 }
 
-// The first special register that an object owns which owns no general one.
-fn special_holder<M: TaggedStore>(machine: &RunMachine<M>, number: u32) -> Option<RunPlace>
-    requires { OwnsNone (run_in machine.now) number places.General 1 32 }
+// The first register of all harts that an object owns.
+fn hart_holder<M: TaggedStore>(machine: &RunMachine<M>, number: u32) -> Option<(u16, RunPlace)>
     ensures some { IfSome result (IsFirstHolder (run_in machine.now) number) }
-    ensures place { IfSome result IsRunPlace }
-    ensures none { IfNone result (OwnsNone (run_in machine.now) number places.Special 0 32) }
+    ensures place { IfSome result (λ found. IsRunPlace found.1) }
+    ensures none { IfNone result (OwnsNoRegister (run_in machine.now) number most_harts) }
 {
-    for register in 0..32u8 {
-        let place = RunPlace::Special(register);
-        if owns(machine, number, place) {
-            return Some(place);
+    let mut from = 0u16;
+    while let Some(hart) = machine.next_hart(from) {
+        if let Some(place) = register_holder(machine, number, hart) {
+            return Some((hart, place));
         }
+        if hart == u16::MAX {
+            return None;
+        }
+        from = hart + 1;
     }
     None
 }
 
 // The first granule that an object owns which owns no register.
-fn granule_holder<M: TaggedStore>(machine: &RunMachine<M>, number: u32) -> Option<RunPlace>
-    requires general { OwnsNone (run_in machine.now) number places.General 1 32 }
-    requires special { OwnsNone (run_in machine.now) number places.Special 0 32 }
+fn granule_holder<M: TaggedStore>(machine: &RunMachine<M>, number: u32) -> Option<(u16, RunPlace)>
+    requires { OwnsNoRegister (run_in machine.now) number most_harts }
     ensures some { IfSome result (IsFirstHolder (run_in machine.now) number) }
-    ensures place { IfSome result IsRunPlace }
+    ensures place { IfSome result (λ found. IsRunPlace found.1) }
     ensures none { IfNone result (HasNoHolder (run_in machine.now) number) }
 {
+    let hart = machine.hart();
     let mut from = 0u64;
     while let Some(granule) = machine.next_granule(from) {
         let place = RunPlace::Granule(granule);
-        if owns(machine, number, place) {
-            return Some(place);
+        if owns(machine, number, hart, place) {
+            return Some((hart, place));
         }
         from = granule + 1;
     }
     None
 }
 
-/// The first place that an object owns: c1 to c31, scr0 to scr31, and the granules by address.
-pub fn holder<M: TaggedStore>(machine: &RunMachine<M>, number: u32) -> Option<RunPlace>
+/// The first place that an object owns, and its hart: by hart c1 to c31 and scr0 to scr31, then the granules by address, for
+/// which the current hart stands.
+pub fn holder<M: TaggedStore>(machine: &RunMachine<M>, number: u32) -> Option<(u16, RunPlace)>
     ensures some { IfSome result (IsFirstHolder (run_in machine.now) number) }
-    ensures place { IfSome result IsRunPlace }
+    ensures place { IfSome result (λ found. IsRunPlace found.1) }
     ensures none { IfNone result (HasNoHolder (run_in machine.now) number) }
 {
-    if let Some(place) = general_holder(machine, number) {
-        return Some(place);
-    }
-    if let Some(place) = special_holder(machine, number) {
-        return Some(place);
+    if let Some(found) = hart_holder(machine, number) {
+        return Some(found);
     }
     granule_holder(machine, number)
 }
@@ -107,7 +113,11 @@ fn put_holder<M: TaggedStore>(
     ensures fits { result ≤ at + 192 }
 {
     match holder(machine, number) {
-        Some(place) => put_held(buffer, at, b"holder", place, machine.holds(place)),
+        Some((hart, place)) => {
+            let at = put(buffer, at, b"holder ");
+            let at = put_hart_place(buffer, at, machine.hart(), hart, place);
+            put_told(buffer, at, b"holder", machine.holds_in(hart, place))
+        }
         None => at,
     }
 }
@@ -121,12 +131,7 @@ fn put_freed_line(buffer: &mut [u8], at: usize, roots: u32, object: Object) -> u
     if !object.freed {
         return at;
     }
-    put_decimal_line(
-        buffer,
-        at,
-        b"freed",
-        2 + u64::from(roots) + u64::from(object.freed_at),
-    )
+    put_decimal_line(buffer, at, b"freed", object.freed_at.line(roots))
 }
 
 /// Writes an object: the line that lists it, the line that freed it, and the first place that holds it.

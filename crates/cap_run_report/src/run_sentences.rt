@@ -3,6 +3,7 @@
 ghost use Rattle.std.specs.Prelude.{◌≡◌, ◌+◌, ◌≤◌, ℕ, List, decimal, length, nat_lt};
 ghost use Rattle.cap_streams.specs.Written.{Writes};
 ghost use Rattle.cap_log.specs.Lines.{IsTarget};
+ghost use Rattle.cap_objects.specs.Moments.{line_at};
 ghost use Rattle.cap_word.specs.Fields.{address_of, otype_of};
 ghost use Rattle.cap_report.specs.Sentences.{number_text};
 ghost use Rattle.cap_bounds.specs.Bounds.{base_of, top_of};
@@ -18,9 +19,10 @@ use crate::object_parts::{holder, least_met};
 use crate::object_steps::asked_extent;
 use cap_bounds::bounds;
 use cap_log::buffers::{put, put_decimal};
-use cap_objects::Object;
+use cap_objects::{Moment, Object};
 use cap_report::sentences::put_number;
 use cap_run::RunMachine;
+use cap_run_judge::put_hart_place;
 use cap_run_log::RunPlace;
 use cap_word::{Cap, Word};
 use tagmem::TaggedStore;
@@ -37,12 +39,12 @@ fn put_count(buffer: &mut [u8], at: usize, number: u32) -> usize
 
 // Writes the number of the line of a step, in a log with so many roots.
 #[tactic(auto, using(cap_log::proofs::ElementLemmas::short_decimal))]
-fn put_step_line(buffer: &mut [u8], at: usize, roots: u32, step: u32) -> usize
+fn put_step_line(buffer: &mut [u8], at: usize, roots: u32, step: Moment) -> usize
     requires { at + 20 ≤ length buffer.old }
-    ensures written { Writes at (decimal (2 + roots + step)) buffer.old buffer.new result }
+    ensures written { Writes at (decimal (line_at roots step)) buffer.old buffer.new result }
     ensures fits { result ≤ at + 20 }
 {
-    put_decimal(buffer, at, 2 + u64::from(roots) + u64::from(step))
+    put_decimal(buffer, at, step.line(roots))
 }
 
 /// Writes the object type of a word.
@@ -307,9 +309,9 @@ fn put_holder_text<M: TaggedStore>(
     ensures fits { result ≤ at + 80 }
 {
     match holder(machine, object.number) {
-        Some(place) => {
+        Some((hart, place)) => {
             let at = put(buffer, at, b"; ");
-            let at = put_run_place(buffer, at, place);
+            let at = put_hart_place(buffer, at, machine.hart(), hart, place);
             let at = put(buffer, at, b" still holds it");
             put_others_text(buffer, at, object.held)
         }

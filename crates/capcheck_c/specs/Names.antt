@@ -33,6 +33,7 @@ run_kind_words =
     ∷ codes "free"
     ∷ codes "run"
     ∷ codes "root"
+    ∷ codes "hart"
     ∷ []
 
 abbrev pub kind_text : ℕ → List ℕ
@@ -72,6 +73,7 @@ run_kind_sentences =
     ∷ codes "Frees an object."
     ∷ codes "The first line of a run log: its version."
     ∷ codes "A capability that a special register holds at the start."
+    ∷ codes "Names the hart whose registers the lines after it name."
     ∷ []
 
 abbrev pub kind_sentence : ℕ → List ℕ

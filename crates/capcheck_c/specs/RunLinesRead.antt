@@ -58,6 +58,7 @@ IsRunLineRead lines.Version read = HasNumbers 71 0 0 0 1 no_cap read.line × Has
 IsRunLineRead (lines.Plain version) read = IsLineRead (usual.Version version) read.line × HasNoPlaces read
 IsRunLineRead (lines.Mode mode) read = IsLineRead (usual.Mode mode) read.line × HasNoPlaces read
 IsRunLineRead (lines.Root place word) read = IsRootRead place word read × HasPlaces (passed_place place) passed_nowhere no_cap read
+IsRunLineRead (lines.Hart hart) read = HasNumbers 73 0 0 0 hart no_cap read.line × HasNoPlaces read
 IsRunLineRead (lines.Step step) read = IsLineRead (usual.Step step) read.line × HasNoPlaces read
 IsRunLineRead (lines.Run step) read = IsRunStepRead step read
 IsRunLineRead (lines.End steps) read = IsLineRead (usual.End steps) read.line × HasNoPlaces read

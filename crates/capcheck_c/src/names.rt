@@ -105,6 +105,7 @@ fn run_kind_word(kind: u8) -> &'static str
         6 => "free",
         7 => "run",
         8 => "root",
+        9 => "hart",
         _ => "",
     }
 }
@@ -178,6 +179,7 @@ fn run_kind_sentence(kind: u8) -> &'static str
         6 => "Frees an object.",
         7 => "The first line of a run log: its version.",
         8 => "A capability that a special register holds at the start.",
+        9 => "Names the hart whose registers the lines after it name.",
         _ => "",
     }
 }

@@ -11,7 +11,7 @@ use crate::read_lines::line_read;
 use crate::values::{capability_line, number_line};
 use cap_halves::halves::{no_capability, to_c};
 use cap_halves::kinds::{
-    DERIVE, DROP, EXCHANGE, FILL, FREE, INVOKE, NO_LINE, OBJECT, ROOT_SPECIAL, RUN_VERSION,
+    DERIVE, DROP, EXCHANGE, FILL, FREE, HART, INVOKE, NO_LINE, OBJECT, ROOT_SPECIAL, RUN_VERSION,
 };
 use cap_halves::places::{nowhere, register_to_passed, to_passed};
 use cap_halves::values::{PassedLine, PassedRunLine};
@@ -45,6 +45,7 @@ fn run_line_read(line: RunLine, count: usize) -> PassedRunLine
         RunLine::Plain(version) => alone(line_read(Line::Version(version), count)),
         RunLine::Mode(mode) => alone(line_read(Line::Mode(mode), count)),
         RunLine::Root(place, word) => run_root_read(place, word, count),
+        RunLine::Hart(hart) => alone(number_line(HART, u64::from(hart), count)),
         RunLine::Step(step) => alone(line_read(Line::Step(step), count)),
         RunLine::Run(step) => run_step_read(step, count),
         RunLine::End(steps) => alone(line_read(Line::End(steps), count)),

@@ -45,6 +45,17 @@ pub extern "C" fn capcheck_line_root_special(
     write_run_line(&RunLine::Root(place, word_of(word)), buffer)
 }
 
+/// Writes a hart line into the buffer: the number of a hart, 0 to 65,535.
+#[unsafe(no_mangle)]
+pub extern "C" fn capcheck_line_hart(buffer: &mut [u8; 96], hart: u64) -> usize
+    ensures line { AnswersRunLine (line.Hart hart) buffer.old buffer.new result }
+{
+    if hart > 0xffff {
+        return 0;
+    }
+    write_run_line(&RunLine::Hart(hart as u16), buffer)
+}
+
 /// Writes the line of a step `derive` into the buffer: the target is a register 1 to 31 or a special register, the source
 /// a register 0 to 31 or a special register.
 #[unsafe(no_mangle)]

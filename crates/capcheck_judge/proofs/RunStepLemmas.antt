@@ -7,7 +7,7 @@ use Rattle.cap_run_judge.specs.{declared.verdict.RunVerdict.TheVariants.No, Read
 use Rattle.cap_run_judge.proofs.EndLemmas.{no_stands}
 use Rattle.cap_halves.specs.{PassedRuns.IsStepFrom, declared.values.PassedPlace.PassedPlace}
 use Rattle.cap_run_report.specs.ObjectParts.{HasNoHolder, IsFirstHolder}
-use Rattle.capcheck_judge.specs.RunPlaces.{IsHolderTold, holder_passed}
+use Rattle.capcheck_judge.specs.RunPlaces.{IsHolderHartTold, IsHolderTold, holder_hart_passed, holder_passed}
 use Rattle.capcheck_judge.specs.RunHandles.{HandsOverRun, HandsOverRunStep, HandsOverRunText, HeldRunJudge, HoldsRun, RunJudgeIn, stage_in}
 use Rattle.capcheck_judge.specs.{Holding.IsNoStep, RunTakings.TakesRunLine}
 use Rattle.capcheck_judge.proofs.HoldingLemmas.{any_state, few, no_line, none_taken, not_five, there, unheld}
@@ -95,7 +95,12 @@ no_run_step line_of None held after state from is same = (is, same)
 no_run_step line_of (Some step) held after state from is same = unhanded (line_of step) held after state (from step refl) is same
 
 -- the first place that an object owns, as C gets it
-pub holder_told : (run : Run) (number : ℕ) (found : Option RunPlace) (told : PassedPlace) → IfSome found (IsFirstHolder run number)
-    → IfSome found IsRunPlace → IfNone found (HasNoHolder run number) → told ≡ holder_passed found → IsHolderTold run number told
-holder_told run number (Some place) told first is none same = inl (place, is, first, same)
+pub holder_told : (run : Run) (number : ℕ) (found : Option (ℕ × RunPlace)) (told : PassedPlace) → IfSome found (IsFirstHolder run number)
+    → IfSome found (λ it. IsRunPlace it.1) → IfNone found (HasNoHolder run number) → told ≡ holder_passed found → IsHolderTold run number told
+holder_told run number (Some found) told first is none same = inl (found, is, first, same)
 holder_told run number None told first is none same = inr (none, same)
+
+pub holder_hart_told : (run : Run) (number : ℕ) (found : Option (ℕ × RunPlace)) (told : ℕ) → IfSome found (IsFirstHolder run number)
+    → IfNone found (HasNoHolder run number) → told ≡ holder_hart_passed found → IsHolderHartTold run number told
+holder_hart_told run number (Some found) told first none same = inl (found, first, same)
+holder_hart_told run number None told first none same = inr (none, same)

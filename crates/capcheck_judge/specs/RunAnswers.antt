@@ -1,6 +1,6 @@
 -- What a judge of run logs answers to C, in numbers (this profile's own, as are all below).
 use Rattle.std.specs.Prelude.{◌≡◌, ℕ, ◌+◌, if◌then◌else◌, Option, None, Some}
-use Rattle.cap_objects.specs.{declared.objects.Object.Object, Objects.top_of_extent}
+use Rattle.cap_objects.specs.{Moments.line_at, declared.objects.Object.Object, Objects.top_of_extent}
 use Rattle.cap_halves.specs.Passed.{is_set, whole_of}
 use Rattle.cap_run.specs.declared.asks.Asks.{Asks}
 use Rattle.cap_run_judge.specs.{declared.verdict.RunVerdict.{RunVerdict, TheVariants.{Yes, No}}, VerdictLines.run_refusal_number}
@@ -26,6 +26,6 @@ run_numbers_of (No number why) =
 abbrev pub IsObjectTold : ℕ → Option Object → PassedObject → Type 0
 IsObjectTold roots (Some object) told =
     (told.base ≡ object.base) × (whole_of told.top ≡ top_of_extent object) × (told.held ≡ object.held)
-    × (told.line ≡ 2 + roots + object.handed_at) × (told.state ≡ (if object.freed then 2 else 1))
+    × (told.line ≡ line_at roots object.handed_at) × (told.state ≡ (if object.freed then 2 else 1))
 IsObjectTold roots None told =
     (told.base ≡ 0) × (whole_of told.top ≡ 0) × (told.held ≡ 0) × (told.line ≡ 0) × (told.state ≡ 0)

@@ -3,7 +3,7 @@ use Rattle.std.specs.Prelude.{◌≡◌, ◌⊎◌, ℕ, ◌≤◌, ◌<◌, ◌
 use Rattle.cap_run_log.specs.declared.lines.RunPlace.{RunPlace, TheVariants.{General, Granule, Special}}
 use Rattle.cap_run_log.specs.RunLines.{IsRunPlace}
 use Rattle.cap_objects.specs.declared.objects.Object.{Object}
-use Rattle.cap_run.specs.Run.{Run}
+use Rattle.cap_run.specs.{HartPlaces.{place_in, place_numbered}, Harts.most_harts, Run.Run}
 use Rattle.cap_run_report.specs.ObjectParts.{HasNoHolder, IsFirstHolder}
 use Rattle.cap_halves.specs.{PassedRuns.{passed_nowhere, passed_place}, declared.values.PassedPlace.PassedPlace}
 
@@ -21,15 +21,36 @@ IsOwnerTold (Some number) told = told ≡ number
 IsOwnerTold None told = told ≡ 0
 
 -- the first place that an object owns, in numbers
-abbrev pub holder_passed : Option RunPlace → PassedPlace
-holder_passed (Some place) = passed_place place
+abbrev pub holder_passed : Option (ℕ × RunPlace) → PassedPlace
+holder_passed (Some found) = passed_place found.1
 holder_passed None = passed_nowhere
+
+-- the hart that has it: 0 for a granule, and where the object owns none
+abbrev pub hart_having : ℕ → RunPlace → ℕ
+hart_having hart (Granule number) = 0
+hart_having hart place = hart
+
+abbrev pub holder_hart_passed : Option (ℕ × RunPlace) → ℕ
+holder_hart_passed (Some found) = hart_having found.0 found.1
+holder_hart_passed None = 0
 
 -- the first place that the object of a number owns; or none, where it owns none
 abbrev pub IsHolderTold : Run → ℕ → PassedPlace → Type 0
 IsHolderTold run number told =
-    ((place : RunPlace) × IsRunPlace place × IsFirstHolder run number place × (told ≡ passed_place place))
+    ((found : ℕ × RunPlace) × IsRunPlace found.1 × IsFirstHolder run number found × (told ≡ passed_place found.1))
     ⊎ (HasNoHolder run number × (told ≡ passed_nowhere))
+
+-- its hart
+abbrev pub IsHolderHartTold : Run → ℕ → ℕ → Type 0
+IsHolderHartTold run number told =
+    ((found : ℕ × RunPlace) × IsFirstHolder run number found × (told ≡ hart_having found.0 found.1))
+    ⊎ (HasNoHolder run number × (told ≡ 0))
+
+-- the least number, from one on, of a hart that was named, or 65536: no object owns a register of those before it
+abbrev pub IsHartTold : Run → ℕ → ℕ → Type 0
+IsHartTold run from told = (told ≤ most_harts) × (from ≤ most_harts → from ≤ told)
+    × ((other register : ℕ) → from ≤ other → other < told → register < 64
+    → run.owners (place_in run.harts other (place_numbered register)) ≡ None)
 
 -- the least number, from one on, of a present object; or 0, where there is none
 abbrev pub IsNextTold : Run → ℕ → ℕ → Type 0

@@ -113,7 +113,7 @@ pub(crate) fn told_object(roots: u32, object: Option<Object>) -> PassedObject
             base: object.base,
             top: halves_of(object.top()),
             held: object.held,
-            line: 2 + u64::from(roots) + u64::from(object.handed_at),
+            line: object.handed_at.line(roots),
             state: if object.freed { 2 } else { 1 },
         },
         None => PassedObject {

@@ -4,11 +4,11 @@ use Rattle.cap_context.specs.{Contexts.{last_writer, numbered}, Readings.entry_o
 use Rattle.cap_context.proofs.contexts.last_writer.Given as goal
 
 -- what is found so far, and then in the rest, is found in all lines
-abbrev pub invariant-loop-rest : goal.invariant-loop-rest
-invariant-loop-rest l =
-    (last_writer l.register l.line (option_map entry_of l.last) (numbered l.at (lines_of l.rest))
-    ≡ last_writer l.register l.line (option_map entry_of l.fn.found) (numbered l.from (lines_of l.bytes)))
+abbrev pub invariant-loop-hart : goal.invariant-loop-hart
+invariant-loop-hart l =
+    (last_writer (l.register, l.whose) l.line (l.hart, option_map entry_of l.last) (numbered l.at (lines_of l.rest))
+    ≡ last_writer (l.register, l.whose) l.line (l.before, option_map entry_of l.fn.found) (numbered l.from (lines_of l.bytes)))
     × (l.at + length l.rest ≤ l.from + length l.bytes)
 
-abbrev pub decreases-loop-rest : goal.decreases-loop-rest
-decreases-loop-rest l = length l.rest
+abbrev pub decreases-loop-hart : goal.decreases-loop-hart
+decreases-loop-hart l = length l.rest

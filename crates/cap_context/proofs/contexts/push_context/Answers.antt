@@ -1,4 +1,4 @@
-use Rattle.cap_context.specs.Writers.{slots_of}
+use Rattle.cap_context.specs.{Keepings.hart_kept, Writers.written}
 use Rattle.cap_context.proofs.KeptLemmas.{no_context, on_ok, with_context}
 use Rattle.cap_context.proofs.contexts.push_context.Goals as goal
 
@@ -16,6 +16,6 @@ returns c =
     let before = rw c.as_slice-2.ensures.value at c.in_ok-push_before.ensures.ok in
     record {
       ok = on_ok c.push_writers.result (λ wrote given kept.
-          with_context c.args.count c.in-Some.line held.skipped (slots_of held.writers.items) held.bytes.items given report
+          with_context c.args.count c.in-Some.line held.skipped (hart_kept held.hart) (written held.writers) held.bytes.items given report
           c.push_before.new.report.items c.push_writers.new.report.items line (kept yes.0) yes.1 before wrote) c.push_writers.ensures.ok;
     }

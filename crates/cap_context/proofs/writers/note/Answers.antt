@@ -10,7 +10,7 @@ returns-in_ok-set_register-2 c =
     let first = sym c.writes_first.ensures.value ∙ c.if-not-writes_first.false in
     record {
       ok = λ other is.
-          noted other c.args.text.now c.word_at.result.now c.word_at-then-is_word-2.result.now (c.args.number, c.args.text.now) _ _ _
+          noted other c.args.hart.now c.args.text.now c.word_at.result.now c.word_at-then-is_word-2.result.now (c.args.number, c.args.text.now) _ _ _
           c.word_at.ensures.value c.word_at-then-is_word-2.ensures.value invoke first exchange (c.in_ok-set_register.ensures.ok other is)
           (c.in_ok-set_register-2.ensures.ok other is);
     }

@@ -1,4 +1,5 @@
 use Rattle.std.proofs.Common.{◌+◌, arith, decimal}
+use Rattle.cap_objects.specs.Moments.{line_at}
 use Rattle.cap_log.proofs.ElementLemmas.{short_decimal}
 use Rattle.cap_streams.specs.Written.{Writes, ◌⨾◌}
 use Rattle.cap_run_judge.specs.OwnerLists.{object_line}
@@ -9,7 +10,7 @@ use Rattle.cap_run_judge.proofs.owners.object_text.Goals as goal
 wrote : (c : goal.After-put) → Writes 0 (object_line c.args.roots c.args.object) c.args.buffer.now c.put.new.buffer c.put.result
 wrote c =
     let number : Writes _ (decimal c.args.object.number) _ _ _ = rw c.from.ensures at c.put_decimal-at.ensures.text in
-    let line : Writes _ (decimal (2 + c.args.roots + c.args.object.handed_at)) _ _ _ = rw (c.from-2.ensures, c.from-3.ensures) at c.put_decimal-at-2.ensures.text in
+    let line : Writes _ (decimal (line_at c.args.roots c.args.object.handed_at)) _ _ _ = rw c.line.ensures.value at c.put_decimal-at-2.ensures.text in
     c.put-at.ensures.written ⨾ number ⨾ c.put-at-2.ensures.written ⨾ line ⨾ c.put-at-3.ensures.written
     ⨾ c.put_extent-at.ensures.text ⨾ c.put-at-4.ensures.written ⨾ c.put_life-at.ensures.text
     ⨾ c.put-at-5.ensures.written ⨾ c.put_decimal-at-3.ensures.text ⨾ c.put.ensures.written
@@ -31,12 +32,6 @@ put_decimal-at-requires-2 c = omega (arith, short_decimal)
 
 pub put_decimal-at-requires-3 : goal.put_decimal-at-requires-3
 put_decimal-at-requires-3 c = omega (arith, short_decimal)
-
-pub overflow_add-from : goal.overflow_add-from
-overflow_add-from c = omega arith
-
-pub overflow_add-from-2 : goal.overflow_add-from-2
-overflow_add-from-2 c = omega arith
 
 pub returns-clause-fits : goal.returns-clause-fits
 returns-clause-fits c = omega arith

@@ -6,10 +6,10 @@ use Rattle.cap_run_judge.proofs.TextLemmas.{front_ends, front_rest}
 use Rattle.cap_run_judge.proofs.owners.owner_text.Goals as goal
 
 -- the whole line
-wrote : (c : goal.After-put) → Writes 0 (owner_line c.args.place c.args.number) c.args.buffer.now c.put.new.buffer c.put.result
+wrote : (c : goal.After-put) → Writes 0 (owner_line c.args.hart c.args.place c.args.number) c.args.buffer.now c.put.new.buffer c.put.result
 wrote c =
     let number : Writes _ (decimal c.args.number) _ _ _ = rw c.from.ensures at c.put_decimal-at.ensures.text in
-    c.put-at.ensures.written ⨾ c.put_run_place-at.ensures.text ⨾ c.put-at-2.ensures.written ⨾ number ⨾ c.put.ensures.written
+    c.put-at.ensures.written ⨾ c.put_hart_place-at.ensures.text ⨾ c.put-at-2.ensures.written ⨾ number ⨾ c.put.ensures.written
 
 pub returns-clause-line : goal.returns-clause-line
 returns-clause-line c = (wrote c).written

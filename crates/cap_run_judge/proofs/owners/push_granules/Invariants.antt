@@ -7,7 +7,7 @@ use Rattle.cap_run.specs.Machines.{run_in}
 -- the lines of the granules below this one were pushed
 abbrev pub invariant-loop-granule : goal.invariant-loop-granule
 invariant-loop-granule g l = record {
-  taken : g.K.Sink.took l.fn.sink l.sink (lines_from (λ granule. place_line (run_in l.fn.machine) (Granule granule)) 0 l.from);
+  taken : g.K.Sink.took l.fn.sink l.sink (lines_from (λ granule. place_line (run_in l.fn.machine) 0 (Granule granule)) 0 l.from);
   counted : g.K.Sink.faults l.sink ≡ g.K.Sink.faults l.fn.sink;
   inside : l.from ≤ 2 ^ 60;
 }

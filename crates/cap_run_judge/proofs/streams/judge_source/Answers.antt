@@ -76,7 +76,7 @@ pieces-smaller g c =
     let ok = c.in-Ok.ensures.ok in
     let taken = c.in-Cut.ensures.taken in
     let some : length ok.0 ≢ 0 = λ none. c.in-Ok.field-0-test.1 (sym ok.1 ∙ none) in
-    closer run_turns (run_lawful c.args.judge.now.machine.asks) 8589934700 (stage_of c.pieces.judge) (stage_of c.take_pulled.new.judge) here.0 taken.0
+    closer run_turns (run_lawful c.args.judge.now.machine.asks) 12884902000 (stage_of c.pieces.judge) (stage_of c.take_pulled.new.judge) here.0 taken.0
     (items c.pieces.pulled) ok.0 (items c.take_pulled.new.pulled) here.2 taken.2.0 (sym ok.2 ∙ taken.1) c.pieces.invariant.cut taken.2.1 some
     (omega (arith, c.take_pulled.ensures.few))
 

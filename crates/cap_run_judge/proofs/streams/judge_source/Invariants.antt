@@ -14,4 +14,4 @@ invariant-pieces g l = record {
 
 -- the limits bound the lines, and each pull gives more of one
 abbrev pub decreases-pieces : goal.decreases-pieces
-decreases-pieces g l = 96 * (8589934700 - lines_read run_turns (stage_of l.judge)) + 96 - length (items l.pulled)
+decreases-pieces g l = 96 * (12884902000 - lines_read run_turns (stage_of l.judge)) + 96 - length (items l.pulled)

@@ -14,5 +14,5 @@ returns-in-Some-clause-holder c = λ asks bytes holds.
     let same : run_in c.machine.result.now ≡ run_behind holds =
     ap (λ m. run_in m) c.machine.ensures.held ∙ ap (λ (j : RunJudgeIn). (stage_of j).state.run) (one_held held asks bytes holds judge is) in
     subst (λ (r : Run). IsHolderTold r c.args.number c.told_holder.result) same
-    (holder_told (run_in c.machine.result.now) c.args.number c.holder-place.result c.told_holder.result c.holder-place.ensures.some
-    c.holder-place.ensures.place c.holder-place.ensures.none c.told_holder.ensures)
+    (holder_told (run_in c.machine.result.now) c.args.number c.holder-found.result c.told_holder.result c.holder-found.ensures.some
+    c.holder-found.ensures.place c.holder-found.ensures.none c.told_holder.ensures)

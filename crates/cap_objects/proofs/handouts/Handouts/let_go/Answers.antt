@@ -1,5 +1,4 @@
-use Rattle.std.specs.BTreeMap as tree
-use Rattle.std.proofs.Common.{nat_cmp}
+use Rattle.cap_objects.specs.IndexIn.{at}
 use Rattle.cap_objects.specs.HandoutsIn.{objects_of}
 use Rattle.cap_objects.specs.SlotsIn.{present_in}
 use Rattle.cap_objects.proofs.KeptLemmas.{kept-gone}
@@ -9,7 +8,7 @@ pub invariant_of-self : goal.invariant_of-self
 invariant_of-self c =
     let s = c.args.self.now in
     record {
-      kept = kept-gone s.keeps s.count (objects_of s) (tree.get nat_cmp s.numbers) (tree.get nat_cmp s.bases) s.kept c.args.slot c.get-object.result
-          c.get-object.ensures (present_in c.remove.new.self) (tree.get nat_cmp c.remove_keys.new.numbers) (tree.get nat_cmp c.remove_keys.new.bases)
+      kept = kept-gone s.keeps s.count (objects_of s) (at s.numbers) (at s.bases) s.kept c.args.slot c.get-object.result
+          c.get-object.ensures (present_in c.remove.new.self) (at c.remove_keys.new.numbers) (at c.remove_keys.new.bases)
           c.remove.ensures.set c.remove_keys.ensures.number c.remove_keys.ensures.base;
     }

@@ -12,7 +12,7 @@ use Rattle.cap_run.proofs.run_machine.RunMachine.access_refusal.Goals as goal
 pub is_forbidden-requires : goal.is_forbidden-requires
 is_forbidden-requires g c =
     let s = c.args.self.now in
-    let o = owner-there s.machine s.specials (objects_of s.objects) s.specials.sized.1 s.counted c.args.authority c.in-Some.slot
+    let o = owner-there s.machine s.specials (objects_of s.objects) s.specials.registers.sized.1 s.counted c.args.authority c.in-Some.slot
     (sym c.owner.ensures.owner ∙ c.in-Some.is) in
     to_is_some (objects_of s.objects c.in-Some.slot) o.0 o.1
 
@@ -20,7 +20,7 @@ pub returns-then-not-is_forbidden-clause-none : goal.returns-then-not-is_forbidd
 returns-then-not-is_forbidden-clause-none g c none =
     let s = c.args.self.now in
     let owner = sym c.owner.ensures.owner ∙ c.in-Some.is in
-    let o = owner-there s.machine s.specials (objects_of s.objects) s.specials.sized.1 s.counted c.args.authority c.in-Some.slot owner in
+    let o = owner-there s.machine s.specials (objects_of s.objects) s.specials.registers.sized.1 s.counted c.args.authority c.in-Some.slot owner in
     let access : Access = record {
       authority = c.args.authority;
       address = address_through (state_of s.machine) c.args.authority c.args.access.offset;
@@ -34,7 +34,7 @@ pub returns-in-Ok-clause-some : goal.returns-in-Ok-clause-some
 returns-in-Ok-clause-some g c =
     let s = c.args.self.now in
     let owner = sym c.owner.ensures.owner ∙ c.in-Some.is in
-    let o = owner-there s.machine s.specials (objects_of s.objects) s.specials.sized.1 s.counted c.args.authority c.in-Some.slot owner in
+    let o = owner-there s.machine s.specials (objects_of s.objects) s.specials.registers.sized.1 s.counted c.args.authority c.in-Some.slot owner in
     let access : Access = record {
       authority = c.args.authority;
       address = address_through (state_of s.machine) c.args.authority c.args.access.offset;

@@ -9,13 +9,13 @@ pub invariant_of-self : goal.invariant_of-self
 invariant_of-self g c =
     let s = c.args.self.now in
     let adds = c.in-Ok.ensures.ok in
-    let new = handed_out (s.objects.count + 1) c.steps-step.result c.args.base c.args.top in
+    let new = handed_out (s.objects.count + 1) c.moment-moment.result c.args.base c.args.top in
     let after = objects_of c.hand_out.new.self in
     record {
       counted = subst (λ (h : Held). CountsAre (run_owners h s.specials) (λ n. held_of (after n))) (sym c.count_step.ensures.held)
           (counts-added (run_owners s.machine s.specials) (objects_of s.objects) after c.in-Ok.slot _ adds.0 adds.1 refl s.counted);
       within = subst (λ (h : Held). AreWithin (run_state h s.specials) (run_owners h s.specials) after) (sym c.count_step.ensures.held)
-          (within-added s.machine s.specials (objects_of s.objects) s.specials.sized.1 s.counted c.in-Ok.slot _ after adds.0 adds.1 s.within);
+          (within-added s.machine s.specials (objects_of s.objects) s.specials.registers.sized.1 s.counted c.in-Ok.slot _ after adds.0 adds.1 s.within);
       few =
           let count = c.in-Ok.ensures.count in
           let steps = ap (λ (h : Held). h.steps) c.count_step.ensures.held in

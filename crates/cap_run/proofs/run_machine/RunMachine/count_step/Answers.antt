@@ -22,5 +22,5 @@ returns-clause-counts g c =
       state = ap (λ (h : Held). run_state h s.specials) c.count_step.ensures.held;
       owners = ap (λ (h : Held). run_owners h s.specials) c.count_step.ensures.held;
       objects = refl;
-      rest = stepped s.machine s.machine c.count_step.new.self s.specials s.specials s.objects s.objects (refl, refl, refl, refl, refl) c.count_step.ensures.held refl;
+      rest = stepped s.machine s.machine c.count_step.new.self s.specials s.specials s.objects s.objects (refl, refl, refl, refl, refl) c.count_step.ensures.held refl refl;
     }

@@ -8,6 +8,7 @@ use Rattle.cap_run.specs.{Numbers.numbered_run, RunChanges.root_after, RunChecks
 use Rattle.cap_run.specs.{Run.first_special, Specials.cap_in}
 use Rattle.cap_run.specs.declared.ends.RunRefusal.TheVariants.{Usual}
 use Rattle.cap_run.proofs.RootLemmas.{ended-account, same-counted, same-within, root-counted, root-within, special-after, special-end, special-owners, special-refused, special-state, special-unowned}
+use Rattle.cap_run.proofs.SwitchLemmas.{coded-near}
 use Rattle.cap_run.proofs.run_machine.RunMachine.declare_special.Goals as goal
 
 pub invariant_of-self : goal.invariant_of-self
@@ -17,9 +18,9 @@ invariant_of-self g c =
     let key = first_special + c.args.number in
     let counts = c.in-Ok.ensures.outcome in
     let none : (cap_in s.specials c.args.number).tag ≡ false = ap (λ (k : Cap). k.tag) (sym c.cap.ensures.value) ∙ c.if-cap.false in
-    let unowned = special-unowned s.machine s.specials c.args.number (s.specials.coded c.args.number) none in
-    let state = special-state s.machine mid s.specials c.put.new.self s.objects c.args.number c.args.word c.put.ensures.caps c.put.ensures.labels counts in
-    let owners = special-owners s.machine mid s.specials c.put.new.self s.objects c.args.number c.args.word c.put.ensures.caps c.put.ensures.labels counts in
+    let unowned = special-unowned s.machine s.specials c.args.number (let low = c.requires.number in coded-near s.specials c.args.number (omega (arith, low))) none in
+    let state = special-state s.machine mid s.specials c.put.new.self s.objects c.args.number c.args.word c.put.ensures.caps c.put.ensures.labels c.put.ensures.harts counts in
+    let owners = special-owners s.machine mid s.specials c.put.new.self s.objects c.args.number c.args.word c.put.ensures.caps c.put.ensures.labels c.put.ensures.harts counts in
     record {
       counted = root-counted s.machine mid s.specials c.put.new.self s.objects key c.args.word state unowned owners s.counted;
       within = root-within s.machine mid s.specials c.put.new.self s.objects key c.args.word state unowned owners s.within;
@@ -44,8 +45,8 @@ returns-in-Ok-clause-outcome g c =
     let counts = c.in-Ok.ensures.outcome in
     let none : (cap_in s.specials c.args.number).tag ≡ false = ap (λ (k : Cap). k.tag) (sym c.cap.ensures.value) ∙ c.if-cap.false in (
       special-end s.machine s.specials s.objects c.args.number c.args.word c.requires.first none ∙ ap (option_map Usual) counts.checks,
-      special-after s.machine c.count_root.new.machine s.specials c.put.new.self s.objects c.args.number c.args.word c.put.ensures.caps c.put.ensures.labels counts
-          (special-unowned s.machine s.specials c.args.number (s.specials.coded c.args.number) none),
+      special-after s.machine c.count_root.new.machine s.specials c.put.new.self s.objects c.args.number c.args.word c.put.ensures.caps c.put.ensures.labels c.put.ensures.harts counts
+          (special-unowned s.machine s.specials c.args.number (let low = c.requires.number in coded-near s.specials c.args.number (omega (arith, low))) none),
     )
 
 pub returns-in-Err-clause-outcome : goal.returns-in-Err-clause-outcome

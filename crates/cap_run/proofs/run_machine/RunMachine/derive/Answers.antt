@@ -15,7 +15,7 @@ returns-then-gets-clause-outcome g c =
     let writes = rw (c.register-target.ensures.register, c.register-source.ensures.register) at c.write_alone.ensures.writes in (
       neither (derived_refusal step.target (run_state s.machine s.specials key) step.result) (step_limit (numbered_run s.machine s.specials s.objects))
           (gets c.if-gets.true) (sym c.step_limit.ensures.value ∙ none_of c.step_limit.result c.if-is_none.ensures),
-      writes-numbered s.machine n.machine s.specials n.specials s.objects n.objects n.specials.sized.1 n.counted s.objects.kept.numbered n.objects.kept.numbered
+      writes-numbered s.machine n.machine s.specials n.specials s.objects n.objects n.specials.registers.sized.1 n.counted s.objects.kept.numbered n.objects.kept.numbered
           (register_key step.target) (run_owners s.machine s.specials key) step.result writes,
     )
 

@@ -17,6 +17,6 @@ returns-clause-outcome g c =
     let key = register_key c.args.source in (
       neither (derived_refusal c.args.target (run_state s.machine s.specials key) c.args.recorded) (step_limit (numbered_run s.machine s.specials s.objects))
           (sym c.refusal_of_derived.ensures.value ∙ c.in_default.is) (sym c.step_limit.ensures.value ∙ c.in_default-step_limit.is),
-      writes-numbered s.machine n.machine s.specials n.specials s.objects n.objects n.specials.sized.1 n.counted s.objects.kept.numbered n.objects.kept.numbered
+      writes-numbered s.machine n.machine s.specials n.specials s.objects n.objects n.specials.registers.sized.1 n.counted s.objects.kept.numbered n.objects.kept.numbered
           (register_key c.args.target) (run_owners s.machine s.specials key) c.args.recorded c.write.ensures.writes,
     )

@@ -11,7 +11,7 @@ returns-clause-outcome g c =
     let n = c.write.new.self in
     let key = register_key c.args.register in (
       sym c.step_limit.ensures.value ∙ c.in_default.is,
-      writes-numbered s.machine n.machine s.specials n.specials s.objects n.objects n.specials.sized.1 n.counted s.objects.kept.numbered n.objects.kept.numbered
+      writes-numbered s.machine n.machine s.specials n.specials s.objects n.objects n.specials.registers.sized.1 n.counted s.objects.kept.numbered n.objects.kept.numbered
           key None (untagged c.register.result) c.write.ensures.writes
           ∙ ap (λ (k : Cap). stepped (with_place (numbered_run s.machine s.specials s.objects) key (untagged k) None)) c.register.ensures.value,
     )

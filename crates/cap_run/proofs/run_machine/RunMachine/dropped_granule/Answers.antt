@@ -13,7 +13,7 @@ returns-then-not-cap-clause-outcome g c =
     let none : (run_state s.machine s.specials key).tag ≡ false =
     ap (λ (k : Cap). k.tag) (sym c.granule_cap-cap.ensures.value) ∙ not_true c.granule_cap-cap.result.tag c.if-not-cap.true in (
       sym c.step_limit.ensures.value ∙ c.in_default.is,
-      writes-numbered s.machine n.machine s.specials n.specials s.objects n.objects n.specials.sized.1 n.counted s.objects.kept.numbered n.objects.kept.numbered
+      writes-numbered s.machine n.machine s.specials n.specials s.objects n.objects n.specials.registers.sized.1 n.counted s.objects.kept.numbered n.objects.kept.numbered
           key None (untagged (run_state s.machine s.specials key))
           (counts-writes s.machine n.machine s.specials n.specials s.objects n.objects key none (c.granule_cap-cap.ensures.unowned (not_true c.granule_cap-cap.result.tag c.if-not-cap.true))
           c.count_step.ensures.counts),
@@ -26,7 +26,7 @@ returns-in-Ok-clause-outcome g c =
     let old = numbered_run s.machine s.specials s.objects in
     let key = granule_key c.args.granule in (
       sym c.step_limit.ensures.value ∙ c.in_default.is,
-      fills-numbered s.machine n.machine s.specials n.specials s.objects n.objects n.specials.sized.1 n.counted s.objects.kept.numbered n.objects.kept.numbered
+      fills-numbered s.machine n.machine s.specials n.specials s.objects n.objects n.specials.registers.sized.1 n.counted s.objects.kept.numbered n.objects.kept.numbered
           c.args.granule _ c.in-Ok.ensures.outcome.1
           ∙ ap (λ (r : Run). stepped (with_place r key (untagged c.granule_cap-cap.result) None)) (with_named-same old c.args.granule (c.granule_cap-cap.ensures.named (not_false c.granule_cap-cap.result.tag c.if-not-cap.false)))
           ∙ ap (λ (k : Cap). stepped (with_place old key (untagged k) None)) c.granule_cap-cap.ensures.value,

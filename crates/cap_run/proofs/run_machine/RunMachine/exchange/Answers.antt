@@ -21,7 +21,7 @@ returns-then-gets-2-clause-outcome g c =
     let writes = rw (c.number.ensures.number, c.number-2.ensures.number, c.number-3.ensures.number) at c.write_both_alone.ensures.writes in (
       neither (derived_refusal (General step.target) (state key) step.result) (or_later second limit)
           (gets c.if-gets.true) (neither second limit (gets_special c.if-gets-2.true) (sym c.step_limit.ensures.value ∙ none_of c.step_limit.result c.if-is_none.ensures)),
-      both-numbered s.machine n.machine s.specials n.specials s.objects n.objects n.specials.sized.1 n.counted s.objects.kept.numbered n.objects.kept.numbered
+      both-numbered s.machine n.machine s.specials n.specials s.objects n.objects n.specials.registers.sized.1 n.counted s.objects.kept.numbered n.objects.kept.numbered
           step.target key (owners key) (owners step.source) step.result step.special_result writes,
     )
 

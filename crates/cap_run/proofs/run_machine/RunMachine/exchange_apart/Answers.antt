@@ -20,7 +20,7 @@ returns-clause-outcome g c =
       neither (derived_refusal (General c.args.target) (state key) c.args.recorded) (or_later second limit)
           (sym value ∙ c.in_default.is)
           (neither second limit (sym second_value ∙ c.in_default-refusal_of_derived.is) (sym c.step_limit.ensures.value ∙ c.in_default-step_limit.is)),
-      both-numbered s.machine n.machine s.specials n.specials s.objects n.objects n.specials.sized.1 n.counted s.objects.kept.numbered n.objects.kept.numbered
+      both-numbered s.machine n.machine s.specials n.specials s.objects n.objects n.specials.registers.sized.1 n.counted s.objects.kept.numbered n.objects.kept.numbered
           c.args.target key (owners key) (owners c.args.source) c.args.recorded c.args.special_recorded writes,
     )
 

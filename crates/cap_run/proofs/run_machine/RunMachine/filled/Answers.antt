@@ -9,6 +9,6 @@ returns-in-Ok-clause-outcome g c =
     let s = c.args.self.now in
     let n = c.fill.new.self in (
       cond-false (passes_limit (numbered_run s.machine s.specials s.objects) (Some c.args.granule)) _ None c.in-Ok.ensures.outcome.0,
-      fills-numbered s.machine n.machine s.specials n.specials s.objects n.objects n.specials.sized.1 n.counted s.objects.kept.numbered n.objects.kept.numbered
+      fills-numbered s.machine n.machine s.specials n.specials s.objects n.objects n.specials.registers.sized.1 n.counted s.objects.kept.numbered n.objects.kept.numbered
           c.args.granule _ c.in-Ok.ensures.outcome.1,
     )

@@ -9,14 +9,14 @@ use Rattle.cap_run.proofs.run_machine.RunMachine.free_by_number.Goals as goal
 pub returns-in-Err-AlreadyFreed-clause-outcome : goal.returns-in-Err-AlreadyFreed-clause-outcome
 returns-in-Err-AlreadyFreed-clause-outcome g c =
     let s = c.args.self.now in
-    free-number-answers s.machine s.machine s.specials s.specials s.objects s.objects s.specials.sized.1 s.specials.sized.1 s.counted s.counted s.asks s.asked
+    free-number-answers s.machine s.machine s.specials s.specials s.objects s.objects s.specials.registers.sized.1 s.specials.registers.sized.1 s.counted s.counted s.asks s.asked
     c.args.number (Err (Refused AlreadyFreed)) tt tt
     (subst (HasNoLive s.objects.count (objects_of s.objects) c.args.number) c.in-Err-AlreadyFreed.field-0-is c.in-Err-AlreadyFreed.ensures.fault) refl
 
 pub returns-then-is_some-clause-outcome : goal.returns-then-is_some-clause-outcome
 returns-then-is_some-clause-outcome g c =
     let s = c.args.self.now in
-    free-number-answers s.machine s.machine s.specials s.specials s.objects s.objects s.specials.sized.1 s.specials.sized.1 s.counted s.counted s.asks s.asked
+    free-number-answers s.machine s.machine s.specials s.specials s.objects s.objects s.specials.registers.sized.1 s.specials.registers.sized.1 s.counted s.counted s.asks s.asked
     c.args.number (Err (Refused (Usual LimitPassed))) tt tt
     ((c.in-Ok.slot, c.in-Ok.ensures.ok), limit-some (run_of s.machine s.specials s.objects) (sym (ap is_some c.step_limit.ensures.value) ∙ sym c.if-is_some.ensures)) refl
 
@@ -24,6 +24,6 @@ pub returns-else-is_some-clause-outcome : goal.returns-else-is_some-clause-outco
 returns-else-is_some-clause-outcome g c =
     let s = c.args.self.now in
     let n = c.free_slot.new.self in
-    free-number-answers s.machine n.machine s.specials n.specials s.objects n.objects s.specials.sized.1 n.specials.sized.1 s.counted n.counted s.asks s.asked
+    free-number-answers s.machine n.machine s.specials n.specials s.objects n.objects s.specials.registers.sized.1 n.specials.registers.sized.1 s.counted n.counted s.asks s.asked
     c.args.number (Ok (tt {0})) (c.in-Ok.slot, c.in-Ok.ensures.ok, c.free_slot.ensures.frees)
     (sym c.step_limit.ensures.value ∙ none_of c.step_limit.result (sym c.if-is_some.ensures)) tt tt

@@ -18,7 +18,7 @@ returns-clause-outcome g c =
       neither (invoked_refusal (state step.code) (state step.datum) step.code_word step.datum_word)
           (step_limit (numbered_run s.machine s.specials s.objects)) (sym value ∙ c.in_default.is)
           (sym c.step_limit.ensures.value ∙ c.in_default-step_limit.is),
-      both-numbered s.machine n.machine s.specials n.specials s.objects n.objects n.specials.sized.1 n.counted s.objects.kept.numbered n.objects.kept.numbered
+      both-numbered s.machine n.machine s.specials n.specials s.objects n.objects n.specials.registers.sized.1 n.counted s.objects.kept.numbered n.objects.kept.numbered
           first_special 31 (owners step.code) (owners step.datum) (tagged step.code_word) (tagged step.datum_word) writes,
     )
 

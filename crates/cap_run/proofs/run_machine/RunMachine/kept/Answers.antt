@@ -8,6 +8,6 @@ returns g c =
     let s = c.args.self.now in
     record {
       safe = subst (λ (held : Bool). IsSafe held (numbered_run s.machine s.specials s.objects)) s.asked
-          (safe-numbered s.machine s.specials s.objects s.specials.sized.1 s.counted s.objects.kept.numbered s.objects.keeps
-          (safe-kept s.machine s.specials s.objects s.specials.sized.1 s.counted s.within c.kept.ensures.kept));
+          (safe-numbered s.machine s.specials s.objects s.specials.registers.sized.1 s.counted s.objects.kept.numbered s.objects.keeps
+          (safe-kept s.machine s.specials s.objects s.specials.registers.sized.1 s.counted s.within c.kept.ensures.kept));
     }

@@ -9,7 +9,7 @@ use Rattle.cap_run.proofs.run_machine.RunMachine.make_alone.Goals as goal
 pub invariant_of-self : goal.invariant_of-self
 invariant_of-self g c =
     let s = c.args.self.now in
-    let kept = kept-alone s.machine c.perform.new.machine s.specials s.objects (g.I.Operands.step c.args.kind) s.specials.sized.1 s.counted c.kept.ensures.stored c.requires.none
+    let kept = kept-alone s.machine c.perform.new.machine s.specials s.objects (g.I.Operands.step c.args.kind) s.specials.registers.sized.1 s.counted c.kept.ensures.stored c.requires.none
     c.perform.result c.perform.ensures.outcome s.within in
     record {
       counted = kept.0;
@@ -23,11 +23,11 @@ returns-in-Ok-clause-outcome g c =
     let s = c.args.self.now in
     let m = c.perform.new.machine in
     let step = g.I.Operands.step c.args.kind in
-    let makes = makes-alone s.machine m s.specials s.objects step s.specials.sized.1 s.counted c.kept.ensures.stored c.requires.none c.in-Ok.ensures.outcome in
-    let kept = kept-alone s.machine m s.specials s.objects step s.specials.sized.1 s.counted c.kept.ensures.stored c.requires.none (Ok (tt {0})) c.in-Ok.ensures.outcome s.within in (
-      asked-alike s.machine s.specials s.objects s.specials.sized.1 s.counted c.kept.ensures.stored c.requires.none step s.asks (asks_nothing s.asks)
+    let makes = makes-alone s.machine m s.specials s.objects step s.specials.registers.sized.1 s.counted c.kept.ensures.stored c.requires.none c.in-Ok.ensures.outcome in
+    let kept = kept-alone s.machine m s.specials s.objects step s.specials.registers.sized.1 s.counted c.kept.ensures.stored c.requires.none (Ok (tt {0})) c.in-Ok.ensures.outcome s.within in (
+      asked-alike s.machine s.specials s.objects s.specials.registers.sized.1 s.counted c.kept.ensures.stored c.requires.none step s.asks (asks_nothing s.asks)
           ∙ usual-end s.machine s.specials s.objects step s.asks c.kept.ensures.stored ∙ ap (option_map Usual) makes.checks,
-      usual-numbered s.machine m s.specials s.objects s.objects step c.requires.range c.kept.ensures.stored s.specials.sized.1 kept.0
+      usual-numbered s.machine m s.specials s.objects s.objects step c.requires.range c.kept.ensures.stored s.specials.registers.sized.1 kept.0
           s.objects.kept.numbered s.objects.kept.numbered (writes-low (state_of s.machine) step c.requires.range) refl makes,
     )
 
@@ -40,6 +40,6 @@ returns-in-Err-clause-outcome g c =
     let answers : Option RunRefusal → RunEnd → Type 0 = λ end e.
     Answers end (usual_after run step) (usual_wants run step) run (Err e) (numbered_run m s.specials s.objects) in
     subst (λ (end : Option RunRefusal). answers end c.usual_ended.result)
-    (sym (asked-alike s.machine s.specials s.objects s.specials.sized.1 s.counted c.kept.ensures.stored c.requires.none step s.asks (asks_nothing s.asks)))
+    (sym (asked-alike s.machine s.specials s.objects s.specials.registers.sized.1 s.counted c.kept.ensures.stored c.requires.none step s.asks (asks_nothing s.asks)))
     (subst (answers (usual_end (asks_nothing s.asks) run step)) (sym c.usual_ended.ensures)
     (usual-refused s.machine m s.specials s.objects step s.asks c.in-Err.end c.kept.ensures.stored c.in-Err.ensures.outcome))

@@ -17,7 +17,7 @@ returns-in-Ok-clause-outcome g c =
     let low = writes-low (state_of s.machine) step c.requires.range in (
       usual-end s.machine s.specials s.objects step s.asks c.kept.ensures.stored ∙ ap (option_map Usual) makes.checks,
       subst (λ (x : Specials). numbered_run n.machine x n.objects ≡ usual_after (numbered_run s.machine s.specials s.objects) step) (sym c.in-Ok.ensures.specials)
-          (usual-numbered s.machine n.machine s.specials s.objects n.objects step c.requires.range c.kept.ensures.stored s.specials.sized.1
+          (usual-numbered s.machine n.machine s.specials s.objects n.objects step c.requires.range c.kept.ensures.stored s.specials.registers.sized.1
           (subst (λ (x : Specials). CountsAre (run_owners n.machine x) (λ slot. held_of (objects_of n.objects slot))) c.in-Ok.ensures.specials n.counted)
           s.objects.kept.numbered n.objects.kept.numbered low c.in-Ok.ensures.count makes),
     )

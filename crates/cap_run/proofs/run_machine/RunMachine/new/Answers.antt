@@ -20,7 +20,7 @@ returns-clause-run g c =
     (fun_ext (λ key. ap (option_and_then (number_at (objects_of c.new-2.result))) (none key)))
     (fun_ext (λ n. nowhere (objects_of c.new-2.result) c.new-2.ensures.empty (index_in c.new-2.result n)))
     c.new-2.ensures.count (ap (λ (a : Account). a.rules) account) (ap (λ (a : Account). a.limits) account) (ap (λ (a : Account). a.roots) account) (ap (λ (a : Account). a.steps) account)
-    (ap (λ (a : Account). a.is_named) account) (ap (λ (a : Account). a.granules) account)
+    (ap (λ (a : Account). a.is_named) account) (ap (λ (a : Account). a.granules) account) c.new.ensures.harts
 
 pub invariant_of-result : goal.invariant_of-result
 invariant_of-result g c =

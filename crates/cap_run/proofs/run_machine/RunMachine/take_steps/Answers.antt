@@ -7,7 +7,7 @@ invariant_of-self g c =
     let s = c.args.self.now in
     let alone = c.count.ensures.value in
     let none = c.if-count-ne0.false in
-    let kept = kept-after s.machine c.take_steps.new.machine s.specials s.objects s.asks s.specials.sized.1 s.counted c.kept.ensures.stored (sym alone ∙ none)
+    let kept = kept-after s.machine c.take_steps.new.machine s.specials s.objects s.asks s.specials.registers.sized.1 s.counted c.kept.ensures.stored (sym alone ∙ none)
     c.take_steps.ensures.taken.0 c.take_steps.ensures.taken.2 in
     record {
       counted = kept.0;
@@ -22,6 +22,6 @@ returns-clause-taken g c =
     let taken = c.take_steps.ensures.taken in (
       taken.0,
       taken.1,
-      makes-usual s.machine c.take_steps.new.machine s.specials s.objects s.asks s.specials.sized.1 s.counted c.kept.ensures.stored
+      makes-usual s.machine c.take_steps.new.machine s.specials s.objects s.asks s.specials.registers.sized.1 s.counted c.kept.ensures.stored
           (sym c.count.ensures.value ∙ c.if-count-ne0.false) taken.0 taken.2,
     )

@@ -107,7 +107,7 @@ returns-then-bounds-from-clause-ok g c =
     λ o there. (widened-grows o c.bounds-bounds.result.base c.bounds-bounds.result.top).2 in
     widens-long s.machine c.widen_object.new.self.machine s.specials c.widen_object.new.self.specials c.in-Ok.ensures.held c.in-Ok.ensures.specials s.objects c.widen_object.new.self.objects
     c.args.register c.args.slot c.bounds-bounds.result.base c.bounds-bounds.result.top base top c.in-Ok.ensures.ok c.in-Ok.ensures.same.0
-    c.give.new.self.machine c.give.new.self.specials c.give.new.self.objects c.give.ensures.rest c.give.ensures.same.0 capable.0
+    c.give.new.self.machine c.give.new.self.specials c.give.new.self.objects c.give.ensures.rest c.give.ensures.same.0 c.give.ensures.harts capable.0
     (omega (arith, c.if-bounds-from.true)) c.give.ensures.objects grows c.give.ensures.state c.give.ensures.owners
 
 pub returns-else-bounds-from-clause-ok : goal.returns-else-bounds-from-clause-ok

@@ -75,5 +75,5 @@ returns-clause-writes g c =
           ∙ ap (λ (o : Option ℕ). at_key owners key o other) label_is;
       objects = c.recount_labels.ensures.rest;
       rest = stepped s.machine mid c.count_step.new.self s.specials specials s.objects c.recount_labels.new.objects c.put_at.ensures.rest held
-          c.recount_labels.ensures.same.0;
+          c.recount_labels.ensures.same.0 c.put_at.ensures.harts;
     }

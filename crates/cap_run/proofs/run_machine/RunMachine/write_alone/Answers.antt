@@ -10,13 +10,13 @@ invariant_of-self g c =
     let s = c.args.self.now in
     let key = register_key c.args.target in
     let specials = c.put_at.new.specials in
-    let before = unowned s.machine s.specials s.objects s.specials.sized.1 s.counted c.requires.alone in
+    let before = unowned s.machine s.specials s.objects s.specials.registers.sized.1 s.counted c.requires.alone in
     let none : (other : ℕ) → run_owners c.count_step.new.self specials other ≡ None = λ other.
     ap (λ (h : Held). run_owners h specials other) c.count_step.ensures.held ∙ c.put_at.ensures.owners other
     ∙ at_none (run_owners s.machine s.specials) key _ before c.unowned_label.ensures.owner other in
     record {
-      counted = counted-alone s.machine c.count_step.new.self s.specials specials s.objects s.specials.sized.1 s.counted c.requires.alone none;
-      within = within-alone s.machine c.count_step.new.self s.specials specials s.objects s.specials.sized.1 s.counted c.requires.alone none;
+      counted = counted-alone s.machine c.count_step.new.self s.specials specials s.objects s.specials.registers.sized.1 s.counted c.requires.alone none;
+      within = within-alone s.machine c.count_step.new.self s.specials specials s.objects s.specials.registers.sized.1 s.counted c.requires.alone none;
       few =
           let steps = ap (λ (h : Held). h.steps) c.count_step.ensures.held in
           let same = c.put_at.ensures.rest.3 in
@@ -33,12 +33,12 @@ returns-clause-writes g c =
     let specials = c.put_at.new.specials in
     let held = c.count_step.ensures.held in
     let owners = run_owners s.machine s.specials in
-    let before = unowned s.machine s.specials s.objects s.specials.sized.1 s.counted c.requires.alone in
+    let before = unowned s.machine s.specials s.objects s.specials.registers.sized.1 s.counted c.requires.alone in
     record {
       state = ap (λ (h : Held). run_state h specials) held ∙ c.put_at.ensures.state;
       owners = λ other. ap (λ (h : Held). run_owners h specials other) held ∙ c.put_at.ensures.owners other
           ∙ at_none owners key _ before c.unowned_label.ensures.owner other
           ∙ sym (at_none owners key _ before (none-for c.args.cap (owners from) (before from)) other);
       objects = recounted-same s.objects;
-      rest = stepped s.machine mid c.count_step.new.self s.specials specials s.objects s.objects c.put_at.ensures.rest held refl;
+      rest = stepped s.machine mid c.count_step.new.self s.specials specials s.objects s.objects c.put_at.ensures.rest held refl c.put_at.ensures.harts;
     }

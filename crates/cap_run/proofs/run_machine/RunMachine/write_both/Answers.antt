@@ -3,8 +3,11 @@ use Rattle.cap_machine.specs.{Helds.Held, Places.place_at, States.{State, put}}
 use Rattle.cap_objects.specs.{Counts.{CountsAre, at_key}, Handed.held_of, HandoutsIn.objects_of}
 use Rattle.cap_objects.proofs.BelowLemmas.{counts_few, counts_where}
 use Rattle.cap_run.specs.{Owned.{AreWithin, object_by, owner_for}, Run.register_key, RunOf.{run_owners, run_state}}
-use Rattle.cap_run.proofs.OwnerLemmas.{both-few, came-both, counts-both, owner_for-some, owners-both, source-low, stepped, target-low, unstepped-twice, within-came}
+use Rattle.cap_run.proofs.OwnerLemmas.{both-few, came-both, counts-both, owner_for-some, owners-both, readable, source-low, stepped, target-low, unstepped-twice, within-came}
 use Rattle.cap_run.proofs.run_machine.RunMachine.write_both.Goals as goal
+
+pub owner-second_from-requires : goal.owner-second_from-requires
+owner-second_from-requires g c = readable c.args.second c.requires.targets.1
 
 pub recount_both-requires-clause-from : goal.recount_both-requires-clause-from
 recount_both-requires-clause-from g c =
@@ -103,5 +106,6 @@ returns-clause-writes g c =
           c.put_at.ensures.owners c.put_at-2.ensures.owners other;
       objects = c.recount_both.ensures.rest;
       rest = stepped s.machine mid c.count_step.new.self s.specials specials s.objects c.recount_both.new.objects
-          (unstepped-twice s.machine c.put_at.new.machine mid c.put_at.ensures.rest c.put_at-2.ensures.rest) held c.recount_both.ensures.same.0;
+          (unstepped-twice s.machine c.put_at.new.machine mid c.put_at.ensures.rest c.put_at-2.ensures.rest) held c.recount_both.ensures.same.0
+          (c.put_at-2.ensures.harts ∙ c.put_at.ensures.harts);
     }

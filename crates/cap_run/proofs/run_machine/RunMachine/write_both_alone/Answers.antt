@@ -13,15 +13,15 @@ invariant_of-self g c =
     let second = register_key c.args.second in
     let specials = c.put_at-2.new.specials in
     let owners = run_owners s.machine s.specials in
-    let before = unowned s.machine s.specials s.objects s.specials.sized.1 s.counted c.requires.alone in
+    let before = unowned s.machine s.specials s.objects s.specials.registers.sized.1 s.counted c.requires.alone in
     let between : (other : ℕ) → run_owners c.put_at.new.machine c.put_at.new.specials other ≡ None = λ other.
     c.put_at.ensures.owners other ∙ at_none owners first _ before c.unowned_label.ensures.owner other in
     let none : (other : ℕ) → run_owners c.count_step.new.self specials other ≡ None = λ other.
     ap (λ (h : Held). run_owners h specials other) c.count_step.ensures.held ∙ c.put_at-2.ensures.owners other
     ∙ at_none (run_owners c.put_at.new.machine c.put_at.new.specials) second _ between c.unowned_label-2.ensures.owner other in
     record {
-      counted = counted-alone s.machine c.count_step.new.self s.specials specials s.objects s.specials.sized.1 s.counted c.requires.alone none;
-      within = within-alone s.machine c.count_step.new.self s.specials specials s.objects s.specials.sized.1 s.counted c.requires.alone none;
+      counted = counted-alone s.machine c.count_step.new.self s.specials specials s.objects s.specials.registers.sized.1 s.counted c.requires.alone none;
+      within = within-alone s.machine c.count_step.new.self s.specials specials s.objects s.specials.registers.sized.1 s.counted c.requires.alone none;
       few =
           let steps = ap (λ (h : Held). h.steps) c.count_step.ensures.held in
           let same = c.put_at.ensures.rest.3 in
@@ -39,7 +39,7 @@ returns-clause-writes g c =
     let specials = c.put_at-2.new.specials in
     let held = c.count_step.ensures.held in
     let owners = run_owners s.machine s.specials in
-    let before = unowned s.machine s.specials s.objects s.specials.sized.1 s.counted c.requires.alone in
+    let before = unowned s.machine s.specials s.objects s.specials.registers.sized.1 s.counted c.requires.alone in
     let between : (other : ℕ) → run_owners c.put_at.new.machine c.put_at.new.specials other ≡ None = λ other.
     c.put_at.ensures.owners other ∙ at_none owners first _ before c.unowned_label.ensures.owner other in
     let first_from = register_key c.args._first_source in
@@ -55,5 +55,6 @@ returns-clause-writes g c =
           (none-for c.args.second_cap (owners second_from) (before second_from)) other);
       objects = recounted-same s.objects;
       rest = stepped s.machine mid c.count_step.new.self s.specials specials s.objects s.objects
-          (unstepped-twice s.machine c.put_at.new.machine mid c.put_at.ensures.rest c.put_at-2.ensures.rest) held refl;
+          (unstepped-twice s.machine c.put_at.new.machine mid c.put_at.ensures.rest c.put_at-2.ensures.rest) held refl
+          (c.put_at-2.ensures.harts ∙ c.put_at.ensures.harts);
     }

@@ -12,6 +12,12 @@ returns-in-Root g c =
     (body_answers c.args.self.now.machine.asks (run_in c.args.self.now.machine) (run_in c.declare.new.self) (RunLine.Root c.in-Root.place c.in-Root.word) c.declare.result refl
     c.declare.ensures.outcome)
 
+pub returns-in-Hart : goal.returns-in-Hart
+returns-in-Hart g c =
+    rw (c.requires.body, c.in-Hart.is, c.switch.ensures.asks)
+    (body_answers c.args.self.now.machine.asks (run_in c.args.self.now.machine) (run_in c.switch.new.self) (RunLine.Hart c.in-Hart.hart) c.switch.result refl
+    c.switch.ensures.outcome)
+
 pub returns-in-Step : goal.returns-in-Step
 returns-in-Step g c =
     rw (c.requires.body, c.in-Step.is, c.make_usual.ensures.asks)
